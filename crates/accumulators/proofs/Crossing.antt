@@ -7,16 +7,16 @@ use denote.Struct.Field.{usize-field, shr_ref_field}
 use denote.Param.Send.{IsSync, sendable, shr_sync}
 use denote.Param.SendFields.{as_row_sync, declared_sync}
 use Rattle.std.proofs.Crossing as owners
-use Rattle.accumulators.specs.contracts.computed.Computed as Computed
+use Rattle.accumulators.specs.contracts.computed.ComputedJob as ComputedJob
 use Rattle.accumulators.specs.contracts.totals.Accumulation as Accumulation
 use Rattle.domains.specs.contracts.grid.Grid as Grid
 use Rattle.grouping.specs.contracts.schedule.Schedule as Schedule
 use Rattle.job.specs.contracts.job.Job as Job
 use Rattle.job.specs.contracts.stage.Accumulator as Accumulator
-use Rattle.tile_run.specs.contracts.stored.Stored as Stored
+use Rattle.tile_run.specs.contracts.stored.StoredTiles as StoredTiles
 use Rattle.tile_run.proofs.Crossing.{job_sync, schedule_sync, accumulator_sync}
 
-stored_sync : IsSync Stored.the_row
+stored_sync : IsSync StoredTiles.the_row
 stored_sync = search (sendable, owners.crosses) depth 40
 
 grid_sync : IsSync Grid.the_row
@@ -27,10 +27,10 @@ module _ (a : NamedLft) (R : RattleType) (one : One R.mir) (y : IsSync R) where
   reference_sync = as_row_sync (shr_ref_field a R one) (shr_sync a.mir a.lft R y)
 
 module _ (a : NamedLft) where
-  computed_sync : IsSync (Computed.the_row a)
-  computed_sync = declared_sync (Computed.the_type a) (
+  computed_sync : IsSync (ComputedJob.the_row a)
+  computed_sync = declared_sync (ComputedJob.the_type a) (
     reference_sync a Job.the_row tt job_sync,
-    (reference_sync a Schedule.the_row tt schedule_sync, (reference_sync a Stored.the_row tt stored_sync, tt)),
+    (reference_sync a Schedule.the_row tt schedule_sync, (reference_sync a StoredTiles.the_row tt stored_sync, tt)),
   )
 
   pub accumulation_sync : IsSync (Accumulation.the_row a)

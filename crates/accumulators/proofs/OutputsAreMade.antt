@@ -17,8 +17,8 @@ use Rattle.tile_sources.specs.KnownTiles.{KnownTiles, AreTrue}
 use Rattle.tile_run.specs.StageRuns.{FitsAt, GivesNeedsOf, IsStageReady}
 use Rattle.tile_run.specs.Uses.{last_of, is_used, body_turn, reads_turn, HasLasts, GivesForAnswer}
 use Rattle.tile_run.specs.Work.{first_too_big, is_accumulator_at, is_stored_function}
-use Rattle.tile_run.specs.declared.turn.Turn.{Turn}
-use Rattle.tile_run.specs.declared.turn.Turn.TheVariants.{Never, Rank, Answer}
+use Rattle.tile_run.specs.declared.phase.Phase.{Phase}
+use Rattle.tile_run.specs.declared.phase.Phase.TheVariants.{Never, Rank, Answer}
 use Rattle.tile_run.proofs.FirstTooBig.{stored_fit}
 use Rattle.tile_run.proofs.NeedsAreHeld.{needs_for_answer}
 use Rattle.pictures.specs.Pictures.{IsLentStage}
@@ -42,7 +42,7 @@ pub output_parted : (job : Pipeline) (inlining : List Bool) (g : ℕ) → (is : 
     → grid_at job g ≡ Some grid → grid ≡ grid_of job is.stage
 output_parted job inlining g is grid at = same_Some grid (grid_of job is.stage) (sym at ∙ output_grid job inlining g is)
 
-module _ (job : Pipeline) (inlining : List Bool) (lasts : List Turn) (given : KnownTiles) (good : IsJob job)
+module _ (job : Pipeline) (inlining : List Bool) (lasts : List Phase) (given : KnownTiles) (good : IsJob job)
     (has : HasLasts job inlining lasts) (held : GivesForAnswer job inlining lasts given) (g : ℕ) where
   -- ---- an output that is read is kept
 

@@ -7,7 +7,7 @@ use Rattle.job.specs.Pipeline.{Body, plane, function, accumulator, Pipeline}
 use Rattle.job.specs.Readers.{stage_fold, stage_bins}
 use Rattle.accumulators.specs.Answers.{Gathered}
 use Rattle.reductions.specs.Bins.{starts, joined_bins}
-use Rattle.accumulators.specs.declared.running.Gathering.{Gathering}
+use Rattle.accumulators.specs.declared.running.RunningTotal.{RunningTotal}
 
 -- the bins after these partials came in, in this order
 abbrev pub taken : Fold → Ends → List (List ℤ) → List ℤ
@@ -23,7 +23,7 @@ abbrev pub gathered_from : Pipeline → ℕ → List (List ℤ) → List Gathere
 gathered_from job g partials = option_map_or (λ s. body_gathered_from g partials s.body) (slice_get job.stages g) []
 
 -- these partials of accumulator g came in
-pub record HasTaken (job : Pipeline) (g : ℕ) (partials : List (List ℤ)) (x : Gathering) : Type 0 where
+pub record HasTaken (job : Pipeline) (g : ℕ) (partials : List (List ℤ)) (x : RunningTotal) : Type 0 where
   pub stage : x.stage ≡ g
   pub way : stage_fold (slice_get job.stages g) ≡ Some x.op
   pub span : stage_bins (slice_get job.stages g) ≡ Some x.span

@@ -11,15 +11,17 @@ ghost use Rattle.tile_run.specs.Stored.{stored_tiles, GivesAllTiles};
 ghost use Rattle.tile_run.specs.Work.{first_too_big, is_accumulator_at, is_stored_function, IsRunFault};
 ghost use Rattle.accumulators.specs.Answers.{IsAnswer, IsEvaluationFault};
 
-use crate::computed::Computed;
-use crate::outputs::Outputs;
+use crate::computed::ComputedJob;
+use crate::outputs::OutputRun;
 use grouping::Schedule;
 use job::Job;
 use netpbm::Picture;
-use pictures::image_of;
+use pictures::assemble_image;
 use std::alloc::Global;
 use std::thread::Threads;
-use tile_run::{RunFault, Stored, Uses, Work, first_too_big, run_kept};
+use tile_run::{
+    LastReads, RunFault, StageSelection, StoredTiles, find_first_oversized_tile, run_used_functions,
+};
 
 /// The totals of an accumulator: its stage, its first bin, and the values of its bins from there on.
 #[derive(Debug, Drop)]
@@ -43,12 +45,12 @@ pub struct Answer {
 ///
 /// Fails before anything is computed if a tile of an accumulator takes too much scratch memory. The fault names the first such
 /// tile by dependence order, row and column. Fails also where memory is refused.
-pub fn answer_of(
+pub fn assemble_answer(
     rt: &(impl Threads + Sync),
     alloc: Global,
     job: &Job,
     schedule: &Schedule,
-    stored: &Stored,
+    stored: &StoredTiles,
 ) -> Result<Answer, RunFault>
     requires schedule { IsScheduleOf (pipeline_in job.now) schedule.now }
     requires all { GivesAllTiles (pipeline_in job.now) schedule.now.inlining
@@ -61,16 +63,21 @@ pub fn answer_of(
     ensures fault { IfErr result (IsRunFault (program_id_in job.now) (pipeline_in job.now)
         schedule.now.inlining (is_accumulator_at (pipeline_in job.now))) }
 {
-    if let Some(key) = first_too_big(alloc, job, schedule, Work::Accumulators)? {
+    if let Some(key) = find_first_oversized_tile(
+        alloc,
+        job,
+        schedule,
+        StageSelection::Accumulators,
+    )? {
         return Err(RunFault::ScratchTooBig(key));
     }
-    let computed = Computed {
+    let computed = ComputedJob {
         job,
         schedule,
         stored,
     };
-    let picture = image_of(alloc, job, stored)?;
-    let totals = computed.totals(rt, alloc)?;
+    let picture = assemble_image(alloc, job, stored)?;
+    let totals = computed.compute_totals(rt, alloc)?;
     Ok(Answer { picture, totals })
 }
 
@@ -100,24 +107,29 @@ pub fn evaluate(
     ensures fault { IfErr result (IsEvaluationFault (program_id_in job.now) (pipeline_in job.now)
         schedule.now.inlining) }
 {
-    if let Some(key) = first_too_big(alloc, job, schedule, Work::Functions)? {
+    if let Some(key) = find_first_oversized_tile(alloc, job, schedule, StageSelection::Functions)? {
         return Err(RunFault::ScratchTooBig(key));
     }
-    if let Some(key) = first_too_big(alloc, job, schedule, Work::Accumulators)? {
+    if let Some(key) = find_first_oversized_tile(
+        alloc,
+        job,
+        schedule,
+        StageSelection::Accumulators,
+    )? {
         return Err(RunFault::ScratchTooBig(key));
     }
-    let uses = Uses::of(alloc, job, schedule)?;
-    let stored = run_kept(rt, alloc, job, schedule, &uses)?;
-    let computed = Computed {
+    let uses = LastReads::from_schedule(alloc, job, schedule)?;
+    let stored = run_used_functions(rt, alloc, job, schedule, &uses)?;
+    let computed = ComputedJob {
         job,
         schedule,
         stored: &stored,
     };
-    let outputs = Outputs {
+    let outputs = OutputRun {
         of: computed,
         uses: &uses,
     };
-    let picture = outputs.image(rt, alloc)?;
-    let totals = computed.totals(rt, alloc)?;
+    let picture = outputs.assemble_output(rt, alloc)?;
+    let totals = computed.compute_totals(rt, alloc)?;
     Ok(Answer { picture, totals })
 }

@@ -11,31 +11,31 @@ ghost use Rattle.accumulators.specs.Answers.{gathered};
 ghost use Rattle.accumulators.specs.Gatherings.{HasTaken, gathered_from};
 
 use crate::answer::Total;
-use crate::running::Gathering;
+use crate::running::RunningTotal;
 use domains::Span;
 use job::Job;
 use operators::Fold;
-use reductions::{join_into, starts};
+use reductions::{create_start_bins, join_into};
 use std::alloc::{AllocError, Global};
 
-impl Gathering {
+impl RunningTotal {
     /// Begins with the initial values of the bins.
-    pub(crate) fn begin(
+    pub(crate) fn new(
         alloc: Global,
         stage: usize,
         op: Fold,
         span: &Span,
-    ) -> Result<Gathering, AllocError>
+    ) -> Result<RunningTotal, AllocError>
         ensures stage { IfOk result (λ begun. begun.stage ≡ stage) }
         ensures op { IfOk result (λ begun. begun.op ≡ op) }
         ensures span { IfOk result (λ begun. begun.span ≡ span.now) }
         ensures bins { IfOk result (λ begun. begun.bins.items ≡ starts_by op span.now) }
     {
-        Ok(Gathering {
+        Ok(RunningTotal {
             stage,
             op,
             span: *span,
-            bins: starts(alloc, op, span)?,
+            bins: create_start_bins(alloc, op, span)?,
         })
     }
 
@@ -45,20 +45,24 @@ impl Gathering {
     /// # Errors
     ///
     /// Fails only where memory is refused.
-    pub fn of(alloc: Global, job: &Job, stage: usize) -> Result<Option<Gathering>, AllocError>
+    pub fn from_job(
+        alloc: Global,
+        job: &Job,
+        stage: usize,
+    ) -> Result<Option<RunningTotal>, AllocError>
         ensures some { IfOk result
             (λ found. IfSome found (HasTaken (pipeline_in job.now) stage [])) }
         ensures none { IfOk result
             (λ found. IfNone found (is_accumulator_at (pipeline_in job.now) stage ≡ false)) }
     {
         match (job.op(stage), job.bins(stage)) {
-            (Some(op), Some(span)) => Ok(Some(Gathering::begin(alloc, stage, op, &span)?)),
+            (Some(op), Some(span)) => Ok(Some(RunningTotal::new(alloc, stage, op, &span)?)),
             _ => Ok(None),
         }
     }
 
     /// Joins a partial to those that came in before. Allocates no memory.
-    pub fn take(&mut self, partial: &[i64])
+    pub fn join_partial(&mut self, partial: &[i64])
         requires { length partial.now ≡ len_of self.old.span }
         ensures stage { self.new.stage ≡ self.old.stage }
         ensures op { self.new.op ≡ self.old.op }

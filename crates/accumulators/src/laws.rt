@@ -32,7 +32,7 @@ pub fn true_tiles_give_the_image()
 {}
 
 /// The totals over the tiles of an accumulator, each joined once and in any order, are the accumulator's totals.
-pub fn taken_partials_give_totals()
+pub fn joined_partials_give_totals()
     ensures { (job : Pipeline) (g : ℕ) (s : Stage) (tiles : List (ℕ × ℕ)) → IsJob job
         → slice_get job.stages g ≡ Some s → IsPermutation (tiles_of (grid_of job s)) tiles
         → gathered_from job g

@@ -8,10 +8,12 @@ pub mod laws;
 mod outputs;
 mod running;
 mod totals;
-mod totals_room;
+mod totals_scratch;
 
-pub use answer::{Answer, Total, answer_of, evaluate};
+pub use answer::{Answer, Total, assemble_answer, evaluate};
 pub use partials::partial;
-pub use pictures::{KnownTiles, OpenPlane, Sheet, area_of_row, image_of, picture_with};
-pub use reductions::{accumulator_tile, join_into, partial_of, whole};
-pub use running::Gathering;
+pub use pictures::{
+    OpenPlane, Sheet, SuppliedJob, assemble_image, build_picture, compute_row_area,
+};
+pub use reductions::{compute_true_partial, find_accumulator_tile, join_into, whole};
+pub use running::RunningTotal;

@@ -13,28 +13,28 @@ ghost use Rattle.tile_run.specs.Stored.{stored_tiles};
 ghost use Rattle.tile_run.specs.Uses.{is_used};
 ghost use Rattle.accumulators.specs.inside.Planes.{IsKept, IsOutputStage};
 
-use crate::computed::Computed;
+use crate::computed::ComputedJob;
 use job::Output;
 use netpbm::{Picture, Plane};
-use pictures::{KnownTiles, Streamed, picture_with};
+use pictures::{StreamedOutput, SuppliedJob, build_picture};
 use std::alloc::{AllocError, Global};
 use std::thread::Threads;
-use tile_run::{StageRun, Uses};
+use tile_run::{LastReads, StageRun};
 
 /// A job whose output is made, and which of its stored functions are read.
 #[derive(Clone, Copy)]
-pub(crate) struct Outputs<'a> {
-    pub(crate) of: Computed<'a>,
-    pub(crate) uses: &'a Uses,
+pub(crate) struct OutputRun<'a> {
+    pub(crate) of: ComputedJob<'a>,
+    pub(crate) uses: &'a LastReads,
 }
 
-impl Outputs<'_> {
+impl OutputRun<'_> {
     /// The picture of a job that has an output.
     ///
     /// # Errors
     ///
     /// Fails only where memory is refused.
-    pub(crate) fn image(
+    pub(crate) fn assemble_output(
         &self,
         rt: &(impl Threads + Sync),
         alloc: Global,
@@ -46,13 +46,13 @@ impl Outputs<'_> {
         ensures image { IfOk result (λ picture. ForSome picture IsImage) }
     {
         match self.of.job.output() {
-            Some(output) => Ok(Some(self.picture(rt, alloc, output)?)),
+            Some(output) => Ok(Some(self.assemble_picture(rt, alloc, output)?)),
             None => Ok(None),
         }
     }
 
     // The output's functions as planes.
-    fn picture(
+    fn assemble_picture(
         &self,
         rt: &(impl Threads + Sync),
         alloc: Global,
@@ -67,12 +67,12 @@ impl Outputs<'_> {
             ≡ picture_of (pipeline_in self.now.of.job.now) (output_view output.now)) }
         ensures image { IfOk result IsImage }
     {
-        let planes = self.planes(rt, alloc, output.stages(), output.max() as u16)?;
-        Ok(picture_with(self.of.job, output, planes))
+        let planes = self.assemble_planes(rt, alloc, output.stages(), output.max() as u16)?;
+        Ok(build_picture(self.of.job, output, planes))
     }
 
     // The planes of functions of the output.
-    fn planes(
+    fn assemble_planes(
         &self,
         rt: &(impl Threads + Sync),
         alloc: Global,
@@ -88,13 +88,13 @@ impl Outputs<'_> {
     {
         let mut planes = Vec::with_capacity(alloc, stages.len())?;
         for stage in stages {
-            planes.push(self.plane(rt, alloc, *stage, max)?)?;
+            planes.push(self.assemble_plane(rt, alloc, *stage, max)?)?;
         }
         Ok(planes)
     }
 
     // The plane of one function: from its tiles if these are kept for their readers, else from the tiles as they are made.
-    fn plane(
+    fn assemble_plane(
         &self,
         rt: &(impl Threads + Sync),
         alloc: Global,
@@ -109,17 +109,17 @@ impl Outputs<'_> {
             (λ plane. plane ≡ made max (samples (pipeline_in self.now.of.job.now) max stage)) }
     {
         if !self.uses.is_used(stage) {
-            return self.streamed_plane(rt, alloc, stage, max);
+            return self.stream_plane(rt, alloc, stage, max);
         }
-        let known = KnownTiles {
+        let known = SuppliedJob {
             job: self.of.job,
             known: self.of.stored,
         };
-        known.plane(alloc, stage, max)
+        known.assemble_plane(alloc, stage, max)
     }
 
     // The plane of a function that nothing else reads.
-    fn streamed_plane(
+    fn stream_plane(
         &self,
         rt: &(impl Threads + Sync),
         alloc: Global,
@@ -145,6 +145,6 @@ impl Outputs<'_> {
             stage,
             grid,
         };
-        Streamed { run }.plane(rt, alloc, max)
+        StreamedOutput { run }.compute_plane(rt, alloc, max)
     }
 }

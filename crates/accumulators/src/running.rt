@@ -8,7 +8,7 @@ use operators::Fold;
 
 /// The bins of an accumulator, with all partials that came in so far.
 #[derive(Drop)]
-pub struct Gathering {
+pub struct RunningTotal {
     pub(crate) stage: usize,
     pub(crate) op: Fold,
     pub(crate) span: Span,

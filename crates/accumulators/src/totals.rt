@@ -12,18 +12,18 @@ ghost use Rattle.reductions.specs.GatherRooms.{IsAccumulatorOf};
 ghost use Rattle.accumulators.specs.inside.Making.{AreTotalsOfRow, IsComputed, IsTally, TotalsFit, totals_of_row, with_tile};
 
 use crate::answer::Total;
-use crate::computed::Computed;
-use crate::totals_room::TotalsRoom;
+use crate::computed::ComputedJob;
+use crate::totals_scratch::TotalsScratch;
 use domains::Grid;
 use job::{Accumulator, Body, Job};
 use overlap_tiles::{Layout, PlanFault};
-use partials::tile_onto;
-use pictures::is_for_one;
+use partials::accumulate_tile;
+use pictures::is_one_thread_enough;
 use rayon::prelude::*;
-use reductions::{join_each, starts};
+use reductions::{create_start_bins, join_all_bins};
 use std::alloc::{AllocError, Global};
 use std::thread::Threads;
-use tile_run::{TileJob, least_rows};
+use tile_run::{TileJob, estimate_rows_per_thread};
 
 // Least number of points per bin in a row of tiles at which the rows are split among threads.
 const POINTS_OF_BIN: u64 = 16;
@@ -31,16 +31,16 @@ const POINTS_OF_BIN: u64 = 16;
 /// An accumulator of a job, whose totals are computed.
 #[derive(Clone, Copy)]
 pub(crate) struct Accumulation<'a> {
-    of: Computed<'a>,
+    of: ComputedJob<'a>,
     stage: usize,
     accumulator: &'a Accumulator,
     grid: Grid,
 }
 
-impl Computed<'_> {
+impl ComputedJob<'_> {
     /// The totals of all accumulators, in the order of the stages, if each of their tiles fits into scratch memory.
     #[tactic(auto, using(tile_boxes::proofs::Lists::flat_map_range_more))]
-    pub(crate) fn totals(
+    pub(crate) fn compute_totals(
         &self,
         rt: &(impl Threads + Sync),
         alloc: Global,
@@ -50,7 +50,7 @@ impl Computed<'_> {
         ensures { IfOk result
             (λ all. map gathered all.items ≡ all_gathered (pipeline_in self.now.job.now)) }
     {
-        let mut room = TotalsRoom::new(alloc);
+        let mut room = TotalsScratch::new(alloc);
         let mut all = Vec::new(alloc);
         for stage in 0..self.job.stages().len() {
             self.push_total(&mut all, rt, alloc, &mut room, stage)?;
@@ -64,7 +64,7 @@ impl Computed<'_> {
         all: &mut Vec<Total>,
         rt: &(impl Threads + Sync),
         alloc: Global,
-        room: &mut TotalsRoom,
+        room: &mut TotalsScratch,
         stage: usize,
     ) -> Result<(), AllocError>
         requires computed { IsComputed self.now }
@@ -72,16 +72,16 @@ impl Computed<'_> {
         ensures { OnOk result (map gathered all.new.items
             ≡ map gathered all.old.items ++ gathered_at (pipeline_in self.now.job.now) stage) }
     {
-        let Some(tally) = self.tally(stage) else {
+        let Some(tally) = self.find_accumulation(stage) else {
             return Ok(());
         };
-        let total = tally.total(rt, alloc, room)?;
+        let total = tally.compute_total(rt, alloc, room)?;
         all.push(total)?;
         Ok(())
     }
 
     // The stage of this number, if it is an accumulator.
-    fn tally(&self, stage: usize) -> Option<Accumulation<'_>>
+    fn find_accumulation(&self, stage: usize) -> Option<Accumulation<'_>>
         requires computed { IsComputed self.now }
         requires fits { TotalsFit self.now }
         ensures stage { IfSome result (λ tally. tally.stage ≡ stage) }
@@ -90,7 +90,7 @@ impl Computed<'_> {
         ensures none { IfNone result (gathered_at (pipeline_in self.now.job.now) stage ≡ []) }
     {
         let grid = self.job.grid(stage)?;
-        let accumulator = accumulator_at(self.job, stage)?;
+        let accumulator = find_accumulator(self.job, stage)?;
         Some(Accumulation {
             of: *self,
             stage,
@@ -101,7 +101,7 @@ impl Computed<'_> {
 }
 
 // The accumulator of this number.
-fn accumulator_at(job: &Job, stage: usize) -> Option<&Accumulator>
+fn find_accumulator(job: &Job, stage: usize) -> Option<&Accumulator>
     ensures some { IfSome result
         (λ accumulator. IsAccumulatorOf (pipeline_in job.now) stage accumulator.now) }
     ensures none { IfNone result (gathered_at (pipeline_in job.now) stage ≡ []) }
@@ -114,19 +114,19 @@ fn accumulator_at(job: &Job, stage: usize) -> Option<&Accumulator>
 
 impl Accumulation<'_> {
     // Its totals over all tiles.
-    fn total(
+    fn compute_total(
         &self,
         rt: &(impl Threads + Sync),
         alloc: Global,
-        room: &mut TotalsRoom,
+        room: &mut TotalsScratch,
     ) -> Result<Total, AllocError>
         requires { IsTally self.now }
         ensures { IfOk result (λ total. gathered_at (pipeline_in self.now.of.job.now) self.now.stage
             ≡ gathered total ∷ []) }
     {
         let accumulator = self.accumulator;
-        let mut bins = starts(alloc, accumulator.fold(), accumulator.bins())?;
-        self.take_tiles(rt, alloc, room, &mut bins)?;
+        let mut bins = create_start_bins(alloc, accumulator.fold(), accumulator.bins())?;
+        self.accumulate_tiles(rt, alloc, room, &mut bins)?;
         Ok(Total {
             stage: self.stage,
             lo: accumulator.bins().lo(),
@@ -135,11 +135,11 @@ impl Accumulation<'_> {
     }
 
     // Joins to each bin the totals over all tiles.
-    fn take_tiles(
+    fn accumulate_tiles(
         &self,
         rt: &(impl Threads + Sync),
         alloc: Global,
-        room: &mut TotalsRoom,
+        room: &mut TotalsScratch,
         bins: &mut [i64],
     ) -> Result<(), AllocError>
         requires tally { IsTally self.now }
@@ -148,12 +148,12 @@ impl Accumulation<'_> {
             ≡ fold (with_tile (pipeline_in self.now.of.job.now) self.now.stage
             self.now.accumulator.now.fold self.now.grid) bins.old (tiles_of self.now.grid)) }
     {
-        let least = least_rows(self.of.job, self.of.schedule, self.stage);
-        if self.has_many_bins() || is_for_one(rt, self.grid.tile_rows(), least) {
-            return self.take_in_turn(alloc, room, bins);
+        let least = estimate_rows_per_thread(self.of.job, self.of.schedule, self.stage);
+        if self.has_many_bins() || is_one_thread_enough(rt, self.grid.tile_rows(), least) {
+            return self.accumulate_rows_in_turn(alloc, room, bins);
         }
-        let all = self.totals_of_rows(rt, alloc, least)?;
-        join_each(self.accumulator.fold(), bins, &all);
+        let all = self.compute_totals_by_row(rt, alloc, least)?;
+        join_all_bins(self.accumulator.fold(), bins, &all);
         Ok(())
     }
 
@@ -165,7 +165,7 @@ impl Accumulation<'_> {
     }
 
     // The totals over each row of tiles, by several threads. Each thread has at least a given number of rows.
-    fn totals_of_rows(
+    fn compute_totals_by_row(
         &self,
         rt: &(impl Threads + Sync),
         alloc: Global,
@@ -181,37 +181,37 @@ impl Accumulation<'_> {
             .into_par_iter()
             .with_min_len(least)
             .map_init(
-                || TotalsRoom::new(alloc),
-                |room: &mut TotalsRoom, row: u32| -> Result<Vec<i64>, AllocError>
+                || TotalsScratch::new(alloc),
+                |room: &mut TotalsScratch, row: u32| -> Result<Vec<i64>, AllocError>
                     requires { IsTally self.now × (row < tile_rows self.now.grid) }
                     ensures { IfOk result
                         (λ bins. AreTotalsOfRow self.entry.now row bins.items) }
-                { self.totals_of_row(alloc, room, row) },
+                { self.compute_row_totals(alloc, room, row) },
             )
             .collect::<Result<Vec<_>, AllocError>>(rt, alloc)?
     }
 
     // The totals over one row of tiles.
-    fn totals_of_row(
+    fn compute_row_totals(
         &self,
         alloc: Global,
-        room: &mut TotalsRoom,
+        room: &mut TotalsScratch,
         row: u32,
     ) -> Result<Vec<i64>, AllocError>
         requires tally { IsTally self.now }
         requires row { row < tile_rows self.now.grid }
         ensures { IfOk result (λ bins. AreTotalsOfRow self.now row bins.items) }
     {
-        let mut bins = starts(alloc, self.accumulator.fold(), self.accumulator.bins())?;
-        self.take_row(alloc, room, row, &mut bins)?;
+        let mut bins = create_start_bins(alloc, self.accumulator.fold(), self.accumulator.bins())?;
+        self.accumulate_tile_row(alloc, room, row, &mut bins)?;
         Ok(bins)
     }
 
     // Joins to each bin the totals over all tiles, row by row.
-    fn take_in_turn(
+    fn accumulate_rows_in_turn(
         &self,
         alloc: Global,
-        room: &mut TotalsRoom,
+        room: &mut TotalsScratch,
         bins: &mut [i64],
     ) -> Result<(), AllocError>
         requires tally { IsTally self.now }
@@ -221,16 +221,16 @@ impl Accumulation<'_> {
             self.now.accumulator.now.fold self.now.grid) bins.old (tiles_of self.now.grid)) }
     {
         for row in 0..self.grid.tile_rows() {
-            self.take_row(alloc, room, row, bins)?;
+            self.accumulate_tile_row(alloc, room, row, bins)?;
         }
         Ok(())
     }
 
     // Joins to each bin the totals over each tile of a row.
-    fn take_row(
+    fn accumulate_tile_row(
         &self,
         alloc: Global,
-        room: &mut TotalsRoom,
+        room: &mut TotalsScratch,
         row: u32,
         bins: &mut [i64],
     ) -> Result<(), AllocError>
@@ -244,16 +244,16 @@ impl Accumulation<'_> {
             (map (λ j. (row, j)) (range_with_len 0 (tile_cols self.now.grid)))) }
     {
         for col in 0..self.grid.tile_cols() {
-            self.take_tile(alloc, room, row, col, bins)?;
+            self.accumulate_one_tile(alloc, room, row, col, bins)?;
         }
         Ok(())
     }
 
     // Joins to each bin the totals over one tile.
-    fn take_tile(
+    fn accumulate_one_tile(
         &self,
         alloc: Global,
-        room: &mut TotalsRoom,
+        room: &mut TotalsScratch,
         row: u32,
         col: u32,
         bins: &mut [i64],
@@ -266,13 +266,13 @@ impl Accumulation<'_> {
             self.now.accumulator.now.fold self.now.grid bins.old (row, col)) }
     {
         let of = &self.of;
-        let layout = self.layout(alloc, row, col)?;
+        let layout = self.build_layout(alloc, row, col)?;
         let tile = TileJob {
             job: of.job,
             layout: &layout,
             known: of.stored,
         };
-        tile_onto(
+        accumulate_tile(
             alloc,
             &tile,
             self.accumulator,
@@ -283,7 +283,7 @@ impl Accumulation<'_> {
     }
 
     // The layout of a tile.
-    fn layout(&self, alloc: Global, row: u32, col: u32) -> Result<Layout<'_>, AllocError>
+    fn build_layout(&self, alloc: Global, row: u32, col: u32) -> Result<Layout<'_>, AllocError>
         requires tally { IsTally self.now }
         requires tile { HasTile self.now.grid row col }
         ensures { IfOk result (IsTileLayout (pipeline_in self.now.of.job.now)

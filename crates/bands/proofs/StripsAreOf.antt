@@ -6,11 +6,11 @@ use Rattle.std.proofs.lemmas.List.Elements.{All-append}
 use Rattle.netpbm.specs.MadePlane.{MadePlane, made, made_samples}
 use Rattle.job.specs.declared.job.Job.{Job}
 use Rattle.bands.specs.Filling.{AreOf}
-use Rattle.bands.specs.declared.strip.Strip.{Strip}
+use Rattle.bands.specs.declared.strip.OutputStrip.{OutputStrip}
 
 -- one strip more
-pub of_more : (job : Job) (strips : List Strip) (strip : Strip) → AreOf job strips → strip.job.now ≡ job → AreOf job (strips ++ strip ∷ [])
-of_more job strips strip are is = All-append (λ (s : Strip). s.job.now ≡ job) strips (strip ∷ []) are alone
+pub of_more : (job : Job) (strips : List OutputStrip) (strip : OutputStrip) → AreOf job strips → strip.job.now ≡ job → AreOf job (strips ++ strip ∷ [])
+of_more job strips strip are is = All-append (λ (s : OutputStrip). s.job.now ≡ job) strips (strip ∷ []) are alone
   where
     alone : AreOf job (strip ∷ [])
     alone zero d low = is
@@ -27,11 +27,11 @@ module _ {X : Type 0} (P : X → Type 0) where
   all_last [] x all = all zero x (omega arith)
   all_last (y ∷ ys) x all = all_last ys x (λ m e l. all (suc m) e (omega arith))
 
-pub of_less : (job : Job) (strips : List Strip) (strip : Strip) → AreOf job (strips ++ strip ∷ []) → AreOf job strips
-of_less job = all_less (λ (s : Strip). s.job.now ≡ job)
+pub of_less : (job : Job) (strips : List OutputStrip) (strip : OutputStrip) → AreOf job (strips ++ strip ∷ []) → AreOf job strips
+of_less job = all_less (λ (s : OutputStrip). s.job.now ≡ job)
 
-pub of_last : (job : Job) (strips : List Strip) (strip : Strip) → AreOf job (strips ++ strip ∷ []) → strip.job.now ≡ job
-of_last job = all_last (λ (s : Strip). s.job.now ≡ job)
+pub of_last : (job : Job) (strips : List OutputStrip) (strip : OutputStrip) → AreOf job (strips ++ strip ∷ []) → strip.job.now ≡ job
+of_last job = all_last (λ (s : OutputStrip). s.job.now ≡ job)
 
 -- one plane more is whole
 pub made_more : (f : ℕ → List ℕ) (max : ℕ) (planes more : List MadePlane) (plane : MadePlane) (stages : List ℕ) (i stage : ℕ)

@@ -9,8 +9,8 @@ ghost use Rattle.netpbm.specs.Image.{IsImage};
 ghost use Rattle.tile_run.specs.Work.{first_too_big, is_accumulator_at, is_stored_function};
 ghost use Rattle.accumulators.specs.Answers.{all_gathered, gathered_at, IsAnswer, IsEvaluationFault};
 
-use crate::picture::{picture, picture_in_strips};
-use crate::strip_job::row_count;
+use crate::picture::{make_picture_in_bands, make_picture_in_strips};
+use crate::strip_job::count_tile_rows;
 use accumulators::Answer;
 use grouping::Schedule;
 use job::{Body, Job};
@@ -18,7 +18,10 @@ use netpbm::Picture;
 use rayon::current_num_threads;
 use std::alloc::{AllocError, Global};
 use std::thread::Threads;
-use tile_run::{RunFault, Uses, WORK_OF_TILE, Work, first_too_big, least_rows, point_work};
+use tile_run::{
+    LastReads, RunFault, StageSelection, WORK_OF_TILE, count_point_work, estimate_rows_per_thread,
+    find_first_oversized_tile,
+};
 
 /// Least work in all, in reads and operators, at which several threads pay off: about three milliseconds.
 const WORK_WORTH_THREADS: u64 = 16_777_216;
@@ -36,7 +39,7 @@ const WORK_WORTH_JOINING: u64 = 12;
 /// Fails before anything is computed if a tile of a stored function takes too much scratch memory. The fault names the first such
 /// tile by dependence order, row and column. If all of these fit, it names the first tile of an accumulator that does not. Fails
 /// also where memory is refused.
-pub fn evaluate(
+pub fn evaluate_in_bands_or_whole(
     rt: &(impl Threads + Sync),
     alloc: Global,
     job: &Job,
@@ -53,10 +56,10 @@ pub fn evaluate(
     ensures fault { IfErr result (IsEvaluationFault (program_id_in job.now) (pipeline_in job.now)
         schedule.now.inlining) }
 {
-    let found = if is_for_one(rt, job, schedule) {
+    let found = if is_one_thread_as_fast(rt, job, schedule) {
         evaluate_in_bands(alloc, job, schedule)?
     } else {
-        evaluate_in_strips(rt, alloc, job, schedule, rows_for_each(rt, job))?
+        evaluate_in_strips(rt, alloc, job, schedule, count_rows_per_thread(rt, job))?
     };
     match found {
         Some(answer) => Ok(answer),
@@ -65,11 +68,11 @@ pub fn evaluate(
 }
 
 // How many rows of tiles of an output each thread makes.
-fn rows_for_each(rt: &impl Threads, job: &Job) -> u32 {
+fn count_rows_per_thread(rt: &impl Threads, job: &Job) -> u32 {
     match job.outputs().first() {
         Some(output) => {
             let threads = u32::try_from(current_num_threads(rt)).unwrap_or(u32::MAX);
-            row_count(job, *output).div_ceil(threads)
+            count_tile_rows(job, *output).div_ceil(threads)
         }
         None => 0,
     }
@@ -77,38 +80,40 @@ fn rows_for_each(rt: &impl Threads, job: &Job) -> u32 {
 
 // Whether one thread answers as soon as several: there is one processor, or no stage has rows of tiles for two threads. The same
 // holds where there is little work, in all or per sample.
-fn is_for_one(rt: &impl Threads, job: &Job, schedule: &Schedule) -> bool {
-    current_num_threads(rt) == 1 || are_small(job, schedule) || is_little(job, schedule)
+fn is_one_thread_as_fast(rt: &impl Threads, job: &Job, schedule: &Schedule) -> bool {
+    current_num_threads(rt) == 1
+        || has_only_small_stages(job, schedule)
+        || has_little_work(job, schedule)
 }
 
 // Whether the work of a job is little, by an estimate.
-fn is_little(job: &Job, schedule: &Schedule) -> bool {
-    let work = work_of_all(job, schedule);
-    work < WORK_WORTH_THREADS || work < samples_of_all(job).saturating_mul(WORK_WORTH_JOINING)
+fn has_little_work(job: &Job, schedule: &Schedule) -> bool {
+    let work = estimate_job_work(job, schedule);
+    work < WORK_WORTH_THREADS || work < count_output_samples(job).saturating_mul(WORK_WORTH_JOINING)
 }
 
 // The work of the tiles of all stages. The schedule gives the number of points that they take together; each counts as one of the
 // stage's own.
-fn work_of_all(job: &Job, schedule: &Schedule) -> u64 {
+fn estimate_job_work(job: &Job, schedule: &Schedule) -> u64 {
     let mut work = 0u64;
     for stage in 0..job.stages().len() {
-        work = work.saturating_add(work_of_stage(job, schedule, stage));
+        work = work.saturating_add(estimate_stage_work(job, schedule, stage));
     }
     work
 }
 
 // The work of the tiles of a stage.
-fn work_of_stage(job: &Job, schedule: &Schedule, stage: usize) -> u64 {
+fn estimate_stage_work(job: &Job, schedule: &Schedule, stage: usize) -> u64 {
     match (job.stage(stage), job.grid(stage), schedule.cost(stage)) {
         (Some(found), Some(grid), Some(points)) => points
-            .saturating_mul(point_work(found))
+            .saturating_mul(count_point_work(found))
             .saturating_add(grid.tiles().saturating_mul(WORK_OF_TILE)),
         _ => 0,
     }
 }
 
 // How many samples the picture of a job has.
-fn samples_of_all(job: &Job) -> u64 {
+fn count_output_samples(job: &Job) -> u64 {
     let mut samples = 0u64;
     for output in job.outputs() {
         if let Some(area) = job.domain(*output) {
@@ -119,9 +124,9 @@ fn samples_of_all(job: &Job) -> u64 {
 }
 
 // Whether no stage has rows of tiles for two threads.
-fn are_small(job: &Job, schedule: &Schedule) -> bool {
+fn has_only_small_stages(job: &Job, schedule: &Schedule) -> bool {
     for stage in 0..job.stages().len() {
-        if !is_small(job, schedule, stage) {
+        if !is_small_stage(job, schedule, stage) {
             return false;
         }
     }
@@ -129,11 +134,11 @@ fn are_small(job: &Job, schedule: &Schedule) -> bool {
 }
 
 // Whether a stage has rows of tiles for one thread only.
-fn is_small(job: &Job, schedule: &Schedule, stage: usize) -> bool {
+fn is_small_stage(job: &Job, schedule: &Schedule, stage: usize) -> bool {
     match job.grid(stage) {
         Some(grid) => {
             schedule.inlined(stage)
-                || grid.tile_rows() as usize / 2 < least_rows(job, schedule, stage)
+                || grid.tile_rows() as usize / 2 < estimate_rows_per_thread(job, schedule, stage)
         }
         None => true,
     }
@@ -161,13 +166,13 @@ pub fn evaluate_in_bands(
         (λ answer. first_too_big (pipeline_in job.now) schedule.now.inlining
         (is_accumulator_at (pipeline_in job.now)) ≡ None)) }
 {
-    if !goes_by_rows(alloc, job, schedule)? {
+    if !can_evaluate_by_rows(alloc, job, schedule)? {
         return Ok(None);
     }
-    let Some(picture) = picture(alloc, job, schedule)? else {
+    let Some(picture) = make_picture_in_bands(alloc, job, schedule)? else {
         return Ok(None);
     };
-    Ok(Some(answer_with(alloc, picture)))
+    Ok(Some(build_picture_answer(alloc, picture)))
 }
 
 /// The same in strips of `len` rows of tiles of each output. A thread of its own makes each strip, and all that the strip reads.
@@ -193,17 +198,17 @@ pub fn evaluate_in_strips(
         (λ answer. first_too_big (pipeline_in job.now) schedule.now.inlining
         (is_accumulator_at (pipeline_in job.now)) ≡ None)) }
 {
-    if len == 0 || !goes_by_rows(alloc, job, schedule)? {
+    if len == 0 || !can_evaluate_by_rows(alloc, job, schedule)? {
         return Ok(None);
     }
-    let Some(picture) = picture_in_strips(rt, alloc, job, schedule, len)? else {
+    let Some(picture) = make_picture_in_strips(rt, alloc, job, schedule, len)? else {
         return Ok(None);
     };
-    Ok(Some(answer_with(alloc, picture)))
+    Ok(Some(build_picture_answer(alloc, picture)))
 }
 
 // A picture, and no total.
-fn answer_with(alloc: Global, picture: Picture) -> Answer
+fn build_picture_answer(alloc: Global, picture: Picture) -> Answer
     ensures picture { result.picture ≡ Some picture }
     ensures totals { result.totals.items ≡ [] }
 {
@@ -215,7 +220,7 @@ fn answer_with(alloc: Global, picture: Picture) -> Answer
 
 // Whether a job may be answered row by row: it has no accumulator, nothing reads an output, and each tile fits into scratch
 // memory.
-fn goes_by_rows(alloc: Global, job: &Job, schedule: &Schedule) -> Result<bool, AllocError>
+fn can_evaluate_by_rows(alloc: Global, job: &Job, schedule: &Schedule) -> Result<bool, AllocError>
     requires schedule { IsScheduleOf (pipeline_in job.now) schedule.now }
     ensures none { IfOk result (λ goes. goes ≡ true → all_gathered (pipeline_in job.now) ≡ []) }
     ensures functions { IfOk result (λ goes. goes ≡ true → first_too_big (pipeline_in job.now)
@@ -227,10 +232,10 @@ fn goes_by_rows(alloc: Global, job: &Job, schedule: &Schedule) -> Result<bool, A
     if has_accumulators(job) || has_read_outputs(alloc, job, schedule)? {
         return Ok(false);
     }
-    if first_too_big(alloc, job, schedule, Work::Functions)?.is_some() {
+    if find_first_oversized_tile(alloc, job, schedule, StageSelection::Functions)?.is_some() {
         return Ok(false);
     }
-    Ok(first_too_big(alloc, job, schedule, Work::Accumulators)?.is_none())
+    Ok(find_first_oversized_tile(alloc, job, schedule, StageSelection::Accumulators)?.is_none())
 }
 
 // Whether a job has accumulators.
@@ -261,7 +266,7 @@ fn is_accumulator(job: &Job, stage: usize) -> bool
 
 // Whether anything reads an output.
 fn has_read_outputs(alloc: Global, job: &Job, schedule: &Schedule) -> Result<bool, AllocError> {
-    let uses = Uses::of(alloc, job, schedule)?;
+    let uses = LastReads::from_schedule(alloc, job, schedule)?;
     for output in job.outputs() {
         if uses.is_used(*output) {
             return Ok(true);

@@ -7,13 +7,13 @@ ghost use Rattle.tile_sources.specs.KnownTiles.{AreTrue};
 ghost use Rattle.bands.specs.Kept.{kept_tiles, IsRowOf};
 
 use crate::band_run::BandRun;
-use crate::kept_rows::{KeptRows, no_tiles};
+use crate::kept_rows::{KeptRows, create_empty_row};
 use crate::row_range::RowRange;
 use crate::windows::Windows;
 use grouping::Schedule;
 use job::Job;
 use std::alloc::{AllocError, Global};
-use tile_run::{Scratch, TileRow};
+use tile_run::{TileRow, TileScratch};
 
 /// A job with its schedule, and with those rows of tiles of its stored functions that are still to be read. They have its values.
 #[derive(Drop)]
@@ -37,7 +37,7 @@ impl<'a> Band<'a> {
     ) -> Result<Band<'a>, AllocError>
         ensures { IfOk result (λ band. band.job.now ≡ job.now) }
     {
-        let kept = KeptRows::none(alloc, job)?;
+        let kept = KeptRows::new(alloc, job)?;
         Ok(Band {
             job,
             schedule,
@@ -50,14 +50,20 @@ impl<'a> Band<'a> {
     /// # Errors
     ///
     /// Fails only where memory is refused.
-    pub(crate) fn want_reads(
+    pub(crate) fn request_reads(
         &self,
         alloc: Global,
         windows: &mut Windows,
         stage: usize,
         row: u32,
     ) -> Result<(), AllocError> {
-        windows.want_reads(alloc, self.job, self.schedule, stage, RowRange::one(row))
+        windows.request_reads(
+            alloc,
+            self.job,
+            self.schedule,
+            stage,
+            RowRange::from_row(row),
+        )
     }
 
     /// A row of tiles of a function, if there is such a row, and all that it needs is kept.
@@ -65,12 +71,12 @@ impl<'a> Band<'a> {
     /// # Errors
     ///
     /// Fails only where memory is refused.
-    pub(crate) fn row(
+    pub(crate) fn compute_row(
         &self,
         alloc: Global,
         stage: usize,
         row: u32,
-        scratch: &mut Scratch,
+        scratch: &mut TileScratch,
     ) -> Result<Option<TileRow>, AllocError>
         ensures { IfOk result (λ found. IfSome found
             (IsRowOf (pipeline_in self.now.job.now) stage row)) }
@@ -80,7 +86,7 @@ impl<'a> Band<'a> {
             schedule: self.schedule,
             kept: &self.kept,
         };
-        run.row(alloc, stage, row, scratch)
+        run.compute_row(alloc, stage, row, scratch)
     }
 
     // Makes a row of tiles and keeps it, and returns whether it could.
@@ -89,14 +95,14 @@ impl<'a> Band<'a> {
         alloc: Global,
         stage: usize,
         row: u32,
-        scratch: &mut Scratch,
+        scratch: &mut TileScratch,
     ) -> Result<bool, AllocError>
         ensures { self.new.job ≡ self.old.job }
     {
-        let Some(tiles) = self.row(alloc, stage, row, scratch)? else {
+        let Some(tiles) = self.compute_row(alloc, stage, row, scratch)? else {
             return Ok(false);
         };
-        let _ = self.kept.replace(stage, row, tiles);
+        let _ = self.kept.replace_row(stage, row, tiles);
         Ok(true)
     }
 
@@ -106,7 +112,7 @@ impl<'a> Band<'a> {
         alloc: Global,
         stage: usize,
         rows: RowRange,
-        scratch: &mut Scratch,
+        scratch: &mut TileScratch,
     ) -> Result<bool, AllocError>
         ensures { self.new.job ≡ self.old.job }
     {
@@ -119,20 +125,20 @@ impl<'a> Band<'a> {
     }
 
     // Makes the wanted rows of a stage, and returns whether it could.
-    fn make_stage(
+    fn make_stage_rows(
         &mut self,
         alloc: Global,
         windows: &mut Windows,
         stage: usize,
-        scratch: &mut Scratch,
+        scratch: &mut TileScratch,
     ) -> Result<bool, AllocError>
         ensures { self.new.job ≡ self.old.job }
     {
-        let Some(rows) = windows.missing(stage) else {
+        let Some(rows) = windows.find_missing_rows(stage) else {
             return Ok(true);
         };
         let is_made = self.make_rows(alloc, stage, rows, scratch)?;
-        windows.made(stage, rows.end);
+        windows.mark_rows_made(stage, rows.end);
         Ok(is_made)
     }
 
@@ -141,17 +147,17 @@ impl<'a> Band<'a> {
     /// # Errors
     ///
     /// Fails only where memory is refused.
-    pub(crate) fn make_wanted(
+    pub(crate) fn make_wanted_rows(
         &mut self,
         alloc: Global,
         windows: &mut Windows,
-        scratch: &mut Scratch,
+        scratch: &mut TileScratch,
     ) -> Result<bool, AllocError>
         ensures { self.new.job ≡ self.old.job }
     {
-        windows.want_all(alloc, self.job, self.schedule)?;
+        windows.request_all_reads(alloc, self.job, self.schedule)?;
         for at in 0..windows.len() {
-            if !self.make_stage(alloc, windows, windows.stage_at(at), scratch)? {
+            if !self.make_stage_rows(alloc, windows, windows.find_stage_at(at), scratch)? {
                 return Ok(false);
             }
         }
@@ -159,11 +165,11 @@ impl<'a> Band<'a> {
     }
 
     // Frees rows of tiles. Their memory is recycled for those that are made next.
-    fn let_go(&mut self, alloc: Global, stage: usize, rows: RowRange, scratch: &mut Scratch)
+    fn free_rows(&mut self, alloc: Global, stage: usize, rows: RowRange, scratch: &mut TileScratch)
         ensures { self.new.job ≡ self.old.job }
     {
         for row in rows.first..rows.end {
-            scratch.take_back_too(self.kept.replace(stage, row, no_tiles(alloc)));
+            scratch.recycle_row(self.kept.replace_row(stage, row, create_empty_row(alloc)));
         }
     }
 
@@ -172,18 +178,18 @@ impl<'a> Band<'a> {
     /// # Errors
     ///
     /// Fails only where memory is refused.
-    pub(crate) fn let_past_go(
+    pub(crate) fn free_unread_rows(
         &mut self,
         alloc: Global,
         windows: &mut Windows,
-        scratch: &mut Scratch,
+        scratch: &mut TileScratch,
     ) -> Result<(), AllocError>
         ensures { self.new.job ≡ self.old.job }
     {
-        let past = windows.pass(alloc)?;
+        let past = windows.pass_unread_rows(alloc)?;
         for at in 0..past.len() {
             let (stage, rows) = past[at];
-            self.let_go(alloc, stage, rows, scratch);
+            self.free_rows(alloc, stage, rows, scratch);
         }
         Ok(())
     }

@@ -15,7 +15,7 @@ use grouping::Schedule;
 use job::{Job, StageKind};
 use overlap_tiles::{Layout, Need, PlanFault};
 use std::alloc::{AllocError, Global};
-use tile_run::{Known, Scratch, TileJob, TileRow};
+use tile_run::{TileJob, TileRow, TileScratch, TileSource};
 
 /// A job with its schedule, and with those rows of tiles that are kept.
 #[derive(Clone, Copy)]
@@ -27,30 +27,32 @@ pub(crate) struct BandRun<'a> {
 
 impl BandRun<'_> {
     // Whether this tile is kept.
-    fn has(&self, need: &Need) -> bool
+    fn has_tile(&self, need: &Need) -> bool
         ensures { result ≡ is_given (kept_tiles self.now.kept.now.stages.items)
             (need_view need.now) }
     {
-        self.kept.tile(need.stage, need.row, need.col).is_some()
+        self.kept
+            .borrow_tile(need.stage, need.row, need.col)
+            .is_some()
     }
 
     // Whether each of these tiles is kept.
-    fn has_all(&self, needs: &[Need]) -> bool
+    fn has_all_tiles(&self, needs: &[Need]) -> bool
         ensures { result
             ≡ list_all (λ need. is_given (kept_tiles self.now.kept.now.stages.items)
             (need_view need)) needs.now }
     {
-        needs.iter().all(|need| self.has(need))
+        needs.iter().all(|need| self.has_tile(need))
     }
 
     // The values of a tile of a function, if all that it needs is kept.
-    fn tile(
+    fn compute_tile(
         &self,
         alloc: Global,
         stage: usize,
         row: u32,
         col: u32,
-        scratch: &mut Scratch,
+        scratch: &mut TileScratch,
     ) -> Result<Option<Vec<i32>>, AllocError>
         requires right { AreTrue (pipeline_in self.now.job.now)
             (kept_tiles self.now.kept.now.stages.items) }
@@ -63,7 +65,7 @@ impl BandRun<'_> {
             Err(PlanFault::Memory) => return Err(AllocError),
             Err(PlanFault::NoSuchTile | PlanFault::ScratchTooBig) => return Ok(None),
         };
-        if !self.has_all(layout.needs()) {
+        if !self.has_all_tiles(layout.needs()) {
             return Ok(None);
         }
         let tile = TileJob {
@@ -71,7 +73,7 @@ impl BandRun<'_> {
             layout: &layout,
             known: self.kept,
         };
-        let values = tile.run(alloc, scratch)?;
+        let values = tile.compute_values(alloc, scratch)?;
         Ok(Some(values))
     }
 
@@ -80,12 +82,12 @@ impl BandRun<'_> {
     /// # Errors
     ///
     /// Fails only where memory is refused.
-    pub(crate) fn row(
+    pub(crate) fn compute_row(
         &self,
         alloc: Global,
         stage: usize,
         row: u32,
-        scratch: &mut Scratch,
+        scratch: &mut TileScratch,
     ) -> Result<Option<TileRow>, AllocError>
         requires { AreTrue (pipeline_in self.now.job.now)
             (kept_tiles self.now.kept.now.stages.items) }
@@ -100,7 +102,7 @@ impl BandRun<'_> {
         }
         let mut tiles = Vec::with_capacity(alloc, grid.tile_cols() as usize)?;
         for col in 0..grid.tile_cols() {
-            let Some(values) = self.tile(alloc, stage, row, col, scratch)? else {
+            let Some(values) = self.compute_tile(alloc, stage, row, col, scratch)? else {
                 return Ok(None);
             };
             tiles.push(values)?;

@@ -6,7 +6,7 @@ ghost use Rattle.std.specs.Prelude.{◌≡◌, []};
 use job::Job;
 use std::alloc::{AllocError, Global};
 use std::mem;
-use tile_run::{Known, TileRow};
+use tile_run::{TileRow, TileSource};
 
 /// The rows of tiles of one stage, from the first. Rows that were freed, and rows that are not made yet, have no tiles.
 #[derive(Drop)]
@@ -20,12 +20,12 @@ pub(crate) struct KeptRows {
     pub(crate) stages: Vec<StageRows>,
 }
 
-impl Known for KeptRows {
+impl TileSource for KeptRows {
     ghost use Rattle.bands.specs.Kept.{kept_tiles};
 
     ghost given = { λ kept. kept_tiles kept.stages.items };
 
-    fn tile(&self, stage: usize, row: u32, col: u32) -> Option<&[i32]> {
+    fn borrow_tile(&self, stage: usize, row: u32, col: u32) -> Option<&[i32]> {
         let kept = self.stages.get(stage)?;
         let row = kept.rows.get(row as usize)?;
         let numbers = row.tiles.get(col as usize)?;
@@ -34,7 +34,7 @@ impl Known for KeptRows {
 }
 
 /// A row without tiles.
-pub(crate) fn no_tiles(alloc: Global) -> TileRow
+pub(crate) fn create_empty_row(alloc: Global) -> TileRow
     ensures { result.tiles.items ≡ [] }
 {
     TileRow {
@@ -47,18 +47,18 @@ impl StageRows {
     ghost use Rattle.bands.specs.Kept.{IsFromRow, HasNoTiles};
 
     // `count` rows, none of which is made.
-    fn none(alloc: Global, count: u32) -> Result<StageRows, AllocError>
+    fn new(alloc: Global, count: u32) -> Result<StageRows, AllocError>
         ensures { IfOk result HasNoTiles }
     {
         let mut rows = Vec::with_capacity(alloc, count as usize)?;
         for row in 0..count {
-            rows.push(no_tiles(alloc))?;
+            rows.push(create_empty_row(alloc))?;
         }
         Ok(StageRows { rows })
     }
 
     // Replaces the tiles of a row, and returns the former ones. If there is no such row, the new tiles are returned.
-    fn replace(&mut self, row: u32, tiles: TileRow) -> TileRow
+    fn replace_row(&mut self, row: u32, tiles: TileRow) -> TileRow
         ensures { IsFromRow self.old self.new row tiles }
     {
         let place = row as usize;
@@ -75,23 +75,23 @@ impl KeptRows {
     ghost use Rattle.bands.specs.Kept.{kept_tiles, GivesNothing, IsFrom};
 
     /// No row of any stage is made.
-    pub(crate) fn none(alloc: Global, job: &Job) -> Result<KeptRows, AllocError>
+    pub(crate) fn new(alloc: Global, job: &Job) -> Result<KeptRows, AllocError>
         ensures { IfOk result (λ kept. GivesNothing (kept_tiles kept.stages.items)) }
     {
         let mut stages = Vec::with_capacity(alloc, job.stages().len())?;
         for stage in 0..job.stages().len() {
-            stages.push(StageRows::none(alloc, rows_of(job, stage))?)?;
+            stages.push(StageRows::new(alloc, count_tile_rows(job, stage))?)?;
         }
         Ok(KeptRows { stages })
     }
 
     /// Replaces the tiles of a stage's row, and returns the former ones. If there is no such row, the new tiles are returned.
-    pub(crate) fn replace(&mut self, stage: usize, row: u32, tiles: TileRow) -> TileRow
+    pub(crate) fn replace_row(&mut self, stage: usize, row: u32, tiles: TileRow) -> TileRow
         ensures { IsFrom (kept_tiles self.old.stages.items) (kept_tiles self.new.stages.items)
             stage row tiles }
     {
         if stage < self.stages.len() {
-            self.stages[stage].replace(row, tiles)
+            self.stages[stage].replace_row(row, tiles)
         } else {
             tiles
         }
@@ -99,7 +99,7 @@ impl KeptRows {
 }
 
 // How many rows of tiles a stage has.
-fn rows_of(job: &Job, stage: usize) -> u32 {
+fn count_tile_rows(job: &Job, stage: usize) -> u32 {
     match job.grid(stage) {
         Some(grid) => grid.tile_rows(),
         None => 0,

@@ -2,11 +2,11 @@
 #![tactic(auto)]
 
 mod answer;
-mod apart_samples;
 mod band;
 mod band_run;
 mod filling;
 mod kept_rows;
+mod pending_samples;
 mod picture;
 mod row_range;
 mod strip;
@@ -14,4 +14,4 @@ mod strip_job;
 mod strip_sheet;
 mod windows;
 
-pub use answer::{evaluate, evaluate_in_bands, evaluate_in_strips};
+pub use answer::{evaluate_in_bands, evaluate_in_bands_or_whole, evaluate_in_strips};

@@ -10,12 +10,12 @@ ghost use Rattle.job.specs.Views.{output_view};
 ghost use Rattle.job.specs.WellFormed.{IsOutput};
 ghost use Rattle.bands.specs.Filling.{AreOf};
 
-use crate::strip::Strip;
+use crate::strip::OutputStrip;
 use crate::strip_job::StripJob;
 use grouping::Schedule;
 use job::{Job, Output};
 use netpbm::{Picture, Plane};
-use pictures::picture_with;
+use pictures::build_picture;
 use std::alloc::{AllocError, Global};
 use std::thread::Threads;
 
@@ -24,7 +24,7 @@ use std::thread::Threads;
 /// # Errors
 ///
 /// Fails only where memory is refused.
-pub(crate) fn picture(
+pub(crate) fn make_picture_in_bands(
     alloc: Global,
     job: &Job,
     schedule: &Schedule,
@@ -35,8 +35,8 @@ pub(crate) fn picture(
 {
     match job.output() {
         Some(output) => {
-            let strips = StripJob::new(job, schedule, output).in_turn(alloc)?;
-            picture_of(alloc, job, output, strips)
+            let strips = StripJob::new(job, schedule, output).make_strips_in_turn(alloc)?;
+            join_strips_to_picture(alloc, job, output, strips)
         }
         None => Ok(None),
     }
@@ -47,7 +47,7 @@ pub(crate) fn picture(
 /// # Errors
 ///
 /// Fails only where memory is refused.
-pub(crate) fn picture_in_strips(
+pub(crate) fn make_picture_in_strips(
     rt: &(impl Threads + Sync),
     alloc: Global,
     job: &Job,
@@ -61,19 +61,21 @@ pub(crate) fn picture_in_strips(
 {
     match job.output() {
         Some(output) => {
-            let strips = StripJob::new(job, schedule, output).side_by_side(rt, alloc, len)?;
-            picture_of(alloc, job, output, strips)
+            let strips = StripJob::new(job, schedule, output).make_strips_in_parallel(
+                rt, alloc, len,
+            )?;
+            join_strips_to_picture(alloc, job, output, strips)
         }
         None => Ok(None),
     }
 }
 
 // The picture of the output from its strips, if they have all rows.
-fn picture_of(
+fn join_strips_to_picture(
     alloc: Global,
     job: &Job,
     output: &Output,
-    strips: Option<Vec<Strip<'_>>>,
+    strips: Option<Vec<OutputStrip<'_>>>,
 ) -> Result<Option<Picture>, AllocError>
     requires output { IsOutput (pipeline_in job.now) (output_view output.now) }
     requires strips { IfSome strips (λ strips. AreOf job.now strips.items) }
@@ -85,19 +87,19 @@ fn picture_of(
         return Ok(None);
     };
     let max = output.max() as u16;
-    let Some(planes) = planes_of(alloc, job, output.stages(), max, strips)? else {
+    let Some(planes) = convert_strips_to_planes(alloc, job, output.stages(), max, strips)? else {
         return Ok(None);
     };
-    Ok(Some(picture_with(job, output, planes)))
+    Ok(Some(build_picture(job, output, planes)))
 }
 
 // The planes of these outputs, if they are whole.
-fn planes_of(
+fn convert_strips_to_planes(
     alloc: Global,
     job: &Job,
     stages: &[usize],
     max: u16,
-    strips: Vec<Strip<'_>>,
+    strips: Vec<OutputStrip<'_>>,
 ) -> Result<Option<Vec<Plane>>, AllocError>
     requires { AreOf job.now strips.items }
     ensures { IfOk result (λ found. IfSome found (λ planes. made_samples planes.items
@@ -110,7 +112,7 @@ fn planes_of(
         let Some(strip) = left.pop() else {
             return Ok(None);
         };
-        let Some(plane) = strip.whole(*stage, max) else {
+        let Some(plane) = strip.into_plane(*stage, max) else {
             return Ok(None);
         };
         planes.push(plane)?;

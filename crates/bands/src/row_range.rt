@@ -17,7 +17,7 @@ pub(crate) struct RowRange {
 
 impl RowRange {
     /// One row.
-    pub(crate) fn one(row: u32) -> RowRange {
+    pub(crate) fn from_row(row: u32) -> RowRange {
         RowRange {
             first: row,
             end: row.saturating_add(1),
@@ -25,7 +25,7 @@ impl RowRange {
     }
 
     /// All of `count` rows.
-    pub(crate) fn all(count: u32) -> RowRange {
+    pub(crate) fn from_count(count: u32) -> RowRange {
         RowRange {
             first: 0,
             end: count,
@@ -33,7 +33,7 @@ impl RowRange {
     }
 
     /// The part with this number of `count` rows, which are split into parts of `len` rows.
-    pub(crate) fn part(count: u32, len: u32, number: u32) -> RowRange {
+    pub(crate) fn from_part_number(count: u32, len: u32, number: u32) -> RowRange {
         let first = number.saturating_mul(len).min(count);
         RowRange {
             first,
@@ -42,7 +42,7 @@ impl RowRange {
     }
 
     /// The rows of tiles of a stage that meet an area of its domain.
-    pub(crate) fn meeting(job: &Job, stage: usize, area: &Area) -> Option<RowRange> {
+    pub(crate) fn from_area(job: &Job, stage: usize, area: &Area) -> Option<RowRange> {
         let grid = job.grid(stage)?;
         let (first, _) = grid.tile_of(area.rows.lo(), area.cols.lo())?;
         let (last, _) = grid.tile_of(area.rows.hi(), area.cols.lo())?;
@@ -53,7 +53,7 @@ impl RowRange {
     }
 
     /// The least range that has both these rows and others.
-    pub(crate) fn hull(self, other: RowRange) -> RowRange {
+    pub(crate) fn include_rows(self, other: RowRange) -> RowRange {
         RowRange {
             first: self.first.min(other.first),
             end: self.end.max(other.end),
@@ -61,7 +61,7 @@ impl RowRange {
     }
 
     /// The rows that come no earlier than this one, if there are any.
-    pub(crate) fn from(self, row: u32) -> Option<RowRange> {
+    pub(crate) fn drop_rows_before(self, row: u32) -> Option<RowRange> {
         let first = self.first.max(row);
         if first < self.end {
             Some(RowRange {
@@ -74,7 +74,7 @@ impl RowRange {
     }
 
     /// The points of these rows of a stage, if it has them.
-    pub(crate) fn region(self, job: &Job, stage: usize) -> Option<Area>
+    pub(crate) fn compute_region(self, job: &Job, stage: usize) -> Option<Area>
         ensures { IfSome result (λ region. (inlining : List Bool)
             → IsTarget (target_over (pipeline_in job.now) inlining stage region)) }
     {

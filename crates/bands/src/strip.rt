@@ -15,13 +15,13 @@ use crate::strip_sheet::StripSheet;
 use domains::Grid;
 use job::Job;
 use netpbm::Plane;
-use pictures::{KnownTiles, Sheet, area_of_row};
+use pictures::{Sheet, SuppliedJob, compute_row_area};
 use std::alloc::{AllocError, Global};
-use tile_run::{LentRow, TileRow};
+use tile_run::{SuppliedRow, TileRow};
 
 /// Consecutive rows of tiles of an output of a job, as far as they are made.
 #[derive(Drop)]
-pub(crate) struct Strip<'a> {
+pub(crate) struct OutputStrip<'a> {
     job: &'a Job,
     stage: usize,
     grid: Grid,
@@ -37,7 +37,7 @@ pub(crate) struct Strip<'a> {
         (samples_on sheet)) },
 }
 
-impl<'a> Strip<'a> {
+impl<'a> OutputStrip<'a> {
     /// A strip of these rows of this output, none of which is made. None if no stage with tiles has this number, or if it has
     /// fewer rows.
     ///
@@ -50,7 +50,7 @@ impl<'a> Strip<'a> {
         stage: usize,
         max: u16,
         rows: RowRange,
-    ) -> Result<Option<Strip<'a>>, AllocError>
+    ) -> Result<Option<OutputStrip<'a>>, AllocError>
         ensures { IfOk result (λ found. IfSome found (λ strip. strip.job.now ≡ job.now)) }
     {
         let Some(grid) = job.grid(stage) else {
@@ -59,8 +59,8 @@ impl<'a> Strip<'a> {
         if rows.first > grid.tile_rows() {
             return Ok(None);
         }
-        let sheet = sheet_for(alloc, &grid, max, rows)?;
-        Ok(Some(Strip {
+        let sheet = create_sheet(alloc, &grid, max, rows)?;
+        Ok(Some(OutputStrip {
             job,
             stage,
             grid,
@@ -83,7 +83,7 @@ impl<'a> Strip<'a> {
     /// # Errors
     ///
     /// Fails only where memory is refused.
-    pub(crate) fn add(&mut self, row: u32, tiles: &TileRow) -> Result<bool, AllocError>
+    pub(crate) fn add_tile_row(&mut self, row: u32, tiles: &TileRow) -> Result<bool, AllocError>
         requires { IsRowOf (pipeline_in self.old.job.now) self.old.stage row tiles.now }
         ensures { self.new.job ≡ self.old.job }
     {
@@ -94,13 +94,13 @@ impl<'a> Strip<'a> {
             return Ok(false);
         }
         self.next = None;
-        let area = area_of_row(&self.grid, row);
-        let lent = LentRow {
+        let area = compute_row_area(&self.grid, row);
+        let lent = SuppliedRow {
             stage: self.stage,
             row,
             tiles,
         };
-        let known = KnownTiles {
+        let known = SuppliedJob {
             job: self.job,
             known: &lent,
         };
@@ -114,7 +114,7 @@ impl<'a> Strip<'a> {
     /// # Errors
     ///
     /// Fails only where memory is refused.
-    pub(crate) fn join(&mut self, behind: Strip<'_>) -> Result<bool, AllocError>
+    pub(crate) fn append_strip(&mut self, behind: OutputStrip<'_>) -> Result<bool, AllocError>
         requires { behind.job.now ≡ self.old.job.now }
         ensures { self.new.job ≡ self.old.job }
     {
@@ -125,7 +125,7 @@ impl<'a> Strip<'a> {
             return Ok(false);
         }
         self.next = None;
-        if !self.sheet.append(behind.sheet)? {
+        if !self.sheet.append_pending_samples(behind.sheet)? {
             return Ok(false);
         }
         self.next = behind.next;
@@ -133,7 +133,7 @@ impl<'a> Strip<'a> {
     }
 
     /// The plane, if it is that of this output, with this greatest sample, and has all rows.
-    pub(crate) fn whole(self, stage: usize, max: u16) -> Option<Plane>
+    pub(crate) fn into_plane(self, stage: usize, max: u16) -> Option<Plane>
         ensures { IfSome result (λ plane. plane
             ≡ made max (samples (pipeline_in self.entry.job.now) max stage)) }
     {
@@ -149,19 +149,24 @@ impl<'a> Strip<'a> {
 }
 
 // Capacity for the samples of rows of tiles. The first rows are in the plane itself, with capacity for all other rows too.
-fn sheet_for(alloc: Global, grid: &Grid, max: u16, rows: RowRange) -> Result<StripSheet, AllocError>
+fn create_sheet(
+    alloc: Global,
+    grid: &Grid,
+    max: u16,
+    rows: RowRange,
+) -> Result<StripSheet, AllocError>
     ensures greatest { IfOk result (λ sheet. greatest_on sheet ≡ max) }
     ensures none { IfOk result (λ sheet. samples_on sheet ≡ []) }
 {
     if rows.first == 0 {
-        StripSheet::plane(alloc, max, grid.area.points() as usize)
+        StripSheet::with_plane_capacity(alloc, max, grid.area.points() as usize)
     } else {
-        StripSheet::apart(alloc, max, points_of(grid, rows))
+        StripSheet::with_pending_capacity(alloc, max, count_row_points(grid, rows))
     }
 }
 
 // How many points these rows of tiles have at most.
-fn points_of(grid: &Grid, rows: RowRange) -> usize {
+fn count_row_points(grid: &Grid, rows: RowRange) -> usize {
     let count = rows.end.saturating_sub(rows.first);
     let height = count.saturating_mul(grid.sides.height());
     let points = u64::from(height).saturating_mul(u64::from(grid.area.cols.len()));

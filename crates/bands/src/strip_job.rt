@@ -7,15 +7,15 @@ ghost use Rattle.job.specs.Views.{output_view};
 ghost use Rattle.job.specs.WellFormed.{IsOutput};
 ghost use Rattle.bands.specs.Filling.{AreOf, PartsAreOf};
 
-use crate::filling::{fill, strips_of};
+use crate::filling::{create_strips, fill_strips};
 use crate::row_range::RowRange;
-use crate::strip::Strip;
+use crate::strip::OutputStrip;
 use grouping::Schedule;
 use job::{Job, Output};
 use rayon::prelude::*;
 use std::alloc::{AllocError, Global};
 use std::thread::Threads;
-use tile_run::Scratch;
+use tile_run::TileScratch;
 
 /// Functions of an output of a job, and the schedule by which their rows of tiles are made.
 #[derive(Clone, Copy)]
@@ -41,27 +41,27 @@ impl<'a> StripJob<'a> {
     }
 
     // How many rows of tiles the first of the functions has.
-    fn row_count(&self) -> u32 {
+    fn count_output_rows(&self) -> u32 {
         match self.stages.first() {
-            Some(stage) => row_count(self.job, *stage),
+            Some(stage) => count_tile_rows(self.job, *stage),
             None => 0,
         }
     }
 
     // Strips of these rows of all functions, if they can be made.
-    fn strips(
+    fn make_strips(
         &self,
         alloc: Global,
         rows: RowRange,
-        scratch: &mut Scratch,
-    ) -> Result<Option<Vec<Strip<'a>>>, AllocError>
+        scratch: &mut TileScratch,
+    ) -> Result<Option<Vec<OutputStrip<'a>>>, AllocError>
         ensures { IfOk result (λ found. IfSome found
             (λ strips. AreOf self.now.job.now strips.items)) }
     {
-        let Some(mut strips) = strips_of(alloc, self.job, self.stages, self.max, rows)? else {
+        let Some(mut strips) = create_strips(alloc, self.job, self.stages, self.max, rows)? else {
             return Ok(None);
         };
-        if !fill(alloc, self.job, self.schedule, &mut strips, rows, scratch)? {
+        if !fill_strips(alloc, self.job, self.schedule, &mut strips, rows, scratch)? {
             return Ok(None);
         }
         Ok(Some(strips))
@@ -72,12 +72,19 @@ impl<'a> StripJob<'a> {
     /// # Errors
     ///
     /// Fails only where memory is refused.
-    pub(crate) fn in_turn(&self, alloc: Global) -> Result<Option<Vec<Strip<'a>>>, AllocError>
+    pub(crate) fn make_strips_in_turn(
+        &self,
+        alloc: Global,
+    ) -> Result<Option<Vec<OutputStrip<'a>>>, AllocError>
         ensures { IfOk result (λ found. IfSome found
             (λ strips. AreOf self.now.job.now strips.items)) }
     {
-        let mut scratch = Scratch::new(alloc);
-        self.strips(alloc, RowRange::all(self.row_count()), &mut scratch)
+        let mut scratch = TileScratch::new(alloc);
+        self.make_strips(
+            alloc,
+            RowRange::from_count(self.count_output_rows()),
+            &mut scratch,
+        )
     }
 
     /// All rows, `len` of them in each strip but the last, and each strip by a thread of its own, if they can be made.
@@ -85,49 +92,58 @@ impl<'a> StripJob<'a> {
     /// # Errors
     ///
     /// Fails only where memory is refused.
-    pub(crate) fn side_by_side(
+    pub(crate) fn make_strips_in_parallel(
         &self,
         rt: &(impl Threads + Sync),
         alloc: Global,
         len: u32,
-    ) -> Result<Option<Vec<Strip<'a>>>, AllocError>
+    ) -> Result<Option<Vec<OutputStrip<'a>>>, AllocError>
         requires { 0 < len }
         ensures { IfOk result (λ found. IfSome found
             (λ strips. AreOf self.now.job.now strips.items)) }
     {
-        let parts = self.parts(rt, alloc, len)?;
-        self.joined(parts)
+        let parts = self.make_parts(rt, alloc, len)?;
+        self.join_parts(parts)
     }
 
     // The strips of each part of the rows, `len` of them in each part but the last.
-    fn parts(
+    fn make_parts(
         &self,
         rt: &(impl Threads + Sync),
         alloc: Global,
         len: u32,
-    ) -> Result<Vec<Option<Vec<Strip<'a>>>>, AllocError>
+    ) -> Result<Vec<Option<Vec<OutputStrip<'a>>>>, AllocError>
         requires { 0 < len }
         ensures { IfOk result (λ parts. PartsAreOf self.now.job.now parts.items) }
     {
-        let count = self.row_count();
+        let count = self.count_output_rows();
         (0..count.div_ceil(len))
             .into_par_iter()
             .with_min_len(1)
             .map_init(
-                || Scratch::new(alloc),
-                |scratch: &mut Scratch, number: u32| -> Result<Option<Vec<Strip>>, AllocError>
+                || TileScratch::new(alloc),
+                |scratch: &mut TileScratch, number: u32| -> Result<
+                    Option<Vec<OutputStrip>>,
+                    AllocError,
+                >
                     ensures { IfOk result (λ found. IfSome found
                         (λ strips. AreOf self.entry.now.job.now strips.items)) }
-                { self.strips(alloc, RowRange::part(count, len, number), scratch) },
+                {
+                    self.make_strips(
+                        alloc,
+                        RowRange::from_part_number(count, len, number),
+                        scratch,
+                    )
+                },
             )
             .collect::<Result<Vec<_>, AllocError>>(rt, alloc)?
     }
 
     // The strips of all rows, if each part is made and begins where the one before it ends.
-    fn joined(
+    fn join_parts(
         &self,
-        parts: Vec<Option<Vec<Strip<'a>>>>,
-    ) -> Result<Option<Vec<Strip<'a>>>, AllocError>
+        parts: Vec<Option<Vec<OutputStrip<'a>>>>,
+    ) -> Result<Option<Vec<OutputStrip<'a>>>, AllocError>
         requires { PartsAreOf self.now.job.now parts.items }
         ensures { IfOk result (λ found. IfSome found
             (λ strips. AreOf self.now.job.now strips.items)) }
@@ -141,7 +157,7 @@ impl<'a> StripJob<'a> {
             let Some(behind) = part else {
                 return Ok(None);
             };
-            if !self.join(&mut strips, behind)? {
+            if !self.append_to_each_strip(&mut strips, behind)? {
                 return Ok(None);
             }
         }
@@ -149,7 +165,11 @@ impl<'a> StripJob<'a> {
     }
 
     // Adds to each of these strips the next one of the same function, and returns whether it could.
-    fn join(&self, strips: &mut [Strip<'_>], behind: Vec<Strip<'_>>) -> Result<bool, AllocError>
+    fn append_to_each_strip(
+        &self,
+        strips: &mut [OutputStrip<'_>],
+        behind: Vec<OutputStrip<'_>>,
+    ) -> Result<bool, AllocError>
         requires strips { AreOf self.now.job.now strips.old }
         requires behind { AreOf self.now.job.now behind.items }
         ensures { OnOk result (AreOf self.now.job.now strips.new) }
@@ -160,7 +180,7 @@ impl<'a> StripJob<'a> {
             let Some(strip) = left.pop() else {
                 return Ok(false);
             };
-            if !strips[at].join(strip)? {
+            if !strips[at].append_strip(strip)? {
                 return Ok(false);
             }
         }
@@ -169,7 +189,7 @@ impl<'a> StripJob<'a> {
 }
 
 /// How many rows of tiles a stage has.
-pub(crate) fn row_count(job: &Job, stage: usize) -> u32 {
+pub(crate) fn count_tile_rows(job: &Job, stage: usize) -> u32 {
     match job.grid(stage) {
         Some(grid) => grid.tile_rows(),
         None => 0,

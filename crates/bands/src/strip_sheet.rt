@@ -5,7 +5,7 @@ ghost use Rattle.std.specs.Prelude.{◌≡◌, ◌++◌, [], true, IfOk, IfSome}
 ghost use Rattle.netpbm.specs.MadePlane.{made};
 ghost use Rattle.bands.specs.Strips.{greatest_on, samples_on};
 
-use crate::apart_samples::ApartSamples;
+use crate::pending_samples::PendingSamples;
 use netpbm::Plane;
 use pictures::{OpenPlane, Sheet};
 use std::alloc::{AllocError, Global};
@@ -14,7 +14,7 @@ use std::alloc::{AllocError, Global};
 #[derive(Drop)]
 pub(crate) enum StripSheet {
     Plane(OpenPlane),
-    Apart(ApartSamples),
+    Apart(PendingSamples),
 }
 
 impl StripSheet {
@@ -23,7 +23,11 @@ impl StripSheet {
     /// # Errors
     ///
     /// Fails only where memory is refused.
-    pub(crate) fn plane(alloc: Global, max: u16, count: usize) -> Result<StripSheet, AllocError>
+    pub(crate) fn with_plane_capacity(
+        alloc: Global,
+        max: u16,
+        count: usize,
+    ) -> Result<StripSheet, AllocError>
         ensures greatest { IfOk result (λ sheet. greatest_on sheet ≡ max) }
         ensures none { IfOk result (λ sheet. samples_on sheet ≡ []) }
     {
@@ -35,11 +39,15 @@ impl StripSheet {
     /// # Errors
     ///
     /// Fails only where memory is refused.
-    pub(crate) fn apart(alloc: Global, max: u16, count: usize) -> Result<StripSheet, AllocError>
+    pub(crate) fn with_pending_capacity(
+        alloc: Global,
+        max: u16,
+        count: usize,
+    ) -> Result<StripSheet, AllocError>
         ensures greatest { IfOk result (λ sheet. greatest_on sheet ≡ max) }
         ensures none { IfOk result (λ sheet. samples_on sheet ≡ []) }
     {
-        Ok(StripSheet::Apart(ApartSamples::with_capacity(alloc, max, count)?))
+        Ok(StripSheet::Apart(PendingSamples::with_capacity(alloc, max, count)?))
     }
 
     /// Adds samples that are apart from a plane, and returns whether they are.
@@ -47,7 +55,7 @@ impl StripSheet {
     /// # Errors
     ///
     /// Fails only where memory is refused. The first of the samples may have been added then.
-    pub(crate) fn append(&mut self, behind: StripSheet) -> Result<bool, AllocError>
+    pub(crate) fn append_pending_samples(&mut self, behind: StripSheet) -> Result<bool, AllocError>
         requires { greatest_on behind ≡ greatest_on self.old }
         ensures greatest { greatest_on self.new ≡ greatest_on self.old }
         ensures samples { IfOk result (λ added. added ≡ true → samples_on self.new
@@ -56,7 +64,7 @@ impl StripSheet {
         match behind {
             StripSheet::Plane(_) => Ok(false),
             StripSheet::Apart(apart) => {
-                self.add(apart.samples())?;
+                self.add_samples(apart.samples())?;
                 Ok(true)
             }
         }
@@ -78,17 +86,17 @@ impl Sheet for StripSheet {
 
     ghost samples = { samples_on };
 
-    fn greatest(&self) -> u16 {
+    fn greatest_sample(&self) -> u16 {
         match self {
-            StripSheet::Plane(sheet) => sheet.greatest(),
-            StripSheet::Apart(sheet) => sheet.greatest(),
+            StripSheet::Plane(sheet) => sheet.greatest_sample(),
+            StripSheet::Apart(sheet) => sheet.greatest_sample(),
         }
     }
 
-    fn add(&mut self, more: &[u16]) -> Result<(), AllocError> {
+    fn add_samples(&mut self, more: &[u16]) -> Result<(), AllocError> {
         match self {
-            StripSheet::Plane(sheet) => sheet.add(more),
-            StripSheet::Apart(sheet) => sheet.add(more),
+            StripSheet::Plane(sheet) => sheet.add_samples(more),
+            StripSheet::Apart(sheet) => sheet.add_samples(more),
         }
     }
 }

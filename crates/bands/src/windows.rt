@@ -33,20 +33,20 @@ impl Window {
         }
     }
 
-    fn want(&mut self, rows: RowRange) {
+    fn request_rows(&mut self, rows: RowRange) {
         self.wanted = match self.wanted {
-            Some(wanted) => Some(wanted.hull(rows)),
+            Some(wanted) => Some(wanted.include_rows(rows)),
             None => Some(rows),
         };
     }
 
     // The rows that are wanted and not made.
-    fn missing(&self) -> Option<RowRange> {
-        self.wanted?.from(self.next)
+    fn find_missing_rows(&self) -> Option<RowRange> {
+        self.wanted?.drop_rows_before(self.next)
     }
 
     // Records that the rows before this one are made.
-    fn made(&mut self, end: u32) {
+    fn mark_rows_made(&mut self, end: u32) {
         self.next = self.next.max(end);
         self.wanted = None;
     }
@@ -86,33 +86,33 @@ impl Windows {
     }
 
     /// The stage at this place of the dependence order.
-    pub(crate) fn stage_at(&self, place: usize) -> usize {
+    pub(crate) fn find_stage_at(&self, place: usize) -> usize {
         match self.order.get(place) {
             Some(stage) => *stage,
             None => 0,
         }
     }
 
-    fn want(&mut self, stage: usize, rows: RowRange) {
+    fn request_rows(&mut self, stage: usize, rows: RowRange) {
         if stage < self.windows.len() {
-            self.windows[stage].want(rows);
+            self.windows[stage].request_rows(rows);
         }
     }
 
     /// The rows of a stage that are wanted and not made.
-    pub(crate) fn missing(&self, stage: usize) -> Option<RowRange> {
-        self.windows.get(stage)?.missing()
+    pub(crate) fn find_missing_rows(&self, stage: usize) -> Option<RowRange> {
+        self.windows.get(stage)?.find_missing_rows()
     }
 
     /// Records that the rows of a stage before this one are made.
-    pub(crate) fn made(&mut self, stage: usize, end: u32) {
+    pub(crate) fn mark_rows_made(&mut self, stage: usize, end: u32) {
         if stage < self.windows.len() {
-            self.windows[stage].made(end);
+            self.windows[stage].mark_rows_made(end);
         }
     }
 
     /// Wants what these rows of a stage read.
-    pub(crate) fn want_reads(
+    pub(crate) fn request_reads(
         &mut self,
         alloc: Global,
         job: &Job,
@@ -120,7 +120,7 @@ impl Windows {
         stage: usize,
         rows: RowRange,
     ) -> Result<(), AllocError> {
-        let Some(region) = rows.region(job, stage) else {
+        let Some(region) = rows.compute_region(job, stage) else {
             return Ok(());
         };
         let boxes = schedule.boxes(alloc, job, stage, region)?;
@@ -129,8 +129,8 @@ impl Windows {
             if schedule.inlined(*read) {
                 continue;
             }
-            if let Some(rows) = RowRange::meeting(job, *read, area) {
-                self.want(*read, rows);
+            if let Some(rows) = RowRange::from_area(job, *read, area) {
+                self.request_rows(*read, rows);
                 reads.push((*read, rows.first))?;
             }
         }
@@ -141,7 +141,7 @@ impl Windows {
     }
 
     /// Wants all that the wanted rows read, directly or indirectly.
-    pub(crate) fn want_all(
+    pub(crate) fn request_all_reads(
         &mut self,
         alloc: Global,
         job: &Job,
@@ -149,31 +149,34 @@ impl Windows {
     ) -> Result<(), AllocError> {
         for behind in 0..self.order.len() {
             let place = self.order.len().saturating_sub(1).saturating_sub(behind);
-            let stage = self.stage_at(place);
-            if let Some(rows) = self.missing(stage) {
-                self.want_reads(alloc, job, schedule, stage, rows)?;
+            let stage = self.find_stage_at(place);
+            if let Some(rows) = self.find_missing_rows(stage) {
+                self.request_reads(alloc, job, schedule, stage, rows)?;
             }
         }
         Ok(())
     }
 
     // For each stage, the first row that the rows still to be made may read.
-    fn floors(&self, alloc: Global) -> Result<Vec<u32>, AllocError> {
+    fn find_first_needed_rows(&self, alloc: Global) -> Result<Vec<u32>, AllocError> {
         let mut floors = Vec::with_capacity(alloc, self.windows.len())?;
         for window in &self.windows {
             floors.push(window.next)?;
         }
         for window in &self.windows {
             if !window.is_done() {
-                lower(&mut floors, &window.reads);
+                lower_floors(&mut floors, &window.reads);
             }
         }
         Ok(floors)
     }
 
     /// The rows of each stage that are read no more, to be freed one after the other.
-    pub(crate) fn pass(&mut self, alloc: Global) -> Result<Vec<(usize, RowRange)>, AllocError> {
-        let floors = self.floors(alloc)?;
+    pub(crate) fn pass_unread_rows(
+        &mut self,
+        alloc: Global,
+    ) -> Result<Vec<(usize, RowRange)>, AllocError> {
+        let floors = self.find_first_needed_rows(alloc)?;
         let mut past = Vec::new(alloc);
         for stage in 0..self.windows.len().min(floors.len()) {
             let first = self.windows[stage].first;
@@ -193,7 +196,7 @@ impl Windows {
 }
 
 // Lowers the floors, so that none is above what is read.
-fn lower(floors: &mut [u32], reads: &[(usize, u32)]) {
+fn lower_floors(floors: &mut [u32], reads: &[(usize, u32)]) {
     for (stage, first) in reads {
         if *stage < floors.len() {
             floors[*stage] = floors[*stage].min(*first);

@@ -4,9 +4,10 @@
 use crate::true_facts::all_facts;
 use anyhow::{Context, Result, bail};
 use catalog::Catalog;
+use command_inputs::read_job;
+use command_outcomes::read_input;
 use domains::TileSides;
 use fact_audit::{Verdict, audit_all};
-use inputs::{job_of, read_input};
 use job::Job;
 use std::fs::File;
 use std::rt::{Clock, Files};
@@ -19,7 +20,7 @@ fn read_job(rt: &(impl AllocGlobal + Files), path: &str, side: u32) -> Result<Jo
     let mut source = Metered::new(File::open(rt, path)?);
     let input = read_input(rt.alloc(), &mut source)?;
     let sides = TileSides::new(side, side).context("a side from 1 to 1024")?;
-    let mut job = job_of(rt.alloc(), sides, &[], input)?;
+    let mut job = read_job(rt.alloc(), sides, &[], input)?;
     job.keep_input_id();
     Ok(job)
 }

@@ -2,9 +2,10 @@
 //! time. The tiles have 64 rows and 1,024 columns, and the schedule is chosen as for `eval`.
 
 use anyhow::{Context, Result, bail};
+use command_inputs::read_job;
+use command_outcomes::read_input;
 use domains::TileSides;
 use grouping::{Schedule, with_cheap_inlined};
-use inputs::{job_of, read_input};
 use job::{Job, StageKind};
 use std::fs::File;
 use std::rt::{Clock, Files};
@@ -31,7 +32,7 @@ fn read_job(
     let mut source = Metered::new(File::open(rt, path)?);
     let input = read_input(rt.alloc(), &mut source)?;
     let sides = TileSides::new(64, 1024).context("sides of tiles")?;
-    Ok(job_of(rt.alloc(), sides, parameters, input)?)
+    Ok(read_job(rt.alloc(), sides, parameters, input)?)
 }
 
 // How many points are computed for functions under a schedule.

@@ -11,4 +11,4 @@ mod words;
 pub use nodes::NodeCount;
 pub use options::{Options, Percent};
 pub use tasks::Task;
-pub use words::{JobRequest, Refusal, Request, request_of};
+pub use words::{JobRequest, Refusal, Request, read_request};

@@ -25,7 +25,7 @@ pub enum Task {
 }
 
 /// The task that the first word requests; a farm and a world have the usual settings.
-pub fn task_of(words: &[String]) -> Option<Task>
+pub fn read_task(words: &[String]) -> Option<Task>
     ensures some { IfSome result (AsksFor words.now) }
     ensures none { IfNone result ((task : TaskType) → ¬ AsksFor words.now task) }
 {

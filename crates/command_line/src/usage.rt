@@ -9,7 +9,7 @@ use clap::{Arg, ArgAction, Command};
 use std::alloc::{AllocError, Global};
 
 /// The program's commands except `merge`, which takes no words. The only help is the usage line, so clap adds none.
-pub fn usage<'a>(alloc: Global) -> Result<Command<'a>, AllocError>
+pub fn build_usage<'a>(alloc: Global) -> Result<Command<'a>, AllocError>
     ensures { IfOk result (λ c. app_of c ≡ usage) }
 {
     Command::new(alloc, "tilefarm")
@@ -17,52 +17,52 @@ pub fn usage<'a>(alloc: Global) -> Result<Command<'a>, AllocError>
         .disable_help_flag(true)
         .disable_help_subcommand(true)
         .subcommand_required(true)
-        .subcommand(command(alloc, "eval")?)?
-        .subcommand(command(alloc, "check")?)?
-        .subcommand(command(alloc, "plan")?)?
-        .subcommand(command(alloc, "audit")?)?
-        .subcommand(world(alloc)?)?
-        .subcommand(run(alloc)?)
+        .subcommand(build_command(alloc, "eval")?)?
+        .subcommand(build_command(alloc, "check")?)?
+        .subcommand(build_command(alloc, "plan")?)?
+        .subcommand(build_command(alloc, "audit")?)?
+        .subcommand(build_world(alloc)?)?
+        .subcommand(build_run(alloc)?)
 }
 
 /// A command that takes options and values of parameters.
-fn command<'a>(alloc: Global, name: &'a str) -> Result<Command<'a>, AllocError>
+fn build_command<'a>(alloc: Global, name: &'a str) -> Result<Command<'a>, AllocError>
     ensures app { IfOk result (λ c. app_of c ≡ command_app name.now) }
     ensures local { IfOk result (λ c. (fields_of c).has_globals ≡ false) }
 {
     Command::new(alloc, name)
         .disable_help_flag(true)
-        .arg(number(alloc, "rows"))?
-        .arg(number(alloc, "cols"))?
-        .arg(number(alloc, "percent"))?
-        .arg(flag(alloc, "stored"))?
-        .arg(parameters(alloc))
+        .arg(build_number_option(alloc, "rows"))?
+        .arg(build_number_option(alloc, "cols"))?
+        .arg(build_number_option(alloc, "percent"))?
+        .arg(build_flag_option(alloc, "stored"))?
+        .arg(build_parameter_words(alloc))
 }
 
 /// The command that takes a number of nodes too.
-fn world<'a>(alloc: Global) -> Result<Command<'a>, AllocError>
+fn build_world<'a>(alloc: Global) -> Result<Command<'a>, AllocError>
     ensures app { IfOk result (λ c. app_of c ≡ world_app) }
     ensures local { IfOk result (λ c. (fields_of c).has_globals ≡ false) }
 {
-    command(alloc, "world")?.arg(number(alloc, "nodes"))
+    build_command(alloc, "world")?.arg(build_number_option(alloc, "nodes"))
 }
 
 /// The command that takes how a farm runs too.
-fn run<'a>(alloc: Global) -> Result<Command<'a>, AllocError>
+fn build_run<'a>(alloc: Global) -> Result<Command<'a>, AllocError>
     ensures app { IfOk result (λ c. app_of c ≡ run_app) }
     ensures local { IfOk result (λ c. (fields_of c).has_globals ≡ false) }
 {
-    command(alloc, "run")?
-        .arg(number(alloc, "nodes"))?
-        .arg(number(alloc, "turns"))?
-        .arg(number(alloc, "capacity"))?
-        .arg(number(alloc, "lose"))?
-        .arg(number(alloc, "repeat"))?
-        .arg(number(alloc, "restart"))
+    build_command(alloc, "run")?
+        .arg(build_number_option(alloc, "nodes"))?
+        .arg(build_number_option(alloc, "turns"))?
+        .arg(build_number_option(alloc, "capacity"))?
+        .arg(build_number_option(alloc, "lose"))?
+        .arg(build_number_option(alloc, "repeat"))?
+        .arg(build_number_option(alloc, "restart"))
 }
 
 /// An option that takes a number.
-fn number<'a>(alloc: Global, name: &'a str) -> Arg<'a>
+fn build_number_option<'a>(alloc: Global, name: &'a str) -> Arg<'a>
     ensures rule { rule_of result ≡ number_option name.entry.now }
     ensures local { result.global ≡ false }
 {
@@ -70,7 +70,7 @@ fn number<'a>(alloc: Global, name: &'a str) -> Arg<'a>
 }
 
 /// An option that takes nothing.
-fn flag<'a>(alloc: Global, name: &'a str) -> Arg<'a>
+fn build_flag_option<'a>(alloc: Global, name: &'a str) -> Arg<'a>
     ensures rule { rule_of result ≡ flag_option name.entry.now }
     ensures local { result.global ≡ false }
 {
@@ -78,7 +78,7 @@ fn flag<'a>(alloc: Global, name: &'a str) -> Arg<'a>
 }
 
 /// The words that are not options, any number of them.
-fn parameters<'a>(alloc: Global) -> Arg<'a>
+fn build_parameter_words<'a>(alloc: Global) -> Arg<'a>
     ensures rule { rule_of result ≡ parameter_words }
     ensures local { result.global ≡ false }
 {

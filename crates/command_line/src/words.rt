@@ -19,9 +19,9 @@ ghost use Rattle.farm_setup.specs.declared.setup.Faults.{Faults as FaultsType};
 
 use crate::nodes::NodeCount;
 use crate::options::{Options, Percent};
-use crate::tasks::{Task, task_of};
-use crate::usage::usage;
-use crate::values::{is_true, number_of, parameter};
+use crate::tasks::{Task, read_task};
+use crate::usage::build_usage;
+use crate::values::{is_true, parse_number, parse_parameter};
 use clap::error::ErrorKind;
 use clap::{ArgMatches, Error};
 use domains::TileSides;
@@ -80,7 +80,7 @@ impl From<Error> for Refusal {
 }
 
 /// What the words, without the program's own name, request. They are refused as usage only if they request nothing.
-pub fn request_of(alloc: Global, words: &[String]) -> Result<Request, Refusal>
+pub fn read_request(alloc: Global, words: &[String]) -> Result<Request, Refusal>
     ensures asked { IfOk result (IsRequestOf words.now) }
     ensures usage { IfErr result (λ refusal. refusal ≡ refusals.Usage
         → (request : RequestType) → ¬ IsRequestOf words.now request) }
@@ -90,7 +90,7 @@ pub fn request_of(alloc: Global, words: &[String]) -> Result<Request, Refusal>
     if is_merge(words) {
         Ok(Request::Merge)
     } else {
-        Ok(Request::Job(job_request_of(alloc, words)?))
+        Ok(Request::Job(read_job_request(alloc, words)?))
     }
 }
 
@@ -105,7 +105,7 @@ fn is_merge(words: &[String]) -> bool
 }
 
 /// What the words request for a program and a picture.
-fn job_request_of(alloc: Global, words: &[String]) -> Result<JobRequest, Refusal>
+fn read_job_request(alloc: Global, words: &[String]) -> Result<JobRequest, Refusal>
     ensures asked { IfOk result (IsJobRequestOf words.now) }
     ensures usage { IfErr result (λ refusal. refusal ≡ refusals.Usage
         → (request : JobRequestType) → ¬ IsJobRequestOf words.now request) }
@@ -114,23 +114,23 @@ fn job_request_of(alloc: Global, words: &[String]) -> Result<JobRequest, Refusal
     if has_separator(words) {
         return Err(Refusal::Usage);
     }
-    let Some(named) = task_of(words) else {
+    let Some(named) = read_task(words) else {
         return Err(Refusal::Usage);
     };
-    let matches = usage(alloc)?.try_get_matches_from(words)?;
+    let matches = build_usage(alloc)?.try_get_matches_from(words)?;
     let Some((_, given)) = matches.subcommand() else {
         return Err(Refusal::Usage);
     };
-    let Some(task) = with_own(named, given) else {
+    let Some(task) = complete_task(named, given) else {
         return Err(Refusal::Usage);
     };
-    let Some(options) = options_of(given) else {
+    let Some(options) = read_options(given) else {
         return Err(Refusal::Usage);
     };
     Ok(JobRequest {
         task,
         options,
-        parameters: parameters_of(alloc, given)?,
+        parameters: read_parameters(alloc, given)?,
     })
 }
 
@@ -147,105 +147,105 @@ fn has_separator(words: &[String]) -> bool
 }
 
 /// The named task; a farm and a world have the settings that the options give.
-fn with_own(named: Task, given: &ArgMatches) -> Option<Task>
+fn complete_task(named: Task, given: &ArgMatches) -> Option<Task>
     ensures same { IfSome result (λ task. word_of task ≡ word_of named) }
     ensures own { IfSome result (HasOwn (rows_of (found_of given.now))) }
     ensures none { IfNone result ((task : TaskType) → word_of task ≡ word_of named
         → ¬ HasOwn (rows_of (found_of given.now)) task) }
 {
     match named {
-        Task::Run(_) => Some(Task::Run(farm_of(given)?)),
-        Task::World(_) => Some(Task::World(nodes_of(given)?)),
+        Task::Run(_) => Some(Task::Run(read_farm(given)?)),
+        Task::World(_) => Some(Task::World(read_nodes(given)?)),
         task => Some(task),
     }
 }
 
 /// How the farm is to run; absent options have their usual values.
-fn farm_of(given: &ArgMatches) -> Option<FarmSetup>
+fn read_farm(given: &ArgMatches) -> Option<FarmSetup>
     ensures some { IfSome result (AreFarmOptions (rows_of (found_of given.now))) }
     ensures none { IfNone result ((farm : FarmSetupType)
         → ¬ AreFarmOptions (rows_of (found_of given.now)) farm) }
 {
     let usual = FarmSetup::usual();
-    let count = number_in(given, "nodes", u32::from(usual.nodes))?;
+    let count = read_number(given, "nodes", u32::from(usual.nodes))?;
     let nodes = u8::try_from(count).ok()?;
-    let turns = number_in(given, "turns", usual.turns)?;
-    let capacity = number_in(given, "capacity", usual.capacity)?;
-    FarmSetup::new(nodes, turns, capacity, faults_of(given)?)
+    let turns = read_number(given, "turns", usual.turns)?;
+    let capacity = read_number(given, "capacity", usual.capacity)?;
+    FarmSetup::new(nodes, turns, capacity, read_faults(given)?)
 }
 
 /// How often the farm is to make faults; absent options have their usual values.
-fn faults_of(given: &ArgMatches) -> Option<Faults>
+fn read_faults(given: &ArgMatches) -> Option<Faults>
     ensures some { IfSome result (AreFaults (rows_of (found_of given.now))) }
     ensures none { IfNone result ((faults : FaultsType)
         → ¬ AreFaults (rows_of (found_of given.now)) faults) }
 {
     let usual = FarmSetup::usual().faults;
     Some(Faults {
-        lose: number_in(given, "lose", usual.lose)?,
-        repeat: number_in(given, "repeat", usual.repeat)?,
-        restart: number_in(given, "restart", usual.restart)?,
+        lose: read_number(given, "lose", usual.lose)?,
+        repeat: read_number(given, "repeat", usual.repeat)?,
+        restart: read_number(given, "restart", usual.restart)?,
     })
 }
 
 /// How many nodes the world is to have; usual if the option is absent.
-fn nodes_of(given: &ArgMatches) -> Option<NodeCount>
+fn read_nodes(given: &ArgMatches) -> Option<NodeCount>
     ensures some { IfSome result (λ nodes. HasOwn (rows_of (found_of given.now)) (World nodes)) }
     ensures none { IfNone result ((nodes : ℕ)
         → ¬ HasOwn (rows_of (found_of given.now)) (World nodes)) }
 {
-    NodeCount::new(number_in(given, "nodes", u32::from(NodeCount::usual().get()))?)
+    NodeCount::new(read_number(given, "nodes", u32::from(NodeCount::usual().get()))?)
 }
 
 /// How the command is to be run; absent options have their usual values.
-fn options_of(given: &ArgMatches) -> Option<Options>
+fn read_options(given: &ArgMatches) -> Option<Options>
     ensures some { IfSome result (AreOptions (rows_of (found_of given.now))) }
     ensures none { IfNone result ((options : OptionsType)
         → ¬ AreOptions (rows_of (found_of given.now)) options) }
 {
     let usual = Options::usual();
-    let rows = number_in(given, "rows", usual.sides.height())?;
-    let cols = number_in(given, "cols", usual.sides.width())?;
-    let percent = number_in(given, "percent", usual.percent.get())?;
+    let rows = read_number(given, "rows", usual.sides.height())?;
+    let cols = read_number(given, "cols", usual.sides.width())?;
+    let percent = read_number(given, "percent", usual.percent.get())?;
     Some(Options {
         sides: TileSides::new(rows, cols)?,
         percent: Percent::new(percent)?,
-        stored: flag_in(given, "stored"),
+        stored: read_flag(given, "stored"),
     })
 }
 
 /// The number of the option of this name.
-fn number_in(given: &ArgMatches, name: &str, usual: u32) -> Option<u32>
+fn read_number(given: &ArgMatches, name: &str, usual: u32) -> Option<u32>
     ensures some { IfSome result
         (IsChosen (first_of name.now (rows_of (found_of given.now))) usual) }
     ensures none { IfNone result ((n : ℕ)
         → ¬ IsChosen (first_of name.now (rows_of (found_of given.now))) usual n) }
 {
-    number_of(given.get_str(name), usual)
+    parse_number(given.get_str(name), usual)
 }
 
 /// Whether the flag of this name was given.
-fn flag_in(given: &ArgMatches, name: &str) -> bool
+fn read_flag(given: &ArgMatches, name: &str) -> bool
     ensures { result ≡ is_true (first_of name.now (rows_of (found_of given.now))) }
 {
     is_true(given.get_str(name))
 }
 
 /// The values of parameters.
-fn parameters_of(alloc: Global, given: &ArgMatches) -> Result<Vec<(String, i32)>, Refusal>
+fn read_parameters(alloc: Global, given: &ArgMatches) -> Result<Vec<(String, i32)>, Refusal>
     ensures some { IfOk result
         (λ parameters. AreParametersIn (rows_of (found_of given.now)) parameters.items) }
     ensures usage { IfErr result (λ refusal. refusal ≡ refusals.Usage
         → (parameters : List Given) → ¬ AreParametersIn (rows_of (found_of given.now)) parameters) }
 {
     match given.get_strs("NAME=VALUE") {
-        Some(words) => parameters_among(alloc, words),
+        Some(words) => parse_parameters(alloc, words),
         None => Ok(Vec::new(alloc)),
     }
 }
 
 /// The values of parameters, one for each word.
-fn parameters_among(alloc: Global, words: &[&str]) -> Result<Vec<(String, i32)>, Refusal>
+fn parse_parameters(alloc: Global, words: &[&str]) -> Result<Vec<(String, i32)>, Refusal>
     ensures some { IfOk result
         (λ parameters. AreParameters (map (λ w. w.now) words.now) parameters.items) }
     ensures usage { IfErr result (λ refusal. refusal ≡ refusals.Usage
@@ -253,7 +253,7 @@ fn parameters_among(alloc: Global, words: &[&str]) -> Result<Vec<(String, i32)>,
 {
     let mut parameters = Vec::new(alloc);
     for word in words {
-        let Some((name, value)) = parameter(word) else {
+        let Some((name, value)) = parse_parameter(word) else {
             return Err(Refusal::Usage);
         };
         parameters.push((String::from_str(alloc, name)?, value))?;

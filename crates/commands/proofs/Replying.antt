@@ -1,10 +1,10 @@
 -- Commands that judge nothing write what they write also where their answer is told as what is found.
 use Rattle.std.proofs.Common.{◌≡◌, List, ℕ, Option, Result, Ok, Err, refl}
-use Rattle.inputs.specs.Outcomes.{CountsRead, CountsWritten, Refusing, Saying, Writes}
-use Rattle.inputs.specs.declared.faults.StreamFault.{StreamFault}
-use Rattle.inputs.specs.declared.faults.StreamFault.TheVariants as faults
+use Rattle.command_outcomes.specs.Outcomes.{CountsRead, CountsWritten, Refusing, Saying, Writes}
+use Rattle.command_faults.specs.declared.faults.StreamFault.{StreamFault}
+use Rattle.command_faults.specs.declared.faults.StreamFault.TheVariants as faults
 use Rattle.commands.specs.Sayings.{finding_none}
-use Rattle.fact_commands.specs.declared.found.Found.TheVariants.{NoFalse}
+use Rattle.fact_commands.specs.declared.finding.Finding.TheVariants.{NoFalse}
 use Rattle.commands.specs.inside.Questions.{none_false}
 
 pub none_false_writes : (Says : Saying (Unit {0})) (Refuses : Refusing) (known : Option (List ℕ)) (r : Result (Unit {0}) StreamFault)

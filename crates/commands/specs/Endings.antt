@@ -4,14 +4,15 @@ use Rattle.std.specs.declared.alloc.Global.{Global}
 use Rattle.std.specs.declared.string.String.{String}
 use Rattle.command_line.specs.Asking.{AskForMerge, IsRequestOf, NamesTask}
 use Rattle.command_line.specs.declared.words.Request.{Request}
-use Rattle.inputs.specs.FaultLines.{line_of}
-use Rattle.inputs.specs.Outcomes.{AppendsPartSaid, AppendsSaid, IsFirstFault, status_of}
-use Rattle.inputs.specs.Taking.{Puts}
-use Rattle.inputs.specs.declared.faults.StreamFault.{StreamFault}
-use Rattle.inputs.specs.declared.faults.StreamFault.TheVariants.{Farm}
-use Rattle.inputs.specs.declared.lines.FarmLine.{FarmLine}
+use Rattle.command_faults.specs.FaultLines.{line_of}
+use Rattle.command_outcomes.specs.Outcomes.{AppendsPartSaid, AppendsSaid, IsFirstFault}
+use Rattle.command_faults.specs.Statuses.{status_of}
+use Rattle.command_faults.specs.Taking.{Puts}
+use Rattle.command_faults.specs.declared.faults.StreamFault.{StreamFault}
+use Rattle.command_faults.specs.declared.faults.StreamFault.TheVariants.{Farm}
+use Rattle.command_faults.specs.declared.lines.FarmLine.{FarmLine}
 use Rattle.commands.specs.Sayings.{refusing_by, saying_by}
-use Rattle.fact_commands.specs.declared.found.Found.{Found}
+use Rattle.fact_commands.specs.declared.finding.Finding.{Finding}
 
 -- ---- words that request nothing
 
@@ -33,7 +34,7 @@ abbrev pub AskFor : List (String Global) → (Request → Type 0) → Type 0
 AskFor words Holds = (request : Request) × IsRequestOf words request × Holds request
 
 -- the command was run with the request's own parameters and options, and the writer took all of its output for this finding
-abbrev pub HasSaid : Found → Request → Option (List ℕ) → Option (List ℕ) → Option (List ℕ) → Type 0
+abbrev pub HasSaid : Finding → Request → Option (List ℕ) → Option (List ℕ) → Option (List ℕ) → Type 0
 HasSaid found request input old new = AppendsSaid (saying_by request) input found old new
 
 -- the writer failed, and took a part of the output

@@ -9,7 +9,7 @@ use Rattle.job.specs.Pipeline.{Stage, Pipeline}
 use Rattle.tile_boxes.specs.Costs.{cost}
 use Rattle.tile_boxes.specs.Costs.{AllFitScratch}
 use Rattle.tile_boxes.specs.Schedules.{IsSchedule}
-use Rattle.one_job.specs.Asked.{inlining_asked}
+use Rattle.command_jobs.specs.RequestedSchedule.{requested_inlining}
 
 -- ---- lines of stages
 
@@ -39,4 +39,4 @@ pub record IsPlan (job : Pipeline) (inlining : List Bool) (bytes : List ℕ) : T
 
 -- the output of `plan` for a job: the requested schedule
 abbrev pub SaysPlan : Bool → ℕ → List Declaration → Pipeline → List ℕ → Type 0
-SaysPlan stored percent tree job bytes = IsPlan job (inlining_asked stored percent job) bytes
+SaysPlan stored percent tree job bytes = IsPlan job (requested_inlining stored percent job) bytes

@@ -5,26 +5,28 @@ use Rattle.command_line.specs.declared.tasks.Task.{Task}
 use Rattle.command_line.specs.declared.tasks.Task.TheVariants.{Eval, Check, Plan, Run, Audit, World}
 use Rattle.command_line.specs.declared.words.Request.{Request}
 use Rattle.command_line.specs.declared.words.Request.TheVariants.{Merge, Job}
-use Rattle.inputs.specs.Giving.{Given}
-use Rattle.inputs.specs.Outcomes.{Refusing, Saying, refusing_audit, refusing_job, refusing_merge, saying_of_audit, saying_of_job}
+use Rattle.command_inputs.specs.Giving.{Given}
+use Rattle.command_outcomes.specs.Outcomes.{Refusing, Saying, refusing_job, saying_of_job}
+use Rattle.fact_commands.specs.FactFaults.{refusing_audit, refusing_merge}
+use Rattle.fact_commands.specs.FactSayings.{saying_of_audit}
 use Rattle.fact_commands.specs.Auditing.{SaysVerdicts}
 use Rattle.commands.specs.Listing.{SaysCheck}
 use Rattle.fact_commands.specs.Merging.{saying_join}
 use Rattle.commands.specs.Planning.{SaysPlan}
-use Rattle.results.specs.Results.{SaysResult}
-use Rattle.fact_commands.specs.declared.found.Found.{Found}
+use Rattle.command_jobs.specs.Results.{SaysResult}
+use Rattle.fact_commands.specs.declared.finding.Finding.{Finding}
 use Rattle.farm_commands.specs.RunFaults.{refusing_run}
-use Rattle.fact_commands.specs.declared.found.Found.TheVariants.{NoFalse}
+use Rattle.fact_commands.specs.declared.finding.Finding.TheVariants.{NoFalse}
 use Rattle.world_commands.specs.WorldFaults.{refusing_world}
 use Rattle.world_commands.specs.WorldSayings.{saying_of_world}
 
 -- a command that judges no fact finds none that is false
-abbrev pub finding_none : Saying (Unit {0}) → Saying Found
+abbrev pub finding_none : Saying (Unit {0}) → Saying Finding
 finding_none Says found input bytes = (found ≡ NoFalse) × Says tt input bytes
 
 -- ---- tasks on a program and a picture
 
-abbrev pub saying_of_task : Task → Options → List Given → Saying Found
+abbrev pub saying_of_task : Task → Options → List Given → Saying Finding
 saying_of_task Eval options given = finding_none (saying_of_job SaysResult given options.sides)
 saying_of_task Check options given = finding_none (saying_of_job SaysCheck given options.sides)
 saying_of_task Plan options given = finding_none (saying_of_job (SaysPlan options.stored options.percent) given options.sides)
@@ -42,7 +44,7 @@ refusing_of_task (World nodes) options given = refusing_world given options.side
 
 -- ---- requests
 
-abbrev pub saying_by : Request → Saying Found
+abbrev pub saying_by : Request → Saying Finding
 saying_by Merge = finding_none saying_join
 saying_by (Job request) = saying_of_task request.task request.options request.parameters.items
 

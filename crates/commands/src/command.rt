@@ -1,22 +1,23 @@
 //! Commands, and how they end.
 
 ghost use Rattle.std.specs.Prelude.{◌≡◌, ◌≢◌, ◌≤◌, ◌⊎◌};
-ghost use Rattle.inputs.specs.FaultLines.{line_of};
-ghost use Rattle.inputs.specs.Outcomes.{CountsRead, CountsWritten, Writes, status_of};
-ghost use Rattle.inputs.specs.Taking.{Puts};
+ghost use Rattle.command_faults.specs.FaultLines.{line_of};
+ghost use Rattle.command_outcomes.specs.Outcomes.{CountsRead, CountsWritten, Writes};
+ghost use Rattle.command_faults.specs.Statuses.{status_of};
+ghost use Rattle.command_faults.specs.Taking.{Puts};
 ghost use Rattle.streams.specs.Streams.{one_more};
 ghost use Rattle.commands.specs.Endings.{AskFor, AskForNothing, HasFarmFailed, HasSaid, HasSaidPart, HasTold};
 ghost use Rattle.commands.specs.Endings.{NamesCommand, usage_line};
 ghost use Rattle.commands.specs.Sayings.{refusing_by, saying_by};
-ghost use Rattle.fact_commands.specs.declared.found.Found.TheVariants.{AFalse, NoFalse};
-ghost use Rattle.inputs.specs.declared.faults.StreamFault.TheVariants.{Memory, Read};
+ghost use Rattle.fact_commands.specs.declared.finding.Finding.TheVariants.{AFalse, NoFalse};
+ghost use Rattle.command_faults.specs.declared.faults.StreamFault.TheVariants.{Memory, Read};
 
-use crate::found::none_false;
+use crate::finding::judge_nothing;
 use crate::task_stream::{check_stream, eval_stream, plan_stream};
-use command_line::{Refusal, Request, Task, request_of};
-use fact_commands::{Found, audit_stream, merge_stream};
+use command_faults::{StreamFault, write_line};
+use command_line::{Refusal, Request, Task, read_request};
+use fact_commands::{Finding, audit_stream, merge_stream};
 use farm_commands::run_stream;
-use inputs::{StreamFault, write_line};
 use std::sync::Wait;
 use std::thread::Threads;
 use streams::{Sink, Source, write_whole};
@@ -78,14 +79,14 @@ pub fn run_command<H: AllocGlobal + Threads + Wait + Sync, R: Source, W: Sink>(
     ensures known { result ≤ 6 }
     ensures read { result ≢ 4 → R.failures reader.new ≡ R.failures reader.old }
 {
-    match request_of(rt.alloc(), words) {
+    match read_request(rt.alloc(), words) {
         Ok(request) => run_request(rt, &request, reader, writer),
         Err(Refusal::Usage) => {
             show_usage(writer);
             1
         }
         Err(Refusal::Memory) => {
-            tell(&StreamFault::Memory, writer);
+            report_fault(&StreamFault::Memory, writer);
             5
         }
     }
@@ -130,10 +131,10 @@ fn run_request<H: AllocGlobal + Threads + Wait + Sync, R: Source, W: Sink>(
     ensures read { result ≢ 4 → R.failures reader.new ≡ R.failures reader.old }
 {
     match perform(rt, request, reader, writer) {
-        Ok(Found::NoFalse) => 0,
-        Ok(Found::AFalse) => 6,
+        Ok(Finding::NoFalse) => 0,
+        Ok(Finding::AFalse) => 6,
         Err(fault) => {
-            tell(&fault, writer);
+            report_fault(&fault, writer);
             fault.status()
         }
     }
@@ -145,27 +146,27 @@ fn perform<H: AllocGlobal + Threads + Wait + Sync, R: Source, W: Sink>(
     request: &Request,
     reader: &mut R,
     writer: &mut W,
-) -> Result<Found, StreamFault>
+) -> Result<Finding, StreamFault>
     ensures written { Writes (saying_by request.now) (refusing_by request.now)
         (R.remaining reader.old) result (W.contents writer.old) (W.contents writer.new) }
     ensures read { CountsRead result (R.failures reader.old) (R.failures reader.new) }
     ensures write { CountsWritten result (W.failures writer.old) (W.failures writer.new) }
 {
     match request {
-        Request::Merge => none_false(merge_stream(rt, reader, writer)),
+        Request::Merge => judge_nothing(merge_stream(rt, reader, writer)),
         Request::Job(request) => {
             let options = &request.options;
             let parameters = request.parameters.as_slice();
             match request.task {
-                Task::Eval => none_false(eval_stream(rt, options, parameters, reader, writer)),
-                Task::Check => none_false(check_stream(rt, options, parameters, reader, writer)),
-                Task::Plan => none_false(plan_stream(rt, options, parameters, reader, writer)),
+                Task::Eval => judge_nothing(eval_stream(rt, options, parameters, reader, writer)),
+                Task::Check => judge_nothing(check_stream(rt, options, parameters, reader, writer)),
+                Task::Plan => judge_nothing(plan_stream(rt, options, parameters, reader, writer)),
                 Task::Run(farm) => {
-                    none_false(run_stream(rt, &farm, options, parameters, reader, writer))
+                    judge_nothing(run_stream(rt, &farm, options, parameters, reader, writer))
                 }
                 Task::Audit => audit_stream(rt, options, parameters, reader, writer),
                 Task::World(nodes) => {
-                    none_false(world_stream(rt, nodes, options, parameters, reader, writer))
+                    judge_nothing(world_stream(rt, nodes, options, parameters, reader, writer))
                 }
             }
         }
@@ -173,7 +174,7 @@ fn perform<H: AllocGlobal + Threads + Wait + Sync, R: Source, W: Sink>(
 }
 
 /// Writes the fault's line, if the writer takes it.
-fn tell<W: Sink>(fault: &StreamFault, writer: &mut W)
+fn report_fault<W: Sink>(fault: &StreamFault, writer: &mut W)
     ensures { Puts (line_of fault.now) (W.contents writer.old) (W.contents writer.new)
         (W.failures writer.old) (W.failures writer.new) }
 {

@@ -3,11 +3,11 @@
 
 mod answer;
 mod command;
-mod found;
+mod finding;
 mod plan_lines;
 mod question;
+mod reply;
 mod stage_lines;
-mod task_reply;
 mod task_stream;
 
 pub use command::run_command;

@@ -12,7 +12,7 @@ use pipe_tokens::Name;
 use std::alloc::{AllocError, Global};
 
 /// A line for each function and each accumulator, in the order of the stages.
-pub fn plan_lines(alloc: Global, job: &Job, schedule: &Schedule) -> Result<Vec<u8>, AllocError>
+pub fn make_plan_lines(alloc: Global, job: &Job, schedule: &Schedule) -> Result<Vec<u8>, AllocError>
     requires { IsScheduleOf (pipeline_in job.now) schedule.now }
     ensures { IfOk result
         (λ lines. lines.items ≡ plan_bytes (pipeline_in job.now) schedule.now.inlining) }
@@ -39,14 +39,14 @@ fn put_plan(
 {
     match (job.kind(number), job.name(number)) {
         (Some(StageKind::Function | StageKind::Accumulator), Some(name)) => {
-            put_line(alloc, lines, &name, cost_of(job, schedule, number))
+            put_line(alloc, lines, &name, find_cost(job, schedule, number))
         }
         _ => Ok(()),
     }
 }
 
 /// What the stage of this number costs by the schedule.
-fn cost_of(job: &Job, schedule: &Schedule, number: usize) -> Option<u64>
+fn find_cost(job: &Job, schedule: &Schedule, number: usize) -> Option<u64>
     requires schedule { IsScheduleOf (pipeline_in job.now) schedule.now }
     requires there { number < length (pipeline_in job.now).stages }
     ensures { result ≡ cost (pipeline_in job.now) schedule.now.inlining number }

@@ -12,7 +12,7 @@ use job::{Body, Job, Stage};
 use std::alloc::{AllocError, Global};
 
 /// A line for the program's identity, one for that of its input, and one for each stage.
-pub fn check_lines(alloc: Global, job: &Job) -> Result<Vec<u8>, AllocError>
+pub fn make_check_lines(alloc: Global, job: &Job) -> Result<Vec<u8>, AllocError>
     ensures { IfOk result
         (λ lines. lines.items ≡ check_bytes (program_text_in job.now) (pipeline_in job.now)) }
 {
@@ -58,7 +58,7 @@ fn put_stage(alloc: Global, lines: &mut Vec<u8>, job: &Job, number: usize) -> Re
     match job.stage(number) {
         Some(stage) => {
             put_head(alloc, lines, number, stage)?;
-            put_domain(alloc, lines, stage.domain(), tile_count(job, number))
+            put_domain(alloc, lines, stage.domain(), count_tiles(job, number))
         }
         None => Ok(()),
     }
@@ -76,14 +76,14 @@ fn put_head(
 {
     let text = format!(in alloc; "stage {number} ")?;
     lines.extend_from_slice(text.as_bytes())?;
-    lines.extend_from_slice(kind_word(stage.body()))?;
+    lines.extend_from_slice(spell_kind(stage.body()))?;
     lines.push(b' ')?;
     lines.extend_from_slice(stage.name().as_bytes())?;
     Ok(())
 }
 
 /// The word for what a stage is.
-fn kind_word(body: &Body) -> &'static [u8]
+fn spell_kind(body: &Body) -> &'static [u8]
     ensures { result.now ≡ kind_word (body_view body.now) }
 {
     match body {
@@ -119,7 +119,7 @@ fn put_span(alloc: Global, lines: &mut Vec<u8>, span: &Span) -> Result<(), Alloc
 }
 
 /// How many tiles the stage of this number has.
-fn tile_count(job: &Job, number: usize) -> u64
+fn count_tiles(job: &Job, number: usize) -> u64
     ensures { result ≡ length (tiles (pipeline_in job.now) number) }
 {
     match job.grid(number) {

@@ -1,19 +1,17 @@
 //! The commands as they are run: from a reader to a writer.
 
-ghost use Rattle.std.specs.Prelude.{IfOk, IfErr};
-ghost use Rattle.inputs.specs.Faults.{IsFaultOf};
-ghost use Rattle.inputs.specs.Outcomes.{CountsRead, CountsWritten, IsSaid, Writes, refusing_job, saying_of_job};
+ghost use Rattle.command_outcomes.specs.Outcomes.{CountsRead, CountsWritten, Writes, refusing_job, saying_of_job};
 ghost use Rattle.commands.specs.Listing.{SaysCheck};
 ghost use Rattle.commands.specs.Planning.{SaysPlan};
 ghost use Rattle.commands.specs.inside.Questions.{saying_of};
-ghost use Rattle.results.specs.Replies.{reply_bytes};
-ghost use Rattle.results.specs.Results.{SaysResult};
+ghost use Rattle.command_jobs.specs.Results.{SaysResult};
 
-use crate::question::{Asked, Question};
-use crate::task_reply::task_reply;
+use crate::question::Question;
+use crate::reply::compute_reply;
+use command_faults::StreamFault;
+use command_inputs::read_job;
 use command_line::Options;
-use inputs::{StreamFault, job_of, read_input};
-use results::{Reply, write_reply};
+use command_outcomes::{read_input, write_reply};
 use std::thread::Threads;
 use streams::{Sink, Source};
 
@@ -37,8 +35,7 @@ pub fn check_stream<H: AllocGlobal + Threads + Sync, R: Source, W: Sink>(
     ensures read { CountsRead result (R.failures reader.old) (R.failures reader.new) }
     ensures write { CountsWritten result (W.failures writer.old) (W.failures writer.new) }
 {
-    let asked = Question::Stages.with(options, parameters);
-    task_stream(rt, &asked, reader, writer)
+    answer_question(rt, Question::Stages, options, parameters, reader, writer)
 }
 
 /// Reads a program and a picture, and writes the result of running the program on the picture. It is the picture of the output,
@@ -61,8 +58,7 @@ pub fn eval_stream<H: AllocGlobal + Threads + Sync, R: Source, W: Sink>(
     ensures read { CountsRead result (R.failures reader.old) (R.failures reader.new) }
     ensures write { CountsWritten result (W.failures writer.old) (W.failures writer.new) }
 {
-    let asked = Question::Answer.with(options, parameters);
-    task_stream(rt, &asked, reader, writer)
+    answer_question(rt, Question::Answer, options, parameters, reader, writer)
 }
 
 /// Reads a program and a picture, and writes a line for each function and each accumulator. It says that it is inlined, or that
@@ -85,42 +81,27 @@ pub fn plan_stream<H: AllocGlobal + Threads + Sync, R: Source, W: Sink>(
     ensures read { CountsRead result (R.failures reader.old) (R.failures reader.new) }
     ensures write { CountsWritten result (W.failures writer.old) (W.failures writer.new) }
 {
-    let asked = Question::Plan.with(options, parameters);
-    task_stream(rt, &asked, reader, writer)
+    answer_question(rt, Question::Plan, options, parameters, reader, writer)
 }
 
 /// Reads the input, and writes the reply to a question about its job. All is computed before the first byte is written.
-fn task_stream<H: AllocGlobal + Threads + Sync, R: Source, W: Sink>(
+fn answer_question<H: AllocGlobal + Threads + Sync, R: Source, W: Sink>(
     rt: &H,
-    asked: &Asked<'_>,
+    question: Question,
+    options: &Options,
+    parameters: &[(String, i32)],
     reader: &mut R,
     writer: &mut W,
 ) -> Result<(), StreamFault>
-    ensures written { let options = asked.now.options.now in
-        Writes (saying_of_job (saying_of asked.now.question options.stored options.percent)
-        asked.now.parameters.now options.sides)
-        (refusing_job asked.now.parameters.now options.sides)
+    ensures written { Writes
+        (saying_of_job (saying_of question options.now.stored options.now.percent)
+        parameters.now options.now.sides) (refusing_job parameters.now options.now.sides)
         (R.remaining reader.old) result (W.contents writer.old) (W.contents writer.new) }
     ensures read { CountsRead result (R.failures reader.old) (R.failures reader.new) }
     ensures write { CountsWritten result (W.failures writer.old) (W.failures writer.new) }
 {
     let input = read_input(rt.alloc(), reader)?;
-    let reply = input_reply(rt, asked, input)?;
+    let job = read_job(rt.alloc(), options.sides, parameters, input)?;
+    let reply = compute_reply(rt, question, options, job)?;
     Ok(write_reply(&reply, writer)?)
-}
-
-/// The reply to a question about the job of the input.
-fn input_reply<H: AllocGlobal + Threads + Sync>(
-    rt: &H,
-    asked: &Asked<'_>,
-    input: Vec<u8>,
-) -> Result<Reply, StreamFault>
-    ensures said { let options = asked.now.options.now in IfOk result (λ reply. IsSaid
-        (saying_of asked.now.question options.stored options.percent)
-        asked.now.parameters.now options.sides input.items (reply_bytes reply)) }
-    ensures fault { IfErr result
-        (IsFaultOf input.items asked.now.parameters.now asked.now.options.now.sides) }
-{
-    let job = job_of(rt.alloc(), asked.options.sides, asked.parameters, input)?;
-    Ok(task_reply(rt, asked, job)?)
 }

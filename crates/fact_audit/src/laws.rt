@@ -10,18 +10,18 @@ ghost use Rattle.job.specs.Pipeline.{Pipeline};
 ghost use Rattle.tile_fact.specs.declared.fact.Fact.{Fact};
 
 /// A key has at most one true fact.
-pub fn one_true_fact()
+pub fn keys_have_one_true_fact()
     ensures { (catalog : List Entry) (a b : Fact) → IsCatalog catalog → IsTrueFact catalog a
         → IsTrueFact catalog b → a.key ≡ b.key → a ≡ b }
 {}
 
 /// A true fact has the kind and the count of its tile.
-pub fn true_facts_fit()
+pub fn true_facts_fit_their_tiles()
     ensures { (job : Pipeline) (fact : Fact) → IsTrueOf fact job → FitsJob fact job }
 {}
 
 /// No fact has two verdicts. So a true fact is judged true, one of no job foreign, and one that does not fit misshapen.
-pub fn one_verdict()
+pub fn facts_have_one_verdict()
     ensures { (catalog : List Entry) (fact : Fact) (v w : Verdict) → IsCatalog catalog
         → IsVerdict catalog fact v → IsVerdict catalog fact w → v ≡ w }
 {}

@@ -9,6 +9,6 @@ mod truth;
 mod verdict;
 
 pub use several::audit_all;
-pub use shape::shape_ok;
-pub use single::{audit, job_of};
+pub use shape::is_well_shaped;
+pub use single::{audit, find_job_of_key};
 pub use verdict::Verdict;

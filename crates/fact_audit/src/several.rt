@@ -5,7 +5,7 @@ ghost use Rattle.catalog.specs.Entries.{entry_of, ids_in};
 ghost use Rattle.fact_audit.specs.Verdicts.{AreVerdicts, IsVerdict};
 ghost use Rattle.fact_audit.specs.inside.Ready.{AreNamed, AreReady, AreStagesFor, IsReady};
 
-use crate::truth::verdict_by;
+use crate::truth::judge_by_stages;
 use crate::verdict::Verdict;
 use catalog::{Catalog, ids_of};
 use identity::{Ids, Key};
@@ -28,16 +28,16 @@ pub fn audit_all(
 ) -> Result<Vec<Verdict>, AllocError>
     ensures { IfOk result (λ verdicts. AreVerdicts catalog.now facts.now verdicts.items) }
 {
-    let known = all_stages(alloc, catalog, facts)?;
+    let known = compute_all_stages(alloc, catalog, facts)?;
     let mut verdicts = Vec::with_capacity(alloc, facts.len())?;
     for fact in facts {
-        verdicts.push(verdict_among(alloc, catalog, &known, fact)?)?;
+        verdicts.push(judge_among_jobs(alloc, catalog, &known, fact)?)?;
     }
     Ok(verdicts)
 }
 
 // The verdict on a fact, for which all is computed.
-fn verdict_among(
+fn judge_among_jobs(
     alloc: Global,
     catalog: &Catalog,
     known: &[TrueStages<'_>],
@@ -47,13 +47,13 @@ fn verdict_among(
     ensures { IfOk result (IsVerdict catalog.now fact.now) }
 {
     match catalog.find(&Ids::of_key(fact.key())) {
-        Some(index) => verdict_by(alloc, &known[index], fact),
+        Some(index) => judge_by_stages(alloc, &known[index], fact),
         None => Ok(Verdict::Foreign),
     }
 }
 
 // The stages of each job that facts name, in the order of the jobs.
-fn all_stages<'a>(
+fn compute_all_stages<'a>(
     alloc: Global,
     catalog: &'a Catalog,
     facts: &[Fact],
@@ -65,27 +65,31 @@ fn all_stages<'a>(
         let Some(job) = catalog.job(index) else {
             unreachable!();
         };
-        known.push(stages_for(alloc, job, facts)?)?;
+        known.push(compute_named_stages(alloc, job, facts)?)?;
     }
     Ok(known)
 }
 
 // The stages of a job that facts name, and what these read.
-fn stages_for<'a>(alloc: Global, job: &'a Job, facts: &[Fact]) -> Result<TrueStages<'a>, AllocError>
+fn compute_named_stages<'a>(
+    alloc: Global,
+    job: &'a Job,
+    facts: &[Fact],
+) -> Result<TrueStages<'a>, AllocError>
     ensures { IfOk result (AreStagesFor facts.now (entry_of job.now)) }
 {
-    let stages = named_stages(alloc, &ids_of(job), facts)?;
+    let stages = list_named_stages(alloc, &ids_of(job), facts)?;
     TrueStages::of(alloc, job, &stages)
 }
 
 // The stages that facts name of the job of these identities.
-fn named_stages(alloc: Global, ids: &Ids, facts: &[Fact]) -> Result<Vec<usize>, AllocError>
+fn list_named_stages(alloc: Global, ids: &Ids, facts: &[Fact]) -> Result<Vec<usize>, AllocError>
     ensures { IfOk result (λ stages. AreNamed ids.now facts.now stages.items) }
 {
     let mut stages = Vec::new(alloc);
     for fact in facts {
         let key = fact.key();
-        if has_ids(key, ids) {
+        if is_key_of_job(key, ids) {
             stages.push(usize::from(key.stage))?;
         }
     }
@@ -93,7 +97,7 @@ fn named_stages(alloc: Global, ids: &Ids, facts: &[Fact]) -> Result<Vec<usize>, 
 }
 
 // Whether the key names the job of these identities.
-fn has_ids(key: &Key, ids: &Ids) -> bool
+fn is_key_of_job(key: &Key, ids: &Ids) -> bool
     ensures { IsTrue result ↔ ids.now ≡ ids_in key.now }
 {
     ids.program.as_bytes() == key.program.as_bytes() && ids.input.as_bytes() == key.input.as_bytes()

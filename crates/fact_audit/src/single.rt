@@ -4,8 +4,8 @@ ghost use Rattle.std.specs.Prelude.{ℕ, IfOk, IfSome, IfNone};
 ghost use Rattle.catalog.specs.Entries.{IsCatalog, StandsAt, entry_of, ids_in};
 ghost use Rattle.fact_audit.specs.Verdicts.{HasEntry, IsVerdict};
 
-use crate::shape::shape_ok;
-use crate::truth::verdict_by;
+use crate::shape::is_well_shaped;
+use crate::truth::judge_by_stages;
 use crate::verdict::Verdict;
 use catalog::Catalog;
 use identity::{Ids, Key};
@@ -22,18 +22,18 @@ use tile_fact::Fact;
 pub fn audit(alloc: Global, catalog: &Catalog, fact: &Fact) -> Result<Verdict, AllocError>
     ensures { IfOk result (IsVerdict catalog.now fact.now) }
 {
-    let Some(job) = job_of(catalog, fact.key()) else {
+    let Some(job) = find_job_of_key(catalog, fact.key()) else {
         return Ok(Verdict::Foreign);
     };
-    if !shape_ok(job, fact) {
+    if !is_well_shaped(job, fact) {
         return Ok(Verdict::Misshapen);
     }
     let stages = TrueStages::of(alloc, job, &[usize::from(fact.key().stage)])?;
-    verdict_by(alloc, &stages, fact)
+    judge_by_stages(alloc, &stages, fact)
 }
 
 /// The job whose identities the key names. Nothing is hashed, and no memory is allocated.
-pub fn job_of<'a>(catalog: &'a Catalog, key: &Key) -> Option<&'a Job>
+pub fn find_job_of_key<'a>(catalog: &'a Catalog, key: &Key) -> Option<&'a Job>
     ensures some { IfSome result (λ job. HasEntry catalog.now key.now (entry_of job.now)) }
     ensures none { IfNone result ((i : ℕ) → ¬ (StandsAt catalog.now (ids_in key.now) i)) }
     ensures catalog { IsCatalog catalog.now }

@@ -7,9 +7,9 @@ ghost use Rattle.fact_audit.specs.Verdicts.{IsJobVerdict};
 ghost use Rattle.job.specs.Kept.{pipeline_in};
 ghost use Rattle.tile_eval.specs.Buffer.{IsServed};
 
-use crate::shape::shape_ok;
+use crate::shape::is_well_shaped;
 use crate::verdict::Verdict;
-use reductions::partial_of;
+use reductions::compute_true_partial;
 use std::alloc::{AllocError, Global};
 use tile_eval::TrueStages;
 use tile_fact::{Body, Fact};
@@ -19,7 +19,7 @@ use tile_fact::{Body, Fact};
 /// # Errors
 ///
 /// Fails only where memory is refused.
-pub(crate) fn verdict_by(
+pub(crate) fn judge_by_stages(
     alloc: Global,
     stages: &TrueStages<'_>,
     fact: &Fact,
@@ -28,17 +28,17 @@ pub(crate) fn verdict_by(
         fact.now.key.stage }
     ensures { IfOk result (IsJobVerdict (pipeline_in stages.now.job.now) fact.now) }
 {
-    if !shape_ok(stages.job(), fact) {
+    if !is_well_shaped(stages.job(), fact) {
         return Ok(Verdict::Misshapen);
     }
-    if is_true(alloc, stages, fact)? {
+    if is_true_of_job(alloc, stages, fact)? {
         return Ok(Verdict::True);
     }
     Ok(Verdict::False)
 }
 
 // Whether a fact is true of the job.
-fn is_true(alloc: Global, stages: &TrueStages<'_>, fact: &Fact) -> Result<bool, AllocError>
+fn is_true_of_job(alloc: Global, stages: &TrueStages<'_>, fact: &Fact) -> Result<bool, AllocError>
     requires { IsServed (pipeline_in stages.now.job.now) stages.now.known.buffers.items
         fact.now.key.stage }
     ensures { IfOk result (λ is. IsTrue is ↔ IsTrueOf fact.now (pipeline_in stages.now.job.now)) }
@@ -47,23 +47,23 @@ fn is_true(alloc: Global, stages: &TrueStages<'_>, fact: &Fact) -> Result<bool, 
     let stage = usize::from(key.stage);
     match fact.body() {
         Body::Tile(samples) => match stages.tile(alloc, stage, key.row, key.col)? {
-            Some(values) => Ok(same_samples(samples.as_slice(), &values)),
+            Some(values) => Ok(has_same_samples(samples.as_slice(), &values)),
             None => Ok(false),
         },
-        Body::Partial(bins) => match partial_of(alloc, stages, stage, key.row, key.col)? {
-            Some(totals) => Ok(same_bins(bins.as_slice(), &totals)),
+        Body::Partial(bins) => match compute_true_partial(alloc, stages, stage, key.row, key.col)? {
+            Some(totals) => Ok(has_same_bins(bins.as_slice(), &totals)),
             None => Ok(false),
         },
     }
 }
 
-fn same_samples(samples: &[i32], values: &Vec<i32>) -> bool
+fn has_same_samples(samples: &[i32], values: &Vec<i32>) -> bool
     ensures { IsTrue result ↔ samples.now ≡ values.now.items }
 {
     samples == values.as_slice()
 }
 
-fn same_bins(bins: &[i64], totals: &Vec<i64>) -> bool
+fn has_same_bins(bins: &[i64], totals: &Vec<i64>) -> bool
     ensures { IsTrue result ↔ bins.now ≡ totals.now.items }
 {
     bins == totals.as_slice()

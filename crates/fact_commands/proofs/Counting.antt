@@ -6,8 +6,8 @@ use Rattle.std.specs.List.{All, Contains}
 use Rattle.fact_lines.proofs.GatheringLaws.{no_empty_file}
 use Rattle.fact_lines.specs.Texts.{IsFileLine, IsGoodLine, IsJoin, IsOnLines, lines}
 use Rattle.identity.specs.declared.job_ids.Ids.{Ids}
-use Rattle.inputs.specs.Faults.{IsMergeFault}
-use Rattle.inputs.specs.declared.faults.StreamFault.TheVariants.{Memory}
+use Rattle.fact_commands.specs.FactFaults.{IsMergeFault}
+use Rattle.command_faults.specs.declared.faults.StreamFault.TheVariants.{Memory}
 use Rattle.tile_fact.specs.declared.fact.Fact.{Fact}
 
 -- a line that has something is digits, and those before it are good

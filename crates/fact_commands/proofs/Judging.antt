@@ -5,22 +5,22 @@ use Rattle.domains.specs.Sides.{Sides}
 use Rattle.fact_audit.specs.Verdicts.{AreVerdicts}
 use Rattle.fact_audit.specs.declared.verdict.Verdict.{Verdict}
 use Rattle.identity.specs.declared.job_ids.Ids.{Ids}
-use Rattle.inputs.specs.Giving.{Given}
-use Rattle.inputs.specs.Input.{IsReadAudit}
-use Rattle.inputs.specs.Outcomes.{IsSaidOfAudit}
+use Rattle.command_inputs.specs.Giving.{Given}
+use Rattle.fact_commands.specs.FactInput.{IsReadAudit}
+use Rattle.fact_commands.specs.FactSayings.{IsSaidOfAudit}
 use Rattle.job.specs.Kept.{pipeline_in}
 use Rattle.job.specs.WellFormed.{IsJob}
 use Rattle.job.specs.declared.job.Job.{Job}
 use Rattle.tile_fact.specs.declared.fact.Fact.{Fact}
-use Rattle.one_job.specs.Alone.{catalog_of}
+use Rattle.command_inputs.specs.JobCatalog.{catalog_of}
 use Rattle.fact_commands.specs.Auditing.{SaysVerdicts}
-use Rattle.fact_commands.specs.Verdicts.{IsFound, audit_lines}
-use Rattle.fact_commands.specs.declared.found.Found.{Found}
+use Rattle.fact_commands.specs.Verdicts.{IsFinding, audit_lines}
+use Rattle.fact_commands.specs.declared.finding.Finding.{Finding}
 
 pub judged_said : (input : List ℕ) (given : List Given) (sides : Sides) (job : Job) (retired : List Ids) (facts : List Fact)
     (catalog : List Entry)
-    (verdicts : List Verdict) (found : Found) → IsReadAudit input given sides job retired facts → IsJob (pipeline_in job)
-    → catalog ≡ entry_of job ∷ [] → AreVerdicts catalog facts verdicts → IsFound found verdicts
+    (verdicts : List Verdict) (found : Finding) → IsReadAudit input given sides job retired facts → IsJob (pipeline_in job)
+    → catalog ≡ entry_of job ∷ [] → AreVerdicts catalog facts verdicts → IsFinding found verdicts
     → IsSaidOfAudit SaysVerdicts given sides found input (audit_lines facts verdicts retired)
 judged_said input given sides job retired facts catalog verdicts found read is same judged finds =
     let one : entry_of job ∷ [] ≡ catalog_of read.tree (pipeline_in job) =

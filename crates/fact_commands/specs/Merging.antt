@@ -3,7 +3,7 @@ use Rattle.std.specs.Prelude.{◌≡◌, ℕ, List}
 use Rattle.fact_lines.specs.Texts.{IsJoin}
 use Rattle.fact_lines.specs.Written.{written}
 use Rattle.identity.specs.declared.job_ids.Ids.{Ids}
-use Rattle.inputs.specs.Outcomes.{Saying}
+use Rattle.command_outcomes.specs.Outcomes.{Saying}
 use Rattle.tile_fact.specs.declared.fact.Fact.{Fact}
 
 -- the line of their join

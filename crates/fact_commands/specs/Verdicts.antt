@@ -8,8 +8,8 @@ use Rattle.hex.specs.Hex.{encode_lower}
 use Rattle.identity.specs.declared.job_ids.Ids.{Ids}
 use Rattle.identity.specs.declared.key.Key.{Key}
 use Rattle.tile_fact.specs.declared.fact.Fact.{Fact}
-use Rattle.fact_commands.specs.declared.found.Found.{Found}
-use Rattle.fact_commands.specs.declared.found.Found.TheVariants.{NoFalse, AFalse}
+use Rattle.fact_commands.specs.declared.finding.Finding.{Finding}
+use Rattle.fact_commands.specs.declared.finding.Finding.TheVariants.{NoFalse, AFalse}
 
 -- ---- lines of facts
 
@@ -44,6 +44,6 @@ audit_lines facts verdicts retired = verdict_lines facts verdicts ++ flat_map re
 -- ---- what they found
 
 -- a fact is false, or none is
-abbrev pub IsFound : Found → List Verdict → Type 0
-IsFound AFalse verdicts = Contains verdicts False
-IsFound NoFalse verdicts = ¬ (Contains verdicts False)
+abbrev pub IsFinding : Finding → List Verdict → Type 0
+IsFinding AFalse verdicts = Contains verdicts False
+IsFinding NoFalse verdicts = ¬ (Contains verdicts False)

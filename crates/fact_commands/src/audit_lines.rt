@@ -71,13 +71,13 @@ fn put_job<W: Sink>(buffer: &mut WriteBuffer, writer: &mut W, job: &Ids) -> Resu
         (W.contents writer.old) (W.contents writer.new)
         (W.failures writer.old) (W.failures writer.new) }
 {
-    let program = digits_of(job.program.as_bytes());
-    let input = digits_of(job.input.as_bytes());
+    let program = encode_digits(job.program.as_bytes());
+    let input = encode_digits(job.input.as_bytes());
     buffer.put_parts(writer, &[b"Retired ", &program, b" ", &input, b"\n"])
 }
 
 // Two lower-case hexadecimal digits for each byte.
-fn digits_of(bytes: &[u8; 32]) -> [u8; 64]
+fn encode_digits(bytes: &[u8; 32]) -> [u8; 64]
     ensures { result ≡ encode_lower bytes.now }
 {
     let mut digits = [0; 64];
@@ -121,7 +121,7 @@ fn put_verdict<W: Sink>(
     buffer.put_parts(
         writer,
         &[
-            verdict_word(verdict),
+            spell_verdict(verdict),
             b" ",
             stages.format(key.stage).as_bytes(),
             b" ",
@@ -133,7 +133,7 @@ fn put_verdict<W: Sink>(
     )
 }
 
-fn verdict_word(verdict: Verdict) -> &'static [u8]
+fn spell_verdict(verdict: Verdict) -> &'static [u8]
     ensures { result.now ≡ verdict_word verdict }
 {
     match verdict {

@@ -1,13 +1,16 @@
 //! Fact files as they are audited: from a reader to a writer.
 
-ghost use Rattle.inputs.specs.Outcomes.{CountsRead, CountsWritten, Writes, refusing_audit, saying_of_audit};
+ghost use Rattle.command_outcomes.specs.Outcomes.{CountsRead, CountsWritten, Writes};
+ghost use Rattle.fact_commands.specs.FactFaults.{refusing_audit};
+ghost use Rattle.fact_commands.specs.FactSayings.{saying_of_audit};
 ghost use Rattle.fact_commands.specs.Auditing.{SaysVerdicts};
 
 use crate::audit::judge;
 use crate::audit_lines::write_audit;
-use crate::found::Found;
+use crate::finding::Finding;
+use command_faults::StreamFault;
 use command_line::Options;
-use inputs::{StreamFault, read_input};
+use command_outcomes::read_input;
 use streams::{Sink, Source};
 
 /// Reads a program, fact files and a picture. Writes a line for each fact of the files, rising: the verdict, its stage, its row
@@ -23,7 +26,7 @@ pub fn audit_stream<H: AllocGlobal, R: Source, W: Sink>(
     parameters: &[(String, i32)],
     reader: &mut R,
     writer: &mut W,
-) -> Result<Found, StreamFault>
+) -> Result<Finding, StreamFault>
     // At `Ok` the writer took all lines, one of which is of a false fact exactly if the result says so. If the writer failed, it
     // took a part of such lines. At any other fault nothing is written, and the fault is the first of the input and the
     // parameters.

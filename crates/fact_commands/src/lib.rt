@@ -4,9 +4,11 @@
 mod audit;
 mod audit_lines;
 mod audits;
-mod found;
+mod fact_input;
+mod finding;
 mod merges;
 
 pub use audits::audit_stream;
-pub use found::Found;
+pub use fact_input::{read_audit, read_contents};
+pub use finding::Finding;
 pub use merges::merge_stream;

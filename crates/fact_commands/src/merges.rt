@@ -3,12 +3,15 @@
 ghost use Rattle.std.specs.Prelude.{◌≡◌, IfOk, IfErr, length};
 ghost use Rattle.fact_lines.specs.Texts.{IsJoin};
 ghost use Rattle.fact_lines.specs.Written.{AreCounts};
-ghost use Rattle.inputs.specs.Faults.{IsMergeFault};
-ghost use Rattle.inputs.specs.Outcomes.{CountsRead, CountsWritten, Writes, refusing_merge};
+ghost use Rattle.fact_commands.specs.FactFaults.{IsMergeFault};
+ghost use Rattle.command_outcomes.specs.Outcomes.{CountsRead, CountsWritten, Writes};
+ghost use Rattle.fact_commands.specs.FactFaults.{refusing_merge};
 ghost use Rattle.fact_commands.specs.Merging.{saying_join};
 
-use fact_lines::{Contents, Counts, counts_of, write_line};
-use inputs::{StreamFault, contents_of, read_input};
+use crate::fact_input::read_contents;
+use command_faults::StreamFault;
+use command_outcomes::read_input;
+use fact_lines::{Contents, FileCounts, count_contents, write_fact_line};
 use std::alloc::Global;
 use streams::{Sink, Source};
 
@@ -31,20 +34,20 @@ pub fn merge_stream<H: AllocGlobal, R: Source, W: Sink>(
     ensures write { CountsWritten result (W.failures writer.old) (W.failures writer.new) }
 {
     let input = read_input(rt.alloc(), reader)?;
-    let (contents, counts) = counted_join(rt.alloc(), input)?;
-    Ok(write_line(&contents.retired, &contents.facts, counts, writer)?)
+    let (contents, counts) = join_and_count(rt.alloc(), input)?;
+    Ok(write_fact_line(&contents.retired, &contents.facts, counts, writer)?)
 }
 
 /// The join of the files, and its counts. The input is freed.
-fn counted_join(alloc: Global, input: Vec<u8>) -> Result<(Contents, Counts), StreamFault>
+fn join_and_count(alloc: Global, input: Vec<u8>) -> Result<(Contents, FileCounts), StreamFault>
     ensures join { IfOk result
         (λ counted. IsJoin input.items counted.0.retired.items counted.0.facts.items) }
     ensures counts { IfOk result
         (λ counted. AreCounts counted.1 counted.0.retired.items counted.0.facts.items) }
     ensures fault { IfErr result (IsMergeFault input.items) }
 {
-    let contents = contents_of(alloc, input)?;
-    match counts_of(&contents.retired, &contents.facts) {
+    let contents = read_contents(alloc, input)?;
+    match count_contents(&contents.retired, &contents.facts) {
         Some(counts) => Ok((contents, counts)),
         None => Err(StreamFault::Memory),
     }

@@ -4,13 +4,13 @@ use Rattle.hex.specs.Hex.{encode_lower}
 use Rattle.identity.specs.declared.job_ids.Ids.{Ids}
 use Rattle.tile_fact.specs.declared.fact.Fact.{Fact}
 use Rattle.tile_fact.specs.FactFile.{fact_file}
-use Rattle.fact_lines.specs.declared.writing.Counts.{Counts}
+use Rattle.fact_lines.specs.declared.writing.FileCounts.{FileCounts}
 
 -- their file in lower-case hexadecimal digits, and a line feed
 abbrev pub written : List Ids → List Fact → List ℕ
 written retired facts = encode_lower (fact_file retired facts) ++ 10 ∷ []
 
 -- the counts are those of the lists
-pub record AreCounts (counts : Counts) (retired : List Ids) (facts : List Fact) : Type 0 where
+pub record AreCounts (counts : FileCounts) (retired : List Ids) (facts : List Fact) : Type 0 where
   pub of_retired : counts.retired ≡ length retired
   pub of_facts : counts.facts ≡ length facts

@@ -11,7 +11,7 @@ use streams::{Sink, WriteFailed};
 use write_buffer::WriteBuffer;
 
 /// Puts the digits of the magic, and of the retired jobs where there are any.
-pub fn put_head<W: Sink>(
+pub fn put_hex_head<W: Sink>(
     buffer: &mut WriteBuffer,
     writer: &mut W,
     count: u32,
@@ -26,11 +26,11 @@ pub fn put_head<W: Sink>(
         buffer.put_hex(writer, b"PTF1")
     } else {
         buffer.put_hex_parts(writer, &[b"PTF2", &count.to_be_bytes()])?;
-        put_jobs(buffer, writer, retired)
+        put_hex_jobs(buffer, writer, retired)
     }
 }
 
-fn put_jobs<W: Sink>(
+fn put_hex_jobs<W: Sink>(
     buffer: &mut WriteBuffer,
     writer: &mut W,
     jobs: &[Ids],
@@ -40,12 +40,16 @@ fn put_jobs<W: Sink>(
         (W.failures writer.old) (W.failures writer.new) }
 {
     for job in jobs {
-        put_job(buffer, writer, job)?;
+        put_hex_job(buffer, writer, job)?;
     }
     Ok(())
 }
 
-fn put_job<W: Sink>(buffer: &mut WriteBuffer, writer: &mut W, job: &Ids) -> Result<(), WriteFailed>
+fn put_hex_job<W: Sink>(
+    buffer: &mut WriteBuffer,
+    writer: &mut W,
+    job: &Ids,
+) -> Result<(), WriteFailed>
     ensures { Puts result (encode_lower (ids_bytes job.now)) buffer.old buffer.new
         (W.contents writer.old) (W.contents writer.new)
         (W.failures writer.old) (W.failures writer.new) }

@@ -11,7 +11,7 @@ ghost use Rattle.tile_fact.specs.FactFile.{is_retired};
 use crate::contents::Contents;
 use crate::distinct::sort_once;
 use crate::fault::LinesFault;
-use crate::line::add_line;
+use crate::line::add_fact_line;
 use identity::Ids;
 use std::alloc::Global;
 use tile_fact::Fact;
@@ -21,7 +21,7 @@ use tile_fact::Fact;
 ///
 /// Each line ends with LF or at the end of the text. It is one file in hexadecimal digits of either case, or empty and skipped. A
 /// text of no file has neither. A line's bad digits are found without any memory.
-pub fn join_of(alloc: Global, text: &[u8]) -> Result<Contents, LinesFault>
+pub fn join_fact_files(alloc: Global, text: &[u8]) -> Result<Contents, LinesFault>
     // The lists are what the text's files hold together.
     ensures found { IfOk result (λ contents. IsJoin text.now contents.retired.items contents.facts.items) }
 
@@ -31,15 +31,15 @@ pub fn join_of(alloc: Global, text: &[u8]) -> Result<Contents, LinesFault>
     let Contents {
         mut retired,
         mut facts,
-    } = read_files(alloc, text)?;
+    } = read_fact_lines(alloc, text)?;
     sort_once(&mut retired);
     sort_once(&mut facts);
-    leave_out(&retired, &mut facts);
+    remove_facts_of_jobs(&retired, &mut facts);
     Ok(Contents { retired, facts })
 }
 
 // The retired jobs and the facts of all files in the order of the text.
-fn read_files(alloc: Global, text: &[u8]) -> Result<Contents, LinesFault>
+fn read_fact_lines(alloc: Global, text: &[u8]) -> Result<Contents, LinesFault>
     ensures found { IfOk result
         (λ contents. Gathers (lines text.now) contents.retired.items contents.facts.items) }
     ensures fault { IfErr result (IsFault text.now) }
@@ -51,21 +51,21 @@ fn read_files(alloc: Global, text: &[u8]) -> Result<Contents, LinesFault>
     let mut number = 0;
     for line in text.split(|byte| *byte == b'\n') {
         number += 1;
-        add_line(alloc, number, line, &mut contents)?;
+        add_fact_line(alloc, number, line, &mut contents)?;
     }
     Ok(contents)
 }
 
 // Removes the facts of these jobs, which rise, from the list.
-fn leave_out(jobs: &[Ids], facts: &mut Vec<Fact>)
+fn remove_facts_of_jobs(jobs: &[Ids], facts: &mut Vec<Fact>)
     ensures { IsStrictlySortedBy ids_cmp jobs.now
         → facts.new.items ≡ filter (λ fact. not (is_retired jobs.now fact)) facts.old.items }
 {
-    facts.retain(|fact| !is_among(jobs, fact));
+    facts.retain(|fact| !has_job_of_fact(jobs, fact));
 }
 
 // Whether the fact is of one of these jobs, if they rise.
-fn is_among(jobs: &[Ids], fact: &Fact) -> bool
+fn has_job_of_fact(jobs: &[Ids], fact: &Fact) -> bool
     ensures { IsStrictlySortedBy ids_cmp jobs.now → result ≡ is_retired jobs.now fact.now }
 {
     jobs.binary_search(&Ids::of_key(fact.key())).is_ok()

@@ -12,5 +12,5 @@ mod writing;
 
 pub use contents::Contents;
 pub use fault::LinesFault;
-pub use join::join_of;
-pub use writing::{Counts, counts_of, put_line, write_line};
+pub use join::join_fact_files;
+pub use writing::{FileCounts, count_contents, put_fact_line, write_fact_line};

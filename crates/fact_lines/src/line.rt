@@ -11,7 +11,7 @@ use std::alloc::Global;
 use tile_fact::{FactFault, FactFile, decode};
 
 /// Adds what the line of this number holds: the retired jobs and the facts of its file, or nothing if it is empty.
-pub fn add_line(
+pub fn add_fact_line(
     alloc: Global,
     number: usize,
     line: &[u8],
@@ -24,19 +24,19 @@ pub fn add_line(
     if line.is_empty() {
         return Ok(());
     }
-    let file = read_line(alloc, number, line)?;
+    let file = decode_fact_line(alloc, number, line)?;
     contents.retired.append(&mut file.retired.into_vec())?;
     contents.facts.append(&mut file.facts.into_vec())?;
     Ok(())
 }
 
 // The file of a line.
-fn read_line(alloc: Global, number: usize, line: &[u8]) -> Result<FactFile, LinesFault>
+fn decode_fact_line(alloc: Global, number: usize, line: &[u8]) -> Result<FactFile, LinesFault>
     requires { 0 < length line.now }
     ensures found { IfOk result (λ file. IsFileLine line.now file.retired file.facts) }
     ensures fault { IfErr result (IsLineFault number line.now) }
 {
-    if !is_hex(line) {
+    if !is_hex_line(line) {
         return Err(LinesFault::BadHex { line: number });
     }
     let bytes = match hex::decode(alloc, line) {
@@ -45,12 +45,12 @@ fn read_line(alloc: Global, number: usize, line: &[u8]) -> Result<FactFile, Line
     };
     match decode(alloc, &bytes) {
         Ok(file) => Ok(file),
-        Err(fault) => Err(told(number, fault)),
+        Err(fault) => Err(locate_fault(number, fault)),
     }
 }
 
 // How a fault of the file on the line of this number is reported.
-fn told(number: usize, fault: FactFault) -> LinesFault
+fn locate_fault(number: usize, fault: FactFault) -> LinesFault
     ensures { result ≡ told number fault }
 {
     match fault {
@@ -63,7 +63,7 @@ fn told(number: usize, fault: FactFault) -> LinesFault
 }
 
 // Whether the line is hexadecimal digits, two for each byte.
-fn is_hex(line: &[u8]) -> bool
+fn is_hex_line(line: &[u8]) -> bool
     ensures { IsTrue result ↔ ((bytes : List ℕ) × IsDigitsOf line.now bytes) }
 {
     line.len() % 2 == 0 && line.iter().all(|digit| digit.is_ascii_hexdigit())

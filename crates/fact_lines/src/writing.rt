@@ -8,8 +8,8 @@ ghost use Rattle.hex.specs.Hex.{encode_lower};
 ghost use Rattle.tile_fact.specs.FactFile.{fact_file};
 ghost use Rattle.fact_lines.specs.Written.{AreCounts, written};
 
-use crate::head::put_head;
-use crate::records::put_facts;
+use crate::head::put_hex_head;
+use crate::records::put_hex_facts;
 use identity::Ids;
 use streams::{Sink, WriteFailed};
 use tile_fact::Fact;
@@ -17,27 +17,27 @@ use write_buffer::WriteBuffer;
 
 /// How many retired jobs and facts a fact file has.
 #[derive(Clone, Copy, Debug)]
-pub struct Counts {
+pub struct FileCounts {
     pub retired: u32,
     pub facts: u32,
 }
 
 /// How many there are, if a fact file can count them: none if there are more than 4,294,967,295 of either.
-pub fn counts_of(retired: &[Ids], facts: &[Fact]) -> Option<Counts>
+pub fn count_contents(retired: &[Ids], facts: &[Fact]) -> Option<FileCounts>
     ensures { MatchOption result ((2 ^ 32 ≤ length retired.now) ⊎ (2 ^ 32 ≤ length facts.now))
         (λ counts. AreCounts counts retired.now facts.now) }
 {
     let retired = u32::try_from(retired.len()).ok()?;
     let facts = u32::try_from(facts.len()).ok()?;
-    Some(Counts { retired, facts })
+    Some(FileCounts { retired, facts })
 }
 
 /// Writes the file of the retired jobs and the facts in lower-case hexadecimal digits, and LF. No memory is allocated: the digits
 /// go through a buffer of fixed size.
-pub fn write_line<W: Sink>(
+pub fn write_fact_line<W: Sink>(
     retired: &[Ids],
     facts: &[Fact],
-    counts: Counts,
+    counts: FileCounts,
     writer: &mut W,
 ) -> Result<(), WriteFailed>
     requires { AreCounts counts retired.now facts.now }
@@ -48,40 +48,40 @@ pub fn write_line<W: Sink>(
     ensures failed { CountsFailure result (W.failures writer.old) (W.failures writer.new) }
 {
     let mut buffer = WriteBuffer::new();
-    put_line(&mut buffer, writer, retired, facts, counts)?;
+    put_fact_line(&mut buffer, writer, retired, facts, counts)?;
     buffer.flush(writer)
 }
 
 /// Puts the same after what waits to be written.
-pub fn put_line<W: Sink>(
+pub fn put_fact_line<W: Sink>(
     buffer: &mut WriteBuffer,
     writer: &mut W,
     retired: &[Ids],
     facts: &[Fact],
-    counts: Counts,
+    counts: FileCounts,
 ) -> Result<(), WriteFailed>
     requires { AreCounts counts retired.now facts.now }
     ensures { Puts result (written retired.now facts.now) buffer.old buffer.new
         (W.contents writer.old) (W.contents writer.new)
         (W.failures writer.old) (W.failures writer.new) }
 {
-    put_file(buffer, writer, retired, facts, counts)?;
+    put_hex_file(buffer, writer, retired, facts, counts)?;
     buffer.put(writer, b"\n")
 }
 
 // Puts the digits of the file.
-fn put_file<W: Sink>(
+fn put_hex_file<W: Sink>(
     buffer: &mut WriteBuffer,
     writer: &mut W,
     retired: &[Ids],
     facts: &[Fact],
-    counts: Counts,
+    counts: FileCounts,
 ) -> Result<(), WriteFailed>
     requires { AreCounts counts retired.now facts.now }
     ensures { Puts result (encode_lower (fact_file retired.now facts.now)) buffer.old buffer.new
         (W.contents writer.old) (W.contents writer.new)
         (W.failures writer.old) (W.failures writer.new) }
 {
-    put_head(buffer, writer, counts.retired, retired)?;
-    put_facts(buffer, writer, counts.facts, facts)
+    put_hex_head(buffer, writer, counts.retired, retired)?;
+    put_hex_facts(buffer, writer, counts.facts, facts)
 }

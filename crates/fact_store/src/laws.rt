@@ -23,7 +23,7 @@ pub fn sets_are_their_facts()
 {}
 
 /// The facts of a key are those of the set that have it, and what a set lacks of another is what only the other has.
-pub fn parts_of_sets()
+pub fn parts_of_sets_are_exact()
     ensures of_key { (s : FactSet) (key : Key) (f : Fact) →
         Contains (facts_of s key) f ↔ ((holds s f ≡ true) × (f.key ≡ key)) }
     ensures lacked { (s t : FactSet) (f : Fact) →
@@ -31,7 +31,7 @@ pub fn parts_of_sets()
 {}
 
 /// Join is commutative, associative and idempotent, and the least set of which both are part.
-pub fn join_is_least_upper_bound()
+pub fn set_join_is_least_upper_bound()
     ensures commutative { (s t : FactSet) → join s t ≡ join t s }
     ensures associative { (s t u : FactSet) → join (join s t) u ≡ join s (join t u) }
     ensures idempotent { (s : FactSet) → join s s ≡ s }
@@ -42,7 +42,7 @@ pub fn join_is_least_upper_bound()
 {}
 
 /// Facts may come in any order, more than once, and through joins: the set is the same.
-pub fn order_is_forgotten()
+pub fn order_of_facts_is_forgotten()
     ensures swapped { (s : FactSet) (f g : Fact) →
         with_fact (with_fact s f) g ≡ with_fact (with_fact s g) f }
     ensures twice { (s : FactSet) (f : Fact) → with_fact (with_fact s f) f ≡ with_fact s f }

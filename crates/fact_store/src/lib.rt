@@ -6,6 +6,6 @@ mod sorted;
 mod store;
 mod tables;
 
-pub use sorted::{SortedFacts, names_one};
+pub use sorted::{SortedFacts, has_job_of_key};
 pub use store::FactStore;
 pub use tables::TableFacts;

@@ -15,7 +15,7 @@ pub trait FactStore: Drop + Sized {
     ghost content: { Self → FactSet };
 
     /// A store of no facts. No memory is allocated.
-    fn empty(alloc: Global) -> Self
+    fn new(alloc: Global) -> Self
         ensures { content result ≡ nothing };
 
     /// A store of the same facts, which share their numbers with these.
@@ -24,7 +24,7 @@ pub trait FactStore: Drop + Sized {
 
     /// Adds a fact, and returns whether it is new. If memory runs out for a new fact, it is handed back, and the store is
     /// unchanged.
-    fn add(&mut self, fact: Fact) -> Result<bool, AllocFailed<Fact>>
+    fn add_fact(&mut self, fact: Fact) -> Result<bool, AllocFailed<Fact>>
         ensures added { OnOk result (content self.new ≡ with_fact (content self.old) fact) }
         ensures new { IfOk result (λ new. new ≡ not (holds (content self.old) fact)) }
         ensures handed_back { IfErr result (λ back. back.value ≡ fact) }
@@ -32,7 +32,7 @@ pub trait FactStore: Drop + Sized {
         ensures unchanged { OnErr result (content self.new ≡ content self.old) };
 
     /// Adds the facts of another store, and returns how many of them are new. If memory runs out, the store is unchanged.
-    fn join(&mut self, other: &Self) -> Result<usize, AllocError>
+    fn join_facts(&mut self, other: &Self) -> Result<usize, AllocError>
         ensures joined { OnOk result
             (content self.new ≡ join (content self.old) (content other.now)) }
         ensures new { IfOk result
@@ -41,22 +41,22 @@ pub trait FactStore: Drop + Sized {
         ensures unchanged { OnErr result (content self.new ≡ content self.old) };
 
     /// Removes the facts of the tiles of these jobs. No memory is allocated.
-    fn remove(&mut self, jobs: &[Ids])
+    fn remove_facts_of_jobs(&mut self, jobs: &[Ids])
         ensures { content self.new ≡ without (content self.old) jobs.now };
 
     /// How many facts of a key there are.
-    fn count(&self, key: &Key) -> usize
+    fn count_facts_of_key(&self, key: &Key) -> usize
         ensures { result ≡ length (facts_of (content self.now) key.now) };
 
     /// The fact of a key that has exactly `n` facts of the key below it.
-    fn nth(&self, key: &Key, n: usize) -> Option<&Fact>
+    fn find_nth_fact(&self, key: &Key, n: usize) -> Option<&Fact>
         ensures { option_copied result ≡ slice_get (facts_of (content self.now) key.now) n };
 
     /// The least fact.
-    fn least(&self) -> Option<&Fact>
+    fn find_least_fact(&self) -> Option<&Fact>
         ensures { option_copied result ≡ least (content self.now) };
 
     /// The least fact above a given one, which need not be in the store.
-    fn least_above(&self, fact: &Fact) -> Option<&Fact>
+    fn find_least_above(&self, fact: &Fact) -> Option<&Fact>
         ensures { option_copied result ≡ least_above (content self.now) fact.now };
 }

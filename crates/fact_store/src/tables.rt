@@ -9,7 +9,7 @@ ghost use Rattle.std.specs.Ordering.{eq_by_cmp};
 ghost use Rattle.std.specs.Prelude.{◌≡◌, ◌≤◌, ◌<◌, ◌^◌, true, false, not, IfOk, IfErr, IfSome, IfNone, OnOk, OnErr, length, slice_get, insert};
 ghost use Rattle.tile_fact.specs.Order.{fact_cmp};
 
-use crate::sorted::{at, count_through, names_one, place, push_copies};
+use crate::sorted::{count_facts_through, get_fact, has_job_of_key, push_fact_copies, search_fact};
 use crate::store::FactStore;
 use identity::{Ids, Key};
 use std::alloc::{AllocError, AllocFailed, Global};
@@ -21,11 +21,11 @@ use tile_fact::Fact;
 
 /// The facts of one key, in a list that rises. Copies share them.
 #[derive(Drop)]
-struct Table {
+struct KeyFacts {
     facts: ArcSlice<Fact>,
 }
 
-impl Model for Table {
+impl Model for KeyFacts {
     ghost use Rattle.fact_store.specs.Facts.{coded_fact};
     ghost use Rattle.std.specs.Arc.{arc_slice_items};
     ghost use Rattle.std.specs.Coded.{coded_list};
@@ -39,33 +39,33 @@ impl Model for Table {
     ghost view = { λ table. arc_slice_items table.facts };
 }
 
-impl Clone for Table {
+impl Clone for KeyFacts {
     ghost use Rattle.std.specs.Prelude.{◌≡◌};
 
     ghost is_clone = { λ it copy. copy ≡ it };
 
-    fn clone(&self) -> Result<Table, AllocError> {
+    fn clone(&self) -> Result<KeyFacts, AllocError> {
         let facts = self.facts.clone()?;
-        Ok(Table { facts })
+        Ok(KeyFacts { facts })
     }
 }
 
-impl Table {
+impl KeyFacts {
     // Copies of facts, with a copy of another one at a place.
-    fn with_copy(
+    fn from_insertion(
         alloc: Global,
         facts: &[Fact],
         place: usize,
         fact: &Fact,
-    ) -> Result<Table, AllocError>
+    ) -> Result<KeyFacts, AllocError>
         requires { place ≤ length facts.now }
         ensures { IfOk result (λ table. table ≡ insert facts.now place fact.now) }
     {
         let mut copies = Vec::with_capacity(alloc, facts.len() + 1)?;
-        push_copies(&mut copies, facts)?;
+        push_fact_copies(&mut copies, facts)?;
         copies.insert(place, fact.clone()?)?;
         let facts = ArcSlice::from_vec(copies)?;
-        Ok(Table { facts })
+        Ok(KeyFacts { facts })
     }
 
     fn as_slice(&self) -> &[Fact]
@@ -80,14 +80,14 @@ impl Table {
 #[derive(Drop)]
 pub struct TableFacts {
     alloc: Global,
-    tables: BTreeMap<Key, Table>,
+    tables: BTreeMap<Key, KeyFacts>,
     ghost stand: { stand tables.entries ≡ true },
 }
 
 impl FactStore for TableFacts {
     ghost content = { λ store. set_in store.tables.entries };
 
-    fn empty(alloc: Global) -> TableFacts {
+    fn new(alloc: Global) -> TableFacts {
         TableFacts {
             alloc,
             tables: BTreeMap::new(alloc),
@@ -102,56 +102,56 @@ impl FactStore for TableFacts {
     }
 
     // A copy is stored, so that the fact itself is available if memory runs out.
-    fn add(&mut self, fact: Fact) -> Result<bool, AllocFailed<Fact>> {
-        match self.add_copy(&fact) {
+    fn add_fact(&mut self, fact: Fact) -> Result<bool, AllocFailed<Fact>> {
+        match self.add_fact_copy(&fact) {
             Ok(former) => Ok(former.is_some()),
             Err(_) => Err(AllocFailed { value: fact }),
         }
     }
 
     // The facts of the other store are added in their order. If memory runs out, what was added is removed again.
-    fn join(&mut self, other: &TableFacts) -> Result<usize, AllocError> {
+    fn join_facts(&mut self, other: &TableFacts) -> Result<usize, AllocError> {
         let mut undo = Vec::new(self.alloc);
-        match self.add_tables(&other.tables, &mut undo) {
+        match self.add_tables_with_undo(&other.tables, &mut undo) {
             Ok(new) => Ok(new),
             Err(fault) => {
-                undo_all(&mut self.tables, undo);
+                restore_entries(&mut self.tables, undo);
                 Err(fault)
             }
         }
     }
 
-    fn remove(&mut self, jobs: &[Ids]) {
-        self.tables.retain(|key, _| !names_one(jobs, key));
+    fn remove_facts_of_jobs(&mut self, jobs: &[Ids]) {
+        self.tables.retain(|key, _| !has_job_of_key(jobs, key));
     }
 
-    fn count(&self, key: &Key) -> usize {
-        self.table(key).len()
+    fn count_facts_of_key(&self, key: &Key) -> usize {
+        self.find_facts_of_key(key).len()
     }
 
-    fn nth(&self, key: &Key, n: usize) -> Option<&Fact> {
-        at(self.table(key), n)
+    fn find_nth_fact(&self, key: &Key, n: usize) -> Option<&Fact> {
+        get_fact(self.find_facts_of_key(key), n)
     }
 
-    fn least(&self) -> Option<&Fact> {
+    fn find_least_fact(&self) -> Option<&Fact> {
         match self.tables.first_key_value() {
-            Some((_, table)) => at(table.as_slice(), 0),
+            Some((_, table)) => get_fact(table.as_slice(), 0),
             None => None,
         }
     }
 
-    fn least_above(&self, fact: &Fact) -> Option<&Fact> {
-        let facts = self.table(fact.key());
-        match at(facts, count_through(facts, fact)) {
+    fn find_least_above(&self, fact: &Fact) -> Option<&Fact> {
+        let facts = self.find_facts_of_key(fact.key());
+        match get_fact(facts, count_facts_through(facts, fact)) {
             Some(next) => Some(next),
-            None => self.least_behind(fact.key()),
+            None => self.find_least_after_key(fact.key()),
         }
     }
 }
 
 impl TableFacts {
     // The facts of the key.
-    fn table(&self, key: &Key) -> &[Fact]
+    fn find_facts_of_key(&self, key: &Key) -> &[Fact]
         ensures table { result.now ≡ table_at self.now.tables.entries key.now }
         ensures rising { rises result.now ≡ true }
     {
@@ -162,19 +162,19 @@ impl TableFacts {
     }
 
     // The least fact of the keys above the key.
-    fn least_behind(&self, key: &Key) -> Option<&Fact>
+    fn find_least_after_key(&self, key: &Key) -> Option<&Fact>
         ensures { option_copied result
             ≡ slice_get (all_facts (tables_above key.now self.now.tables.entries)) 0 }
     {
         let above = (Bound::Excluded(*key), Bound::Unbounded);
         match self.tables.range(above).next() {
-            Some((_, table)) => at(table.as_slice(), 0),
+            Some((_, table)) => get_fact(table.as_slice(), 0),
             None => None,
         }
     }
 
     // Adds a copy of a fact, and returns the former entry of its key; none if the fact is there already.
-    fn add_copy(&mut self, fact: &Fact) -> Result<Option<(Key, Option<Table>)>, AllocError>
+    fn add_fact_copy(&mut self, fact: &Fact) -> Result<Option<(Key, Option<KeyFacts>)>, AllocError>
         ensures added { OnOk result
             (set_in self.new.tables.entries ≡ with_fact (set_in self.old.tables.entries) fact.now) }
         ensures new { IfOk result
@@ -187,20 +187,20 @@ impl TableFacts {
             (λ _. holds (set_in self.old.tables.entries) fact.now ≡ false) }
         ensures unchanged { OnErr result (self.new.tables.entries ≡ self.old.tables.entries) }
     {
-        let facts = self.table(fact.key());
-        let Err(at) = place(facts, fact) else {
+        let facts = self.find_facts_of_key(fact.key());
+        let Err(at) = search_fact(facts, fact) else {
             return Ok(None);
         };
-        let table = Table::with_copy(self.alloc, facts, at, fact)?;
+        let table = KeyFacts::from_insertion(self.alloc, facts, at, fact)?;
         let former = self.tables.insert(*fact.key(), table)?;
         Ok(Some((*fact.key(), former)))
     }
 
     // Adds a copy of a fact, and returns whether it is new. The former entry of its key is noted.
-    fn note_copy(
+    fn add_copy_with_undo(
         &mut self,
         fact: &Fact,
-        undo: &mut Vec<(Key, Option<Table>)>,
+        undo: &mut Vec<(Key, Option<KeyFacts>)>,
     ) -> Result<bool, AllocError>
         ensures added { OnOk result
             (set_in self.new.tables.entries ≡ with_fact (set_in self.old.tables.entries) fact.now) }
@@ -210,7 +210,7 @@ impl TableFacts {
             ≡ undone undo.old.items self.old.tables.entries }
     {
         undo.reserve(1)?;
-        match self.add_copy(fact)? {
+        match self.add_fact_copy(fact)? {
             Some(former) => {
                 undo.push_reserved(former);
                 Ok(true)
@@ -220,10 +220,10 @@ impl TableFacts {
     }
 
     // Adds copies of facts, and returns how many are new. If memory runs out, some are added.
-    fn add_copies(
+    fn add_copies_with_undo(
         &mut self,
         facts: &[Fact],
-        undo: &mut Vec<(Key, Option<Table>)>,
+        undo: &mut Vec<(Key, Option<KeyFacts>)>,
     ) -> Result<usize, AllocError>
         ensures added { OnOk result
             (set_in self.new.tables.entries
@@ -235,17 +235,17 @@ impl TableFacts {
     {
         let mut new: usize = 0;
         for fact in facts {
-            new += usize::from(self.note_copy(fact, undo)?);
+            new += usize::from(self.add_copy_with_undo(fact, undo)?);
         }
         Ok(new)
     }
 
     // Adds copies of the facts of tables, and returns how many are new. Facts that are too many to count would not fit into
     // memory.
-    fn add_tables(
+    fn add_tables_with_undo(
         &mut self,
-        tables: &BTreeMap<Key, Table>,
-        undo: &mut Vec<(Key, Option<Table>)>,
+        tables: &BTreeMap<Key, KeyFacts>,
+        undo: &mut Vec<(Key, Option<KeyFacts>)>,
     ) -> Result<usize, AllocError>
         ensures joined { OnOk result
             (set_in self.new.tables.entries
@@ -258,7 +258,7 @@ impl TableFacts {
     {
         let mut new: usize = 0;
         for (_, table) in tables {
-            let more = self.add_copies(table.as_slice(), undo)?;
+            let more = self.add_copies_with_undo(table.as_slice(), undo)?;
             new = new.checked_add(more).ok_or(AllocError)?;
         }
         if new > isize::MAX as usize {
@@ -269,7 +269,7 @@ impl TableFacts {
 }
 
 // Restores the former entry of a key.
-fn undo_one(tables: &mut BTreeMap<Key, Table>, key: &Key, former: Option<Table>)
+fn restore_entry(tables: &mut BTreeMap<Key, KeyFacts>, key: &Key, former: Option<KeyFacts>)
     ensures { tables.new.entries ≡ undo_one (key.now, former) tables.old.entries }
 {
     match former {
@@ -285,11 +285,11 @@ fn undo_one(tables: &mut BTreeMap<Key, Table>, key: &Key, former: Option<Table>)
 }
 
 // Undoes changes, from the last on.
-fn undo_all(tables: &mut BTreeMap<Key, Table>, undo: Vec<(Key, Option<Table>)>)
+fn restore_entries(tables: &mut BTreeMap<Key, KeyFacts>, undo: Vec<(Key, Option<KeyFacts>)>)
     ensures { tables.new.entries ≡ undone undo.items tables.old.entries }
 {
     let mut rest = undo;
     while let Some((key, former)) = rest.pop() {
-        undo_one(tables, &key, former);
+        restore_entry(tables, &key, former);
     }
 }

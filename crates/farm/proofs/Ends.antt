@@ -3,9 +3,9 @@ use Rattle.std.proofs.Common.{refl, ◌≡◌, length, inl, inr}
 use Rattle.std.proofs.lemmas.List.{length-append}
 use Rattle.std.proofs.lemmas.List.Elements.{All-nil, All-cons, All-append, All-head, All-tail, All-weaker, All-contains_itself}
 use Rattle.std.specs.Prelude.{List, [], ◌∷◌, ◌++◌, All, Contains, fold}
-use Rattle.books.specs.Histories.{replay}
-use Rattle.books.specs.Loans.{AreTrueFactsOf}
-use Rattle.books.specs.declared.event.Event.{Event}
+use Rattle.live_nodes.specs.Histories.{replay}
+use Rattle.live_nodes.specs.Loans.{AreTrueFactsOf}
+use Rattle.live_nodes.specs.declared.event.Event.{Event}
 use Rattle.catalog.specs.Entries.{Entry}
 use Rattle.fact_audit.specs.TrueFacts.{IsTrueFact}
 use Rattle.farm.specs.Reports.{IsSoundEnd, all_held}

@@ -6,15 +6,15 @@ use Rattle.std.proofs.lemmas.List.Elements.{Contains-append_right}
 use Rattle.std.specs.List.{Contains}
 use Rattle.std.specs.Option.{option_map_or}
 use Rattle.std.specs.Prelude.{ℕ, ◌≡◌, ◌↔◌, ◌==◌, ◌&&◌, ◌||◌, ◌∷◌, ◌++◌, [], Bool, true, false, not, List, Option, Some, cond, filter, fold, length, slice_get}
-use Rattle.books.specs.Histories.{replay}
-use Rattle.books.specs.declared.event.Event.{Event}
+use Rattle.live_nodes.specs.Histories.{replay}
+use Rattle.live_nodes.specs.declared.event.Event.{Event}
 use Rattle.catalog.specs.Entries.{Entry, ids_of}
 use Rattle.domains.proofs.PairLists.{Contains-filter, Contains-from_filter, Contains-here}
 use Rattle.fact_store.proofs.KeyLaws.{in_facts_of}
 use Rattle.fact_store.proofs.SetLaws.{holds-join, holds-nothing, same_holders, same_set}
 use Rattle.fact_store.specs.Facts.{FactSet, facts_of, holds, join, nothing}
 use Rattle.farm.specs.Reports.{all_held}
-use Rattle.farm_answers.specs.Answering.{lacked_of}
+use Rattle.farm_answers.specs.Answering.{missing_work}
 use Rattle.held_facts.proofs.LentLaws.{holds-lent, in_lent}
 use Rattle.held_facts.specs.Answers.{AreHeld}
 use Rattle.held_facts.specs.Facts.{is_among, lent}
@@ -122,13 +122,13 @@ filter_alike p q (x ∷ xs) same =
     (filter_alike p q xs (λ y among. same y (Contains-append_right (x ∷ []) xs y among)))
 
 -- of a job's work nothing is lacked that is held
-pub lacked_of_lent : (catalog : List Entry) (j : ℕ) (entry : Entry) (inlining : List Bool) (s : FactSet)
+pub missing_work_of_lent : (catalog : List Entry) (j : ℕ) (entry : Entry) (inlining : List Bool) (s : FactSet)
     → slice_get catalog j ≡ Some entry
-    → lacked_of catalog j inlining (lent s (work_keys (ids_of entry).program entry.pipeline inlining)) ≡ lacked_of catalog j inlining s
-lacked_of_lent catalog j entry inlining s there =
+    → missing_work catalog j inlining (lent s (work_keys (ids_of entry).program entry.pipeline inlining)) ≡ missing_work catalog j inlining s
+missing_work_of_lent catalog j entry inlining s there =
     let keys = work_keys (ids_of entry).program entry.pipeline inlining in
     is (lent s keys) ∙ filter_alike (lacks (lent s keys)) (lacks s) keys (lacks_lent s keys) ∙ sym (is s)
   where
-    is : (t : FactSet) → lacked_of catalog j inlining t ≡ filter (lacks t) (work_keys (ids_of entry).program entry.pipeline inlining)
+    is : (t : FactSet) → missing_work catalog j inlining t ≡ filter (lacks t) (work_keys (ids_of entry).program entry.pipeline inlining)
     is t =
         ap (λ (o : Option Entry). option_map_or (λ e. filter (lacks t) (work_keys (ids_of e).program e.pipeline inlining)) o []) there

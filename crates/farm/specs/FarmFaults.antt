@@ -2,8 +2,8 @@
 use Rattle.std.specs.Prelude.{ℕ, Bool, true, false, List, Result, Ok, Err, codes}
 use Rattle.farm.specs.declared.fault.FarmFault.{FarmFault}
 use Rattle.farm.specs.declared.fault.FarmFault.TheVariants.{SpawnFailed, Memory, Close}
-use Rattle.receipts.specs.declared.fault.CloseFault.{CloseFault}
-use Rattle.receipts.specs.declared.fault.CloseFault.TheVariants as closes
+use Rattle.live_nodes.specs.declared.fault.CloseFault.{CloseFault}
+use Rattle.live_nodes.specs.declared.fault.CloseFault.TheVariants as closes
 
 abbrev pub farm_fault_number : FarmFault → ℕ
 farm_fault_number (SpawnFailed refusal) = 1
@@ -16,12 +16,12 @@ farm_fault_name Memory = codes "Memory"
 farm_fault_name (Close number) = codes "Close"
 
 -- why a node does not close
-abbrev pub of_close : CloseFault → FarmFault
-of_close (closes.ReceiptMismatch number) = Close number
-of_close closes.Memory = Memory
+abbrev pub fault_of_close : CloseFault → FarmFault
+fault_of_close (closes.ReceiptMismatch number) = Close number
+fault_of_close closes.Memory = Memory
 
 -- the result of closing all nodes: why one does not close, or else that some worker ran out of memory
-abbrev pub of_closing : {X : Type 0} → Bool → Result X FarmFault → Result X FarmFault
-of_closing memory (Err fault) = Err fault
-of_closing true (Ok closed) = Err Memory
-of_closing false (Ok closed) = Ok closed
+abbrev pub result_of_closing : {X : Type 0} → Bool → Result X FarmFault → Result X FarmFault
+result_of_closing memory (Err fault) = Err fault
+result_of_closing true (Ok closed) = Err Memory
+result_of_closing false (Ok closed) = Ok closed

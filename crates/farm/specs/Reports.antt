@@ -1,7 +1,7 @@
 -- What a farm leaves: the histories of its nodes.
 use Rattle.std.specs.Prelude.{List, fold}
-use Rattle.books.specs.Histories.{replay, IsLegal}
-use Rattle.books.specs.declared.event.Event.{Event}
+use Rattle.live_nodes.specs.Histories.{replay, IsLegal}
+use Rattle.live_nodes.specs.declared.event.Event.{Event}
 use Rattle.catalog.specs.Entries.{Entry}
 use Rattle.fact_store.specs.Facts.{FactSet, nothing, join}
 use Rattle.held_facts.specs.HeldFacts.{HoldsTrueFacts}

@@ -2,19 +2,18 @@
 
 ghost use Rattle.std.specs.List.{list_any};
 ghost use Rattle.std.specs.Prelude.{◌≡◌, false, All, IfErr, IfOk, length};
-ghost use Rattle.farm.specs.FarmFaults.{of_close, of_closing};
+ghost use Rattle.farm.specs.FarmFaults.{fault_of_close, result_of_closing};
 ghost use Rattle.farm.specs.Reports.{IsSoundEnd, all_held};
 ghost use Rattle.held_facts.specs.Facts.{lent};
 ghost use Rattle.live_nodes.specs.Ends.{HaveAllReceipts, IsSomeCloseFault};
-ghost use Rattle.receipts.specs.declared.fault.CloseFault.{CloseFault};
+ghost use Rattle.live_nodes.specs.declared.fault.CloseFault.{CloseFault};
 
 use crate::fault::FarmFault;
 use crate::hand::End;
 use crate::node::{Node, WORKERS};
-use books::Receipt;
 use held_facts::{HeldFacts, LendFault};
 use identity::Key;
-use live_nodes::{Closed, LiveNode, Seat};
+use live_nodes::{ClosedNode, LiveNode, Receipt, Seat};
 use named_catalogs::NamedCatalog;
 use std::alloc::{AllocError, Global};
 use std::vec;
@@ -24,29 +23,29 @@ use std::vec;
 /// # Errors
 ///
 /// `Close` where receipts do not match a node's history, before `Memory` of a worker.
-pub fn close_all<C: NamedCatalog>(
+pub fn close_nodes<C: NamedCatalog>(
     alloc: Global,
     nodes: Vec<Node<C>>,
     ends: Vec<End>,
-) -> Result<Vec<Closed>, FarmFault>
+) -> Result<Vec<ClosedNode>, FarmFault>
     ensures sound { IfOk result (λ closed. All (IsSoundEnd C.catalog) closed.items) }
     ensures count { IfOk result (λ closed. length closed.items ≡ length nodes.items) }
     ensures memory { IfOk result (λ _. list_any (λ end. end.memory) ends.items ≡ false) }
 {
-    let memory = met_memory(&ends);
-    tell_closing(memory, close_each(alloc, nodes, ends))
+    let memory = has_memory_fault(&ends);
+    add_memory_fault(memory, close_each_node(alloc, nodes, ends))
 }
 
 // Whether one of these workers ran out of memory.
-fn met_memory(ends: &[End]) -> bool
+fn has_memory_fault(ends: &[End]) -> bool
     ensures { result ≡ list_any (λ end. end.memory) ends.now }
 {
     ends.iter().any(|end| end.memory)
 }
 
 // The result of closing all nodes, by whether some worker ran out of memory.
-fn tell_closing<T: Drop>(memory: bool, closing: Result<T, FarmFault>) -> Result<T, FarmFault>
-    ensures told { result ≡ of_closing memory closing }
+fn add_memory_fault<T: Drop>(memory: bool, closing: Result<T, FarmFault>) -> Result<T, FarmFault>
+    ensures told { result ≡ result_of_closing memory closing }
     ensures none { IfOk result (λ _. memory ≡ false) }
 {
     let closed = closing?;
@@ -57,19 +56,19 @@ fn tell_closing<T: Drop>(memory: bool, closing: Result<T, FarmFault>) -> Result<
 }
 
 // Closes each node with the receipts of its workers, whether or not these ran out of memory.
-fn close_each<C: NamedCatalog>(
+fn close_each_node<C: NamedCatalog>(
     alloc: Global,
     nodes: Vec<Node<C>>,
     ends: Vec<End>,
-) -> Result<Vec<Closed>, FarmFault>
+) -> Result<Vec<ClosedNode>, FarmFault>
     ensures sound { IfOk result (λ closed. All (IsSoundEnd C.catalog) closed.items) }
     ensures count { IfOk result (λ closed. length closed.items ≡ length nodes.items) }
 {
-    let mut closed: Vec<Closed> = Vec::new(alloc);
+    let mut closed: Vec<ClosedNode> = Vec::new(alloc);
     let mut rest = ends.into_iter();
     for node in nodes {
-        let mine = next_ends(alloc, &mut rest)?;
-        let one = close_one(node.live, mine)?;
+        let mine = take_ends(alloc, &mut rest)?;
+        let one = close_node(node.live, mine)?;
         closed.reserve(1)?;
         closed.push_reserved(one);
     }
@@ -77,7 +76,7 @@ fn close_each<C: NamedCatalog>(
 }
 
 // The seats of one node's workers, with their receipts.
-fn next_ends(
+fn take_ends(
     alloc: Global,
     rest: &mut vec::IntoIter<End>,
 ) -> Result<Vec<(Seat, Vec<Receipt>)>, AllocError>
@@ -94,14 +93,14 @@ fn next_ends(
     Ok(mine)
 }
 
-fn close_one<C: NamedCatalog>(
+fn close_node<C: NamedCatalog>(
     node: LiveNode<C>,
     ends: Vec<(Seat, Vec<Receipt>)>,
-) -> Result<Closed, FarmFault>
+) -> Result<ClosedNode, FarmFault>
     requires { HaveAllReceipts ends.items }
     ensures sound { IfOk result (IsSoundEnd C.catalog) }
     ensures told { IfErr result (λ fault. (why : CloseFault)
-        × IsSomeCloseFault ends.items why × (fault ≡ of_close why)) }
+        × IsSomeCloseFault ends.items why × (fault ≡ fault_of_close why)) }
 {
     match node.close(ends) {
         Ok(closed) => Ok(closed),
@@ -110,23 +109,27 @@ fn close_one<C: NamedCatalog>(
 }
 
 /// The facts of the keys that any of the nodes holds at the end. A retirement at one node excludes no fact of another.
-pub fn gather(alloc: Global, keys: &[Key], closed: &[Closed]) -> Result<HeldFacts, AllocError>
+pub fn gather_facts(
+    alloc: Global,
+    keys: &[Key],
+    closed: &[ClosedNode],
+) -> Result<HeldFacts, AllocError>
     ensures { IfOk result (λ held. held ≡ lent (all_held closed.now) keys.now) }
 {
     let mut all = HeldFacts::new(alloc);
     for one in closed {
-        let lent = lent_of(alloc, keys, one.state().held())?;
+        let lent = lend_held_facts(alloc, keys, one.state().held())?;
         all.merge(&lent)?;
     }
     Ok(all)
 }
 
 // The held facts of the keys. Of some keys nothing may be held.
-fn lent_of(alloc: Global, keys: &[Key], held: &HeldFacts) -> Result<HeldFacts, AllocError>
+fn lend_held_facts(alloc: Global, keys: &[Key], held: &HeldFacts) -> Result<HeldFacts, AllocError>
     ensures { IfOk result (λ found. found ≡ lent held.now keys.now) }
 {
     let mut there = keys.to_vec(alloc)?;
-    there.retain(|key| held.count(key) != 0);
+    there.retain(|key| held.count_facts_of_key(key) != 0);
     match held.lend_state(&there) {
         Ok(lent) => Ok(lent),
         Err(LendFault::Memory) => Err(AllocError),

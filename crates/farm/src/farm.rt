@@ -3,25 +3,25 @@
 ghost use Rattle.std.specs.Option.{ForSome};
 ghost use Rattle.std.specs.Prelude.{◌≡◌, All, IfOk, length};
 ghost use Rattle.farm.specs.Reports.{IsSoundEnd, all_held};
-ghost use Rattle.farm_answers.specs.Answering.{Answers, IsPlanned, lacked_of};
+ghost use Rattle.farm_answers.specs.Answering.{IsAnswerOf, IsPlanned, missing_work};
 ghost use Rattle.netpbm.specs.Image.{IsImage};
 
-use crate::closing::{close_all, gather};
+use crate::closing::{close_nodes, gather_facts};
 use crate::fault::FarmFault;
 use crate::hand::{End, Hand};
-use crate::node::{Node, WORKERS, lines_to, open_all};
+use crate::node::{Node, WORKERS, open_lines, open_nodes};
 use crate::report::FarmReport;
-use crate::threads::run_all;
+use crate::threads::run_tasks;
 use crate::worker::Worker;
 use catalog::Catalog;
-use farm_answers::finish;
+use farm_answers::complete_answer;
 use farm_setup::FarmSetup;
 use farm_work::{Gate, Work};
 use grouping::Schedule;
 use identity::Key;
 use job::Job;
 use leases::LiveDesk;
-use live_nodes::Closed;
+use live_nodes::ClosedNode;
 use named_catalogs::NamedCatalog;
 use overlap_tiles::work_keys;
 use std::alloc::{AllocError, Global};
@@ -50,26 +50,26 @@ impl Farm {
         gate: &G,
     ) -> Result<FarmReport, FarmFault>
         requires planned { IsPlanned catalog.now job schedule.now }
-        ensures answer { IfOk result (λ report. Answers catalog.now job report.answer) }
+        ensures answer { IfOk result (λ report. IsAnswerOf catalog.now job report.answer) }
         ensures image { IfOk result (λ report. ForSome report.answer.picture IsImage) }
         ensures closed { IfOk result
             (λ report. All (IsSoundEnd catalog.now) report.closed.items) }
         ensures nodes { IfOk result (λ report. length report.closed.items ≡ setup.now.nodes) }
         ensures by_caller { IfOk result (λ report. report.by_caller ≡ length
-            (lacked_of catalog.now job schedule.now.inlining (all_held report.closed.items))) }
+            (missing_work catalog.now job schedule.now.inlining (all_held report.closed.items))) }
     {
         let Some(asked) = catalog.job(job) else {
             unreachable!();
         };
         let keys = work_keys(alloc, asked, schedule)?;
-        let plan = Plan {
+        let plan = WorkPlan {
             job: asked,
             schedule,
             keys: &keys,
         };
-        let closed = work_all::<Brand, G, R>(rt, alloc, catalog, &plan, setup, gate)?;
-        let held = gather(alloc, &keys, &closed)?;
-        let done = finish(alloc, catalog, job, schedule, held)?;
+        let closed = run_nodes::<Brand, G, R>(rt, alloc, catalog, &plan, setup, gate)?;
+        let held = gather_facts(alloc, &keys, &closed)?;
+        let done = complete_answer(alloc, catalog, job, schedule, held)?;
         Ok(FarmReport {
             answer: done.answer,
             closed,
@@ -80,7 +80,7 @@ impl Farm {
 
 // What is to be made, and how.
 #[derive(Clone, Copy)]
-struct Plan<'a> {
+struct WorkPlan<'a> {
     job: &'a Job,
     schedule: &'a Schedule,
     keys: &'a [Key],
@@ -88,35 +88,35 @@ struct Plan<'a> {
 
 // What all workers share.
 #[derive(Drop)]
-struct Shared<'a, C: NamedCatalog> {
+struct SharedState<'a, C: NamedCatalog> {
     work: Work<'a, C>,
     desk: LiveDesk,
     nodes: Vec<Node<C>>,
 }
 
 // The ends of all nodes, after their workers have gone through all turns.
-fn work_all<'a, C: NamedCatalog + Send + Sync + 'static, G: Gate + Sync, R: Threads + Wait + Sync>(
+fn run_nodes<'a, C: NamedCatalog + Send + Sync + 'static, G: Gate + Sync, R: Threads + Wait + Sync>(
     rt: &R,
     alloc: Global,
     catalog: &'a Catalog,
-    plan: &Plan<'a>,
+    plan: &WorkPlan<'a>,
     setup: &FarmSetup,
     gate: &G,
-) -> Result<Vec<Closed>, FarmFault>
+) -> Result<Vec<ClosedNode>, FarmFault>
     requires { catalog.now ≡ C.catalog }
     ensures sound { IfOk result (λ closed. All (IsSoundEnd C.catalog) closed.items) }
     ensures count { IfOk result (λ closed. length closed.items ≡ setup.now.nodes) }
 {
-    let (nodes, seats) = open_all::<C>(alloc, catalog, setup)?;
-    let shared = Shared {
+    let (nodes, seats) = open_nodes::<C>(alloc, catalog, setup)?;
+    let shared = SharedState {
         work: Work::new(catalog, plan.job, plan.schedule, plan.keys),
         desk: LiveDesk::new(alloc),
         nodes,
     };
-    let workers = workers(alloc, setup, &shared, seats)?;
+    let workers = make_workers(alloc, setup, &shared, seats)?;
     let ends = run_workers(rt, alloc, workers, gate)?;
-    let Shared { nodes, .. } = shared;
-    close_all(alloc, nodes, ends)
+    let SharedState { nodes, .. } = shared;
+    close_nodes(alloc, nodes, ends)
 }
 
 // Runs all workers in threads of their own.
@@ -126,14 +126,14 @@ fn run_workers<
     G: Gate + Sync,
     R: Threads + Wait + Sync,
 >(rt: &R, alloc: Global, workers: Vec<Worker<'a, C>>, gate: &G) -> Result<Vec<End>, FarmFault> {
-    run_all(rt, alloc, workers, gate)
+    run_tasks(rt, alloc, workers, gate)
 }
 
 // The workers of all nodes, before their first turn.
-fn workers<'a, C: NamedCatalog>(
+fn make_workers<'a, C: NamedCatalog>(
     alloc: Global,
     setup: &FarmSetup,
-    shared: &'a Shared<'a, C>,
+    shared: &'a SharedState<'a, C>,
     seats: Vec<Vec<End>>,
 ) -> Result<Vec<Worker<'a, C>>, AllocError> {
     let mut workers: Vec<Worker<'a, C>> = Vec::new(alloc);
@@ -151,7 +151,7 @@ fn workers<'a, C: NamedCatalog>(
                     node: &node.live,
                     end,
                 },
-                lines: lines_to(alloc, &shared.nodes)?,
+                lines: open_lines(alloc, &shared.nodes)?,
             });
             number = number.saturating_add(1);
         }

@@ -45,9 +45,9 @@ impl From<Refusal> for FarmFault {
 }
 
 impl From<CloseFault> for FarmFault {
-    ghost use Rattle.farm.specs.FarmFaults.{of_close};
+    ghost use Rattle.farm.specs.FarmFaults.{fault_of_close};
 
-    ghost from_gives = { λ fault told. told ≡ of_close fault };
+    ghost from_gives = { λ fault told. told ≡ fault_of_close fault };
 
     fn from(fault: CloseFault) -> FarmFault {
         match fault {

@@ -4,9 +4,8 @@ ghost use Rattle.std.specs.Prelude.{◌≡◌, All, IfOk, length};
 ghost use Rattle.fact_audit.specs.TrueFacts.{IsTrueFact};
 ghost use Rattle.updates.specs.TrueUpdates.{AreTrue};
 
-use books::Receipt;
 use identity::Key;
-use live_nodes::{LiveNode, Seat};
+use live_nodes::{LiveNode, Receipt, Seat};
 use named_catalogs::NamedCatalog;
 use node_state::LendFault;
 use std::alloc::{AllocError, Global};
@@ -75,7 +74,7 @@ impl<'a, C: NamedCatalog> Hand<'a, C> {
     }
 
     /// Takes a step that involves no parcel and no fact.
-    pub fn step<R: Wait>(&mut self, rt: &R, step: Step) -> Result<(), AllocError> {
+    pub fn run_step<R: Wait>(&mut self, rt: &R, step: Step) -> Result<(), AllocError> {
         let End { seat, receipts, .. } = &mut self.end;
         receipts.reserve(1)?;
         let receipt = match step {

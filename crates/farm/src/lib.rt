@@ -15,6 +15,6 @@ mod worker;
 
 pub use farm::Farm;
 pub use fault::FarmFault;
-pub use live_nodes::Closed;
+pub use live_nodes::ClosedNode;
 pub use report::FarmReport;
 pub use start::Refusal;

@@ -31,12 +31,12 @@ impl<C: NamedCatalog> Node<C> {
     {
         let (live, seats) = LiveNode::open(alloc, catalog, usize::from(WORKERS))?;
         let (post, _) = Post::new(alloc, catalog, setup.capacity, 0)?;
-        Ok((Node { live, post }, ends_of(alloc, seats)?))
+        Ok((Node { live, post }, wrap_seats(alloc, seats)?))
     }
 }
 
 /// All nodes, each with the seats of its workers.
-pub fn open_all<C: NamedCatalog>(
+pub fn open_nodes<C: NamedCatalog>(
     alloc: Global,
     catalog: &Catalog,
     setup: &FarmSetup,
@@ -56,7 +56,7 @@ pub fn open_all<C: NamedCatalog>(
     Ok((nodes, ends))
 }
 
-fn ends_of(alloc: Global, seats: Vec<Seat>) -> Result<Vec<End>, AllocError>
+fn wrap_seats(alloc: Global, seats: Vec<Seat>) -> Result<Vec<End>, AllocError>
     requires { All (λ seat. seat ≡ 0) seats.items }
 {
     let mut ends: Vec<End> = Vec::new(alloc);
@@ -68,14 +68,14 @@ fn ends_of(alloc: Global, seats: Vec<Seat>) -> Result<Vec<End>, AllocError>
 }
 
 /// A line to each node's mailbox.
-pub fn lines_to<'a, C: NamedCatalog>(
+pub fn open_lines<'a, C: NamedCatalog>(
     alloc: Global,
     nodes: &'a [Node<C>],
 ) -> Result<Vec<Line<'a, C>>, AllocError> {
     let mut lines: Vec<Line<'a, C>> = Vec::new(alloc);
     for node in nodes {
         lines.reserve(1)?;
-        lines.push_reserved(Line::to(&node.post));
+        lines.push_reserved(Line::new(&node.post));
     }
     Ok(lines)
 }

@@ -12,7 +12,7 @@ use posts::{Line, Parcel};
 use std::alloc::{AllocError, Global};
 use std::sync::Wait;
 use tile_fact::{Fact, Update};
-use updates::{copies_of, fact_alone};
+use updates::{copy_updates, wrap_fact};
 
 /// The node, the mailboxes, the desk and the gate that a worker calls.
 #[derive(Drop)]
@@ -31,7 +31,7 @@ impl<'s, 'a, C: NamedCatalog, R: Wait, G: Gate> Place for Site<'s, 'a, C, R, G> 
     ghost use Rattle.fact_audit.specs.TrueFacts.{IsTrueFact};
     ghost use Rattle.updates.specs.TrueUpdates.{AreTrue};
 
-    type Held = NodeState;
+    type HeldState = NodeState;
 
     type Plan = TilePlan<'a>;
 
@@ -43,8 +43,8 @@ impl<'s, 'a, C: NamedCatalog, R: Wait, G: Gate> Place for Site<'s, 'a, C, R, G> 
 
     ghost needs_of = { λ plan. plan.needs };
 
-    fn enter(&mut self, worker: u8, turn: u32) {
-        self.gate.enter(worker, turn);
+    fn enter_turn(&mut self, worker: u8, turn: u32) {
+        self.gate.enter_turn(worker, turn);
     }
 
     fn receive(&mut self, node: u8) -> Option<Vec<Update>> {
@@ -58,24 +58,28 @@ impl<'s, 'a, C: NamedCatalog, R: Wait, G: Gate> Place for Site<'s, 'a, C, R, G> 
     }
 
     fn take_copies(&mut self, updates: &[Update]) -> Result<(), AllocError> {
-        let copies = copies_of(self.alloc, updates)?;
+        let copies = copy_updates(self.alloc, updates)?;
         self.hand.take(self.rt, copies)
     }
 
     fn take_fact(&mut self, fact: &Fact) -> Result<(), AllocError> {
-        let updates = fact_alone(self.alloc, fact)?;
+        let updates = wrap_fact(self.alloc, fact)?;
         self.hand.take(self.rt, updates)
     }
 
-    fn look(&mut self) -> Result<NodeState, AllocError> {
+    fn copy_held(&mut self) -> Result<NodeState, AllocError> {
         self.hand.node.state(self.rt)
     }
 
-    fn find(&mut self, held: &NodeState, key: &Key) -> Result<Standing<TilePlan<'a>>, AllocError> {
-        if held.held().count(key) > 0 {
+    fn find_standing(
+        &mut self,
+        held: &NodeState,
+        key: &Key,
+    ) -> Result<Standing<TilePlan<'a>>, AllocError> {
+        if held.held().count_facts_of_key(key) > 0 {
             return Ok(Standing::Known);
         }
-        match self.work.open_plan(self.alloc, held.held(), key)? {
+        match self.work.plan_ready_tile(self.alloc, held.held(), key)? {
             Some(plan) => Ok(Standing::Open(plan)),
             None => Ok(Standing::Waiting),
         }
@@ -97,19 +101,19 @@ impl<'s, 'a, C: NamedCatalog, R: Wait, G: Gate> Place for Site<'s, 'a, C, R, G> 
         }
     }
 
-    fn compute(&mut self, facts: &[Fact], key: &Key) -> Result<Option<Fact>, AllocError> {
-        self.work.make(self.alloc, facts, key)
+    fn compute_fact(&mut self, facts: &[Fact], key: &Key) -> Result<Option<Fact>, AllocError> {
+        self.work.make_fact(self.alloc, facts, key)
     }
 
-    fn made(&mut self, worker: u8, turn: u32, fact: &Fact) {
-        self.gate.made(worker, turn, fact);
+    fn report_fact(&mut self, worker: u8, turn: u32, fact: &Fact) {
+        self.gate.report_fact(worker, turn, fact);
     }
 
     fn put(&mut self, node: u8, from: u8, fact: &Fact) -> Result<(), AllocError> {
         let Some(line) = self.lines.get_mut(usize::from(node)) else {
             return Ok(());
         };
-        let updates = fact_alone(self.alloc, fact)?;
+        let updates = wrap_fact(self.alloc, fact)?;
         let _ = line.put(self.rt, Parcel { from, updates });
         Ok(())
     }
@@ -119,10 +123,10 @@ impl<'s, 'a, C: NamedCatalog, R: Wait, G: Gate> Place for Site<'s, 'a, C, R, G> 
     }
 
     fn keep(&mut self) -> Result<(), AllocError> {
-        self.hand.step(self.rt, Step::Keep)
+        self.hand.run_step(self.rt, Step::Keep)
     }
 
     fn restart(&mut self) -> Result<(), AllocError> {
-        self.hand.step(self.rt, Step::Restart)
+        self.hand.run_step(self.rt, Step::Restart)
     }
 }

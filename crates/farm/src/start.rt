@@ -9,7 +9,7 @@ pub struct Refusal {
 }
 
 /// Starts work in a thread of its own.
-pub fn start<'s, E, F: FnOnce() -> T + Send + Drop + 's, T: Send + Drop + 's>(
+pub fn start_thread<'s, E, F: FnOnce() -> T + Send + Drop + 's, T: Send + Drop + 's>(
     scope: &Scope<'s, E>,
     work: F,
 ) -> Result<JoinHandle<T>, Refusal>

@@ -2,7 +2,7 @@
 
 use crate::fault::FarmFault;
 use crate::hand::End;
-use crate::start::start;
+use crate::start::start_thread;
 use farm_work::Gate;
 use std::alloc::Global;
 use std::sync::Wait;
@@ -16,7 +16,7 @@ pub trait Task {
 }
 
 /// Runs each task in a thread of its own, and joins them all.
-pub fn run_all<T: Task + Send + Drop, G: Gate + Sync, R: Threads + Wait + Sync>(
+pub fn run_tasks<T: Task + Send + Drop, G: Gate + Sync, R: Threads + Wait + Sync>(
     rt: &R,
     alloc: Global,
     tasks: Vec<T>,
@@ -26,7 +26,7 @@ pub fn run_all<T: Task + Send + Drop, G: Gate + Sync, R: Threads + Wait + Sync>(
         thread::scope_env(),
         rt,
         |scope| -> Result<Vec<End>, FarmFault> {
-            let handles = start_all(scope, rt, alloc, tasks, gate)?;
+            let handles = start_tasks(scope, rt, alloc, tasks, gate)?;
             let mut ends = Vec::new(alloc);
             for handle in handles {
                 ends.reserve(1)?;
@@ -38,7 +38,7 @@ pub fn run_all<T: Task + Send + Drop, G: Gate + Sync, R: Threads + Wait + Sync>(
 }
 
 // Starts each task in a thread of its own.
-fn start_all<'s, E, T: Task + Send + Drop + 's, G: Gate + Sync, R: Wait + Sync>(
+fn start_tasks<'s, E, T: Task + Send + Drop + 's, G: Gate + Sync, R: Wait + Sync>(
     scope: &Scope<'s, E>,
     rt: &'s R,
     alloc: Global,
@@ -48,7 +48,7 @@ fn start_all<'s, E, T: Task + Send + Drop + 's, G: Gate + Sync, R: Wait + Sync>(
     let mut handles = Vec::new(alloc);
     for task in tasks {
         handles.reserve(1)?;
-        handles.push_reserved(start(scope, move || task.run(rt, alloc, gate))?);
+        handles.push_reserved(start_thread(scope, move || task.run(rt, alloc, gate))?);
     }
     Ok(handles)
 }

@@ -13,8 +13,8 @@ use Rattle.catalog.specs.Entries.{AreJobs, Entry, IsCatalog, ids_of}
 use Rattle.domains.proofs.PairLists.{Contains-cases, Contains-filter, Contains-from_filter, Contains-here}
 use Rattle.fact_audit.specs.TrueFacts.{IsTrueFact}
 use Rattle.fact_store.proofs.SetLaws.{in_with_fact, with_fact_has}
-use Rattle.farm_answers.proofs.Roomy.{has_room}
-use Rattle.farm_answers.specs.Answering.{Answers, lacked_of}
+use Rattle.farm_answers.proofs.WorkRoom.{has_room}
+use Rattle.farm_answers.specs.Answering.{IsAnswerOf, missing_work}
 use Rattle.farm_answers.specs.Answering.{IsPlanned as IsPlannedJob}
 use Rattle.farm_answers.specs.inside.Missing.{CanMake, HoldsAnswerOf, IsLeft, LeavesTiles, key_in}
 use Rattle.gossip_core.proofs.FinishFaults.{no_make_fault}
@@ -22,7 +22,7 @@ use Rattle.gossip_core.proofs.FinishLists.{found_in, held_still, in_none, in_res
 use Rattle.gossip_core.proofs.FinishNeeds.{none_lower}
 use Rattle.gossip_core.proofs.FinishWanted.{wanted_is_work}
 use Rattle.gossip_core.specs.Finishing.{IsPlanned, lacked_work}
-use Rattle.gossip_core.specs.Steps.{Work}
+use Rattle.gossip_core.specs.Steps.{WorldWork}
 use Rattle.tile_boxes.proofs.Lists.{AllPairs-tail}
 use Rattle.grouping.specs.Inlining.{Inlining, IsScheduleOf}
 use Rattle.tile_boxes.specs.Costs.{AllFitScratch}
@@ -65,7 +65,7 @@ at_key keys i key there =
 module _ (catalog : List Entry) (entry : Entry) (inlining : List Bool) where
   -- ---- the first tile
 
-  abbrev work : ℕ → Work
+  abbrev work : ℕ → WorldWork
   work j = record { jobs = catalog; schedules = (replicate (suc j) inlining) ∷ [] }
 
   planned : (j : ℕ) → slice_get catalog j ≡ Some entry → IsPlanned (work j) 0 j entry inlining
@@ -219,12 +219,12 @@ planned_left catalog j s entry state planned there apart jobs truth =
     (subst (λ (e : Entry). AllFitScratch e.pipeline s.inlining) (is_entry catalog j s entry planned there) planned.fits) truth
 
 pub answers_it : (catalog : List Entry) (j : ℕ) (entry : Entry) (answer : Answer) → slice_get catalog j ≡ Some entry
-    → IsAnswer entry.pipeline answer → Answers catalog j answer
+    → IsAnswer entry.pipeline answer → IsAnswerOf catalog j answer
 answers_it catalog j entry answer there is other at =
     subst (λ (e : Entry). IsAnswer e.pipeline answer) (same_Some entry other (sym there ∙ at)) is
 
 pub lacked_is : (catalog : List Entry) (j : ℕ) (entry : Entry) (inlining : List Bool) (s : FactSet) → slice_get catalog j ≡ Some entry
-    → lacked_of catalog j inlining s ≡ lacked_work s entry inlining
+    → missing_work catalog j inlining s ≡ lacked_work s entry inlining
 lacked_is catalog j entry inlining s there =
     ap (λ (o : Option Entry). option_map_or (λ e. lacked_work s e inlining) o []) there
 

@@ -1,2 +1,2 @@
 pub mod LeftTiles
-pub mod Roomy
+pub mod WorkRoom

@@ -18,9 +18,9 @@ pub record IsPlanned (catalog : List Entry) (job : ℕ) (s : Inlining) : Type 0 
   pub fits : AllFitScratch entry.pipeline s.inlining
 
 -- the answer is the image and the totals of the job of this number
-abbrev pub Answers : List Entry → ℕ → Answer → Type 0
-Answers catalog job answer = (entry : Entry) → slice_get catalog job ≡ Some entry → IsAnswer entry.pipeline answer
+abbrev pub IsAnswerOf : List Entry → ℕ → Answer → Type 0
+IsAnswerOf catalog job answer = (entry : Entry) → slice_get catalog job ≡ Some entry → IsAnswer entry.pipeline answer
 
 -- the keys of its stored functions' and its accumulators' tiles of which nothing is held
-abbrev pub lacked_of : List Entry → ℕ → List Bool → FactSet → List Key
-lacked_of catalog job inlining s = option_map_or (λ entry. lacked_work s entry inlining) (slice_get catalog job) []
+abbrev pub missing_work : List Entry → ℕ → List Bool → FactSet → List Key
+missing_work catalog job inlining s = option_map_or (λ entry. lacked_work s entry inlining) (slice_get catalog job) []

@@ -1,7 +1,7 @@
 //! The answer of a job from true facts: missing tiles are made, and the answer is composed from all of them.
 #![tactic(auto)]
 
-mod finished;
+mod completed;
 mod plan;
 
-pub use finished::{Finished, finish};
+pub use completed::{CompletedAnswer, complete_answer};

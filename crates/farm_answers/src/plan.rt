@@ -22,20 +22,20 @@ use tile_fact::Fact;
 
 /// A job of a catalog, and a schedule of it.
 #[derive(Clone, Copy)]
-pub struct Plan<'a> {
+pub struct AnswerPlan<'a> {
     pub catalog: &'a Catalog,
     pub job: &'a Job,
     pub schedule: &'a Schedule,
 }
 
-impl Plan<'_> {
+impl AnswerPlan<'_> {
     /// The keys of the work tiles of which nothing is held.
-    pub fn lacked(&self, alloc: Global, held: &HeldFacts) -> Result<Vec<Key>, AllocError>
+    pub fn list_missing_work(&self, alloc: Global, held: &HeldFacts) -> Result<Vec<Key>, AllocError>
         ensures { IfOk result (λ keys. keys.items
             ≡ lacked_work held.now (entry_of self.now.job.now) self.now.schedule.now.inlining) }
     {
         let mut keys = work_keys(alloc, self.job, self.schedule)?;
-        keys.retain(|key| held.count(key) == 0);
+        keys.retain(|key| held.count_facts_of_key(key) == 0);
         Ok(keys)
     }
 
@@ -48,14 +48,14 @@ impl Plan<'_> {
     {
         let mut held = held;
         for key in keys {
-            let fact = self.make(&held, key)?;
+            let fact = self.make_fact(&held, key)?;
             held.take(fact)?;
         }
         Ok(held)
     }
 
     /// The fact of a key, which is made unless memory is refused.
-    fn make(&self, held: &HeldFacts, key: &Key) -> Result<Fact, AllocError>
+    fn make_fact(&self, held: &HeldFacts, key: &Key) -> Result<Fact, AllocError>
         requires { CanMake self.now.catalog.now held.now self.now.schedule.now.inlining key.now }
         ensures key { IfOk result (λ fact. fact.key ≡ key.now) }
         ensures is_true { IfOk result (IsTrueFact self.now.catalog.now) }
@@ -68,7 +68,7 @@ impl Plan<'_> {
     }
 
     /// The answer of the job, if all that is held is true, and all that the answer is composed from is held.
-    pub fn answer(&self, held: &HeldFacts) -> Result<Answer, AllocError>
+    pub fn compose_answer(&self, held: &HeldFacts) -> Result<Answer, AllocError>
         requires { HoldsAnswerOf self.now.catalog.now held.now (entry_of self.now.job.now) }
         ensures answer { IfOk result (IsAnswer (pipeline_in self.now.job.now)) }
         ensures image { IfOk result (λ answer. ForSome answer.picture IsImage) }

@@ -4,19 +4,19 @@ use Rattle.std.specs.Prelude.{IfSome}
 use Rattle.domains.specs.Sides.{Sides}
 use Rattle.farm.specs.declared.fault.FarmFault.{FarmFault}
 use Rattle.farm.specs.declared.fault.FarmFault.TheVariants as farms
-use Rattle.farm_commands.specs.RunFaults.{IsOfFarm, IsRunFault, refusing_run, told_farm}
-use Rattle.inputs.specs.Faults.{IsFaultOf}
-use Rattle.inputs.specs.Giving.{Given}
-use Rattle.inputs.specs.Input.{IsReadJob}
-use Rattle.inputs.specs.Outcomes.{Saying, Writes, most_input}
-use Rattle.inputs.specs.declared.faults.StreamFault.{StreamFault}
-use Rattle.inputs.specs.declared.faults.StreamFault.TheVariants as faults
-use Rattle.inputs.proofs.Written.{input_fault}
+use Rattle.farm_commands.specs.RunFaults.{IsOfFarm, IsRunFault, refusing_run, fault_at_farm}
+use Rattle.command_inputs.specs.Faults.{IsFaultOf}
+use Rattle.command_inputs.specs.Giving.{Given}
+use Rattle.command_inputs.specs.Input.{IsReadJob}
+use Rattle.command_outcomes.specs.Outcomes.{Saying, Writes, most_input}
+use Rattle.command_faults.specs.declared.faults.StreamFault.{StreamFault}
+use Rattle.command_faults.specs.declared.faults.StreamFault.TheVariants as faults
+use Rattle.command_outcomes.proofs.Written.{input_fault}
 use Rattle.job.specs.Kept.{pipeline_in}
 use Rattle.job.specs.declared.job.Job.{Job}
 
 -- those of a farm as they are told
-pub of_farm : (f : FarmFault) → IsOfFarm (told_farm f)
+pub of_farm : (f : FarmFault) → IsOfFarm (fault_at_farm f)
 of_farm (farms.SpawnFailed refusal) = tt
 of_farm farms.Memory = tt
 of_farm (farms.Close n) = tt

@@ -3,21 +3,21 @@ use Rattle.std.specs.Prelude.{ℕ, List}
 use Rattle.domains.specs.Sides.{Sides}
 use Rattle.farm.specs.declared.fault.FarmFault.{FarmFault}
 use Rattle.farm.specs.declared.fault.FarmFault.TheVariants as farms
-use Rattle.inputs.specs.Faults.{IsFaultOf}
-use Rattle.inputs.specs.Giving.{Given}
-use Rattle.inputs.specs.Input.{IsInputJob}
-use Rattle.inputs.specs.Outcomes.{Refusing}
-use Rattle.inputs.specs.declared.faults.StreamFault.{StreamFault}
-use Rattle.inputs.specs.declared.faults.StreamFault.TheVariants.{Farm, Memory}
-use Rattle.inputs.specs.declared.lines.FarmLine.TheVariants.{SpawnFailed, Close}
+use Rattle.command_inputs.specs.Faults.{IsFaultOf}
+use Rattle.command_inputs.specs.Giving.{Given}
+use Rattle.command_inputs.specs.Input.{IsInputJob}
+use Rattle.command_outcomes.specs.Outcomes.{Refusing}
+use Rattle.command_faults.specs.declared.faults.StreamFault.{StreamFault}
+use Rattle.command_faults.specs.declared.faults.StreamFault.TheVariants.{Farm, Memory}
+use Rattle.command_faults.specs.declared.lines.FarmLine.TheVariants.{SpawnFailed, Close}
 use Rattle.job.specs.Pipeline.{Pipeline}
 use Rattle.pipe_tree.specs.Tree.{Declaration}
 
 -- how a farm's faults are reported
-abbrev pub told_farm : FarmFault → StreamFault
-told_farm (farms.SpawnFailed refusal) = Farm SpawnFailed
-told_farm farms.Memory = Memory
-told_farm (farms.Close n) = Farm Close
+abbrev pub fault_at_farm : FarmFault → StreamFault
+fault_at_farm (farms.SpawnFailed refusal) = Farm SpawnFailed
+fault_at_farm farms.Memory = Memory
+fault_at_farm (farms.Close n) = Farm Close
 
 -- faults of a farm alone
 abbrev pub IsOfFarm : StreamFault → Type 0

@@ -1,9 +1,9 @@
 //! The command `run`: from an input to the result that a farm of nodes computes.
 #![tactic(auto)]
 
-mod farmed;
+mod farm_faults;
+mod farm_run;
 mod stream;
-mod told;
 
-pub use farmed::FarmRun;
+pub use farm_run::{FarmRun, run_farm};
 pub use stream::{run_input, run_stream};

@@ -1,16 +1,17 @@
 //! The command `run` as it is run: from a reader to a writer.
 
 ghost use Rattle.std.specs.Prelude.{◌≡◌, IfErr, IfOk, length};
-ghost use Rattle.inputs.specs.Outcomes.{CountsRead, CountsWritten, IsSaid, Writes, saying_of_job};
+ghost use Rattle.command_outcomes.specs.Outcomes.{CountsRead, CountsWritten, IsSaid, Writes, saying_of_job};
 ghost use Rattle.farm_commands.specs.RunFaults.{IsRunFault, refusing_run};
-ghost use Rattle.results.specs.Replies.{reply_bytes};
-ghost use Rattle.results.specs.Results.{SaysResult};
+ghost use Rattle.command_outcomes.specs.Replies.{reply_bytes};
+ghost use Rattle.command_jobs.specs.Results.{SaysResult};
 
-use crate::farmed::{FarmRun, farmed};
+use crate::farm_run::{FarmRun, run_farm};
+use command_faults::StreamFault;
+use command_inputs::read_job;
 use command_line::Options;
+use command_outcomes::{read_input, write_reply};
 use farm_setup::FarmSetup;
-use inputs::{StreamFault, job_of, read_input};
-use results::write_reply;
 use std::sync::Wait;
 use std::thread::Threads;
 use streams::{Sink, Source};
@@ -56,6 +57,6 @@ pub fn run_input<H: AllocGlobal + Threads + Wait + Sync>(
     ensures nodes { IfOk result (λ farmed. length farmed.closed.items ≡ setup.now.nodes) }
     ensures fault { IfErr result (IsRunFault input.items given.now options.now.sides) }
 {
-    let job = job_of(rt.alloc(), options.sides, given, input)?;
-    farmed(rt, setup, options, job)
+    let job = read_job(rt.alloc(), options.sides, given, input)?;
+    run_farm(rt, setup, options, job)
 }

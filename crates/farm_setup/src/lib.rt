@@ -3,4 +3,4 @@
 
 mod setup;
 
-pub use setup::{FarmSetup, Faults, MOST_NODES, MOST_PARCELS, MOST_TURNS};
+pub use setup::{FarmSetup, Faults, MAX_NODES, MAX_PARCELS, MAX_TURNS};

@@ -4,13 +4,13 @@ ghost use Rattle.std.specs.Prelude.{◌≡◌, IfNone, IfSome};
 ghost use Rattle.farm_setup.specs.Setups.{IsWithin};
 
 /// The greatest number of nodes of a farm.
-pub const MOST_NODES: u8 = 8;
+pub const MAX_NODES: u8 = 8;
 
 /// The greatest number of turns of a worker.
-pub const MOST_TURNS: u32 = 65_536;
+pub const MAX_TURNS: u32 = 65_536;
 
 /// The greatest capacity of a mailbox, in parcels.
-pub const MOST_PARCELS: u32 = 1_024;
+pub const MAX_PARCELS: u32 = 1_024;
 
 /// The faults that a farm makes on purpose. A fault whose number is 0 is never made.
 #[derive(Clone, Copy, Debug, PartialEq, Eq)]
@@ -44,10 +44,10 @@ impl FarmSetup {
         ensures within { IfSome result (λ _. IsWithin nodes turns capacity) }
         ensures refused { IfNone result (¬ (IsWithin nodes turns capacity)) }
     {
-        if nodes == 0 || nodes > MOST_NODES || turns > MOST_TURNS {
+        if nodes == 0 || nodes > MAX_NODES || turns > MAX_TURNS {
             return None;
         }
-        if capacity == 0 || capacity > MOST_PARCELS {
+        if capacity == 0 || capacity > MAX_PARCELS {
             return None;
         }
         Some(FarmSetup {

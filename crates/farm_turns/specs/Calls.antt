@@ -37,10 +37,10 @@ pub data Call : Type 0 where
   Restarted : Call
 
 -- what a look at a key finds, where plans need these keys
-abbrev pub found : {P : Type 0} → (P → List Key) → Key → Standing P → Call
-found needs_of key known = Found_known key
-found needs_of key waiting = Found_waiting key
-found needs_of key (open_by plan) = Found_open key (needs_of plan)
+abbrev pub finding_call : {P : Type 0} → (P → List Key) → Key → Standing P → Call
+finding_call needs_of key known = Found_known key
+finding_call needs_of key waiting = Found_waiting key
+finding_call needs_of key (open_by plan) = Found_open key (needs_of plan)
 
 -- the call is the next one: if the old place may have a log, the new one may have it with the call at its end
 abbrev pub Calls : {S : Type 0} → (S → List Call → Type 0) → S → S → Call → Type 0

@@ -1,4 +1,4 @@
 pub mod Calls
-pub mod Every
+pub mod Periods
 pub mod Turns
 pub mod Shifts

@@ -1,14 +1,14 @@
 //! What a worker counts.
 
-use crate::every::Every;
+use crate::period::PeriodCounter;
 
 /// What a worker counts from turn to turn.
 #[derive(Debug, Drop)]
 pub struct Counts {
     /// Selects the parcels that are given to the node twice.
-    pub repeated: Every,
+    pub repeated: PeriodCounter,
     /// Selects the parcels that are lost.
-    pub lost: Every,
+    pub lost: PeriodCounter,
     /// How many of the first work keys are known for good, where no node of the farm restarts; otherwise 0.
     pub settled: usize,
     /// No node restarts, and all keys of this look so far are known.

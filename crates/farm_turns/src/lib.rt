@@ -2,13 +2,13 @@
 #![tactic(auto)]
 
 mod counts;
-mod every;
+mod period;
 mod place;
 mod rules;
 mod shift;
 mod standing;
 
-pub use every::Every;
+pub use period::PeriodCounter;
 pub use place::Place;
 pub use rules::Rules;
 pub use shift::Shift;

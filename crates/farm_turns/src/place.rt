@@ -9,7 +9,7 @@ use tile_fact::{Fact, Update};
 /// Contracts see a log of the calls. A place that keeps no log of its own states only what it knows of a log. A worker that uses
 /// this trait alone has made all calls of the log, and no other ones. A call that is refused memory fails, and is in no log.
 pub trait Place {
-    ghost use Rattle.farm_turns.specs.Calls.{Call, Calls, Entered, Received, Found_empty, Took, Looked, Claimed, Lent, Computed, Made, Put, Released, Kept, Restarted, found};
+    ghost use Rattle.farm_turns.specs.Calls.{Call, Calls, Entered, Received, Found_empty, Took, Looked, Claimed, Lent, Computed, Made, Put, Released, Kept, Restarted, finding_call};
     ghost use Rattle.identity.specs.declared.key.Key.{Key as KeyOf};
     ghost use Rattle.std.specs.Prelude.{◌∷◌, [], All, IfNone, IfOk, IfSome, List, None, OnOk, Option, Some};
     ghost use Rattle.tile_fact.specs.declared.fact.Fact.{Fact as FactOf};
@@ -17,7 +17,7 @@ pub trait Place {
     ghost use Rattle.tile_fact.specs.declared.update.Update.TheVariants as update;
 
     /// A copy of what a node holds.
-    type Held: Drop;
+    type HeldState: Drop;
 
     /// How a tile is made.
     type Plan: Drop;
@@ -35,7 +35,7 @@ pub trait Place {
     ghost needs_of: { Self.Plan → List KeyOf };
 
     /// A worker enters a turn.
-    fn enter(&mut self, worker: u8, turn: u32)
+    fn enter_turn(&mut self, worker: u8, turn: u32)
         ensures { Calls has_log self.old self.new (Entered worker turn) };
 
     /// The updates of a parcel from a node's mailbox. There are none where it is empty.
@@ -62,13 +62,17 @@ pub trait Place {
             (Calls has_log self.old self.new (Took (update.Fact fact.now ∷ []))) };
 
     /// A copy of what the worker's node holds.
-    fn look(&mut self) -> Result<Self::Held, AllocError>
+    fn copy_held(&mut self) -> Result<Self::HeldState, AllocError>
         ensures { OnOk result (Calls has_log self.old self.new Looked) };
 
     /// The standing of a key by a copy.
-    fn find(&mut self, held: &Self::Held, key: &Key) -> Result<Standing<Self::Plan>, AllocError>
+    fn find_standing(
+        &mut self,
+        held: &Self::HeldState,
+        key: &Key,
+    ) -> Result<Standing<Self::Plan>, AllocError>
         ensures { IfOk result (λ standing.
-            Calls has_log self.old self.new (found needs_of key.now standing)) };
+            Calls has_log self.old self.new (finding_call needs_of key.now standing)) };
 
     /// Whether a key is leased to a worker from now on, for `ttl`.
     fn claim(&mut self, time: u64, worker: u8, key: &Key, ttl: u64) -> Result<bool, AllocError>
@@ -84,14 +88,14 @@ pub trait Place {
             (Calls has_log self.old self.new (Lent (needs_of plan.now) None))) };
 
     /// The fact of a key, computed from true facts, where these are all that it needs. It is true too.
-    fn compute(&mut self, facts: &[Fact], key: &Key) -> Result<Option<Fact>, AllocError>
+    fn compute_fact(&mut self, facts: &[Fact], key: &Key) -> Result<Option<Fact>, AllocError>
         requires { All is_true facts.now }
         ensures is_true { IfOk result (λ made. IfSome made is_true) }
         ensures call { IfOk result (λ made.
             Calls has_log self.old self.new (Computed key.now facts.now made)) };
 
     /// A worker has made a fact, which it has not given to its node yet.
-    fn made(&mut self, worker: u8, turn: u32, fact: &Fact)
+    fn report_fact(&mut self, worker: u8, turn: u32, fact: &Fact)
         ensures { Calls has_log self.old self.new (Made worker turn fact.now) };
 
     /// Puts a parcel from a node with a copy of the fact into another node's mailbox. If the mailbox is full, the parcel is

@@ -3,7 +3,7 @@
 ghost use Rattle.std.specs.Prelude.{◌≡◌};
 
 use crate::counts::Counts;
-use crate::every::Every;
+use crate::period::PeriodCounter;
 use crate::place::Place;
 use crate::rules::Rules;
 use crate::standing::Standing;
@@ -13,10 +13,10 @@ use std::alloc::AllocError;
 use tile_fact::{Fact, Update};
 
 /// For how many turns a worker leases a key.
-const LEASE: u64 = 16;
+const LEASE_TURNS: u64 = 16;
 
 /// In turns that are multiples of it, a worker has its node keep what it holds.
-const KEEPING: u32 = 4;
+const KEEP_PERIOD: u32 = 4;
 
 /// A worker at its place.
 #[derive(Drop)]
@@ -31,7 +31,7 @@ pub struct Shift<'a, P: Place> {
 impl<'a, P: Place> Shift<'a, P> {
     ghost use Rattle.farm_turns.specs.Calls.{Call, Released};
     ghost use Rattle.farm_turns.specs.Shifts.{HasRun, HasTurned, IsAt};
-    ghost use Rattle.farm_turns.specs.Turns.{Finding, Going, IsFinding, Making, Why, and_then, first, given, kept, looked, made, open_keys, picked, received, restarted, sent_below, sent_to, walked, with_passed, worked};
+    ghost use Rattle.farm_turns.specs.Turns.{WorkOutcome, Progress, IsWorkOutcome, MakeOutcome, PassReason, with_call, passed_key, after_giving, after_keeping, after_looking, after_making, open_keys, after_picking, after_parcels, after_restarting, after_sending_below, after_sending_to, after_passing_all, after_passing, after_working};
     ghost use Rattle.identity.specs.declared.key.Key.{Key as KeyOf};
     ghost use Rattle.std.specs.Prelude.{◌+◌, ◌++◌, ◌^◌, ◌≤◌, ◌<◌, ◌∷◌, false, IfNone, IfOk, IfSome, List, OnOk, length, map};
     ghost use Rattle.tile_fact.specs.declared.update.Update.{Update as UpdateOf};
@@ -47,8 +47,8 @@ impl<'a, P: Place> Shift<'a, P> {
             rules,
             place,
             counts: Counts {
-                repeated: Every::new(repeat),
-                lost: Every::new(lose),
+                repeated: PeriodCounter::new(repeat),
+                lost: PeriodCounter::new(lose),
                 settled: 0,
                 settling: false,
             },
@@ -62,11 +62,11 @@ impl<'a, P: Place> Shift<'a, P> {
     /// Fails only where memory is refused to a call.
     pub fn run(&mut self) -> Result<(), AllocError>
         ensures rules { self.new.rules ≡ self.old.rules }
-        ensures all { OnOk result ((g : Going) → IsAt P.has_log self.old.place self.old.counts g
+        ensures all { OnOk result ((g : Progress) → IsAt P.has_log self.old.place self.old.counts g
             → HasRun P.has_log self.new.place self.new.counts self.old.rules self.old.rules.setup.turns g) }
     {
         for before in 0..self.rules.setup.turns {
-            self.turn(before + 1)?;
+            self.run_turn(before + 1)?;
         }
         Ok(())
     }
@@ -76,42 +76,42 @@ impl<'a, P: Place> Shift<'a, P> {
     /// # Errors
     ///
     /// Fails only where memory is refused to a call.
-    pub fn turn(&mut self, turn: u32) -> Result<(), AllocError>
+    pub fn run_turn(&mut self, turn: u32) -> Result<(), AllocError>
         ensures rules { self.new.rules ≡ self.old.rules }
-        ensures turned { OnOk result ((g : Going) → IsAt P.has_log self.old.place self.old.counts g
+        ensures turned { OnOk result ((g : Progress) → IsAt P.has_log self.old.place self.old.counts g
             → HasTurned P.has_log self.new.place self.new.counts self.old.rules turn g) }
     {
-        self.place.enter(self.rules.number, turn);
-        self.receive()?;
+        self.place.enter_turn(self.rules.number, turn);
+        self.receive_parcels()?;
         self.work(turn)?;
-        self.keep(turn)?;
-        self.restart(turn)
+        self.keep_if_due(turn)?;
+        self.restart_if_due(turn)
     }
 
     // Takes parcels from the mailbox of its node, and gives them to the node.
-    fn receive(&mut self) -> Result<(), AllocError>
+    fn receive_parcels(&mut self) -> Result<(), AllocError>
         ensures rules { self.new.rules ≡ self.old.rules }
-        ensures received { OnOk result ((g : Going) → IsAt P.has_log self.old.place self.old.counts g
+        ensures received { OnOk result ((g : Progress) → IsAt P.has_log self.old.place self.old.counts g
             → (parcels : List (List UpdateOf)) × (length parcels ≤ self.old.rules.setup.capacity)
-            × IsAt P.has_log self.new.place self.new.counts (received self.old.rules g parcels)) }
+            × IsAt P.has_log self.new.place self.new.counts (after_parcels self.old.rules g parcels)) }
     {
         for _ in 0..self.rules.setup.capacity {
             let Some(updates) = self.place.receive(self.rules.home) else {
                 return Ok(());
             };
-            self.give(updates)?;
+            self.give_updates(updates)?;
         }
         Ok(())
     }
 
     // Gives the updates of a parcel to the node, once or twice.
-    fn give(&mut self, updates: Vec<Update>) -> Result<(), AllocError>
+    fn give_updates(&mut self, updates: Vec<Update>) -> Result<(), AllocError>
         requires { P.are_true updates.items }
         ensures rules { self.new.rules ≡ self.old.rules }
-        ensures given { OnOk result ((g : Going) → IsAt P.has_log self.old.place self.old.counts g
-            → IsAt P.has_log self.new.place self.new.counts (given self.old.rules g updates.items)) }
+        ensures given { OnOk result ((g : Progress) → IsAt P.has_log self.old.place self.old.counts g
+            → IsAt P.has_log self.new.place self.new.counts (after_giving self.old.rules g updates.items)) }
     {
-        if self.counts.repeated.is_next() {
+        if self.counts.repeated.count_next() {
             self.place.take_copies(&updates)?;
         }
         self.place.take(updates)
@@ -120,47 +120,47 @@ impl<'a, P: Place> Shift<'a, P> {
     // Makes the tile of the first key that can be made and is leased to the worker, and gives the lease back.
     fn work(&mut self, turn: u32) -> Result<(), AllocError>
         ensures rules { self.new.rules ≡ self.old.rules }
-        ensures worked { OnOk result ((g : Going) → IsAt P.has_log self.old.place self.old.counts g
-            → (finding : Finding) × IsFinding self.old.rules g finding
-            × IsAt P.has_log self.new.place self.new.counts (worked self.old.rules turn g finding)) }
+        ensures worked { OnOk result ((g : Progress) → IsAt P.has_log self.old.place self.old.counts g
+            → (finding : WorkOutcome) × IsWorkOutcome self.old.rules g finding
+            × IsAt P.has_log self.new.place self.new.counts (after_working self.old.rules turn g finding)) }
     {
-        if let Some((key, plan)) = self.pick(turn)? {
-            let done = self.make(turn, &key, &plan);
-            self.release(turn, &key);
+        if let Some((key, plan)) = self.pick_key(turn)? {
+            let done = self.make_tile(turn, &key, &plan);
+            self.release_key(turn, &key);
             done?;
         }
         Ok(())
     }
 
     // Gives the lease of a key back.
-    fn release(&mut self, turn: u32, key: &Key)
+    fn release_key(&mut self, turn: u32, key: &Key)
         ensures rules { self.new.rules ≡ self.old.rules }
-        ensures released { (g : Going) → IsAt P.has_log self.old.place self.old.counts g
-            → IsAt P.has_log self.new.place self.new.counts (and_then g (Released turn self.old.rules.number key.now)) }
+        ensures released { (g : Progress) → IsAt P.has_log self.old.place self.old.counts g
+            → IsAt P.has_log self.new.place self.new.counts (with_call g (Released turn self.old.rules.number key.now)) }
     {
         self.place.release(u64::from(turn), self.rules.number, key);
     }
 
     // The first key that can be made and is leased to the worker, by a copy of what its node holds.
-    fn pick(&mut self, turn: u32) -> Result<Option<(Key, P::Plan)>, AllocError>
+    fn pick_key(&mut self, turn: u32) -> Result<Option<(Key, P::Plan)>, AllocError>
         ensures rules { self.new.rules ≡ self.old.rules }
         ensures none { IfOk result (λ found. IfNone found
-            ((g : Going) → IsAt P.has_log self.old.place self.old.counts g
-            → (finding : Finding) × IsFinding self.old.rules g finding
-            × IsAt P.has_log self.new.place self.new.counts (worked self.old.rules turn g finding))) }
+            ((g : Progress) → IsAt P.has_log self.old.place self.old.counts g
+            → (finding : WorkOutcome) × IsWorkOutcome self.old.rules g finding
+            × IsAt P.has_log self.new.place self.new.counts (after_working self.old.rules turn g finding))) }
         ensures some { IfOk result (λ found. IfSome found (λ pick.
-            (g : Going) → IsAt P.has_log self.old.place self.old.counts g
-            → (passed : List (KeyOf × Why)) × (rest : List KeyOf)
-            × (open_keys self.old.rules g ≡ map first passed ++ pick.0 ∷ rest)
+            (g : Progress) → IsAt P.has_log self.old.place self.old.counts g
+            → (passed : List (KeyOf × PassReason)) × (rest : List KeyOf)
+            × (open_keys self.old.rules g ≡ map passed_key passed ++ pick.0 ∷ rest)
             × IsAt P.has_log self.new.place self.new.counts
-            (picked self.old.rules turn (walked self.old.rules turn g passed) pick.0 (P.needs_of pick.1)))) }
+            (after_picking self.old.rules turn (after_passing_all self.old.rules turn g passed) pick.0 (P.needs_of pick.1)))) }
     {
         let keys = self.rules.keys;
         let start = self.counts.settled;
         if start >= keys.len() {
             return Ok(None);
         }
-        let held = self.look()?;
+        let held = self.copy_held()?;
         for key in &keys[start..] {
             if let Some(plan) = self.try_key(turn, &held, key)? {
                 return Ok(Some((*key, plan)));
@@ -170,35 +170,35 @@ impl<'a, P: Place> Shift<'a, P> {
     }
 
     // A copy of what the node holds.
-    fn look(&mut self) -> Result<P::Held, AllocError>
+    fn copy_held(&mut self) -> Result<P::HeldState, AllocError>
         ensures rules { self.new.rules ≡ self.old.rules }
         ensures settled { self.new.counts.settled ≡ self.old.counts.settled }
-        ensures looked { OnOk result ((g : Going) → IsAt P.has_log self.old.place self.old.counts g
-            → IsAt P.has_log self.new.place self.new.counts (looked self.old.rules g)) }
+        ensures looked { OnOk result ((g : Progress) → IsAt P.has_log self.old.place self.old.counts g
+            → IsAt P.has_log self.new.place self.new.counts (after_looking self.old.rules g)) }
     {
         self.counts.settling = self.rules.setup.faults.restart == 0;
-        self.place.look()
+        self.place.copy_held()
     }
 
     // How the tile of a key is made, if it can be made and is leased to the worker.
     fn try_key(
         &mut self,
         turn: u32,
-        held: &P::Held,
+        held: &P::HeldState,
         key: &Key,
     ) -> Result<Option<P::Plan>, AllocError>
         requires { self.old.counts.settled + 1 < 2 ^ 64 }
         ensures rules { self.new.rules ≡ self.old.rules }
         ensures settled { self.new.counts.settled ≤ self.old.counts.settled + 1 }
         ensures none { IfOk result (λ found. IfNone found
-            ((g : Going) → IsAt P.has_log self.old.place self.old.counts g
-            → (why : Why) × IsAt P.has_log self.new.place self.new.counts (with_passed self.old.rules turn g key.now why))) }
+            ((g : Progress) → IsAt P.has_log self.old.place self.old.counts g
+            → (why : PassReason) × IsAt P.has_log self.new.place self.new.counts (after_passing self.old.rules turn g key.now why))) }
         ensures some { IfOk result (λ found. IfSome found (λ plan.
-            (g : Going) → IsAt P.has_log self.old.place self.old.counts g
+            (g : Progress) → IsAt P.has_log self.old.place self.old.counts g
             → IsAt P.has_log self.new.place self.new.counts
-            (picked self.old.rules turn g key.now (P.needs_of plan)))) }
+            (after_picking self.old.rules turn g key.now (P.needs_of plan)))) }
     {
-        let standing = self.place.find(held, key)?;
+        let standing = self.place.find_standing(held, key)?;
         if let Standing::Known = standing {
             if self.counts.settling {
                 self.counts.settled += 1;
@@ -211,7 +211,7 @@ impl<'a, P: Place> Shift<'a, P> {
         };
         let leased = self
             .place
-            .claim(u64::from(turn), self.rules.number, key, LEASE)?;
+            .claim(u64::from(turn), self.rules.number, key, LEASE_TURNS)?;
         if !leased {
             return Ok(None);
         }
@@ -220,68 +220,68 @@ impl<'a, P: Place> Shift<'a, P> {
 
     // Makes the tile of a key from what its node lends, and gives its fact to the node and to all others. Nothing is made if the
     // other worker has restarted the node, so that it no longer holds the needs.
-    fn make(&mut self, turn: u32, key: &Key, plan: &P::Plan) -> Result<(), AllocError>
+    fn make_tile(&mut self, turn: u32, key: &Key, plan: &P::Plan) -> Result<(), AllocError>
         ensures rules { self.new.rules ≡ self.old.rules }
-        ensures made { OnOk result ((g : Going) → IsAt P.has_log self.old.place self.old.counts g
-            → (making : Making) × IsAt P.has_log self.new.place self.new.counts
-            (made self.old.rules turn key.now (P.needs_of plan.now) g making)) }
+        ensures made { OnOk result ((g : Progress) → IsAt P.has_log self.old.place self.old.counts g
+            → (making : MakeOutcome) × IsAt P.has_log self.new.place self.new.counts
+            (after_making self.old.rules turn key.now (P.needs_of plan.now) g making)) }
     {
         let Some(facts) = self.place.lend(plan)? else {
             return Ok(());
         };
-        let Some(fact) = self.place.compute(&facts, key)? else {
+        let Some(fact) = self.place.compute_fact(&facts, key)? else {
             return Ok(());
         };
-        self.place.made(self.rules.number, turn, &fact);
+        self.place.report_fact(self.rules.number, turn, &fact);
         self.place.take_fact(&fact)?;
-        self.send(&fact)
+        self.send_fact(&fact)
     }
 
     // Puts a parcel with the fact into each other node's mailbox, but for those that are to be lost.
-    fn send(&mut self, fact: &Fact) -> Result<(), AllocError>
+    fn send_fact(&mut self, fact: &Fact) -> Result<(), AllocError>
         requires { P.is_true fact.now }
         ensures rules { self.new.rules ≡ self.old.rules }
-        ensures sent { OnOk result ((g : Going) → IsAt P.has_log self.old.place self.old.counts g
+        ensures sent { OnOk result ((g : Progress) → IsAt P.has_log self.old.place self.old.counts g
             → IsAt P.has_log self.new.place self.new.counts
-            (sent_below self.old.rules fact.now g self.old.rules.setup.nodes)) }
+            (after_sending_below self.old.rules fact.now g self.old.rules.setup.nodes)) }
     {
         for node in 0..self.rules.setup.nodes {
-            self.send_to(node, fact)?;
+            self.send_fact_to(node, fact)?;
         }
         Ok(())
     }
 
     // Puts a parcel with the fact into a node's mailbox, if it is another node, and the parcel is not lost.
-    fn send_to(&mut self, node: u8, fact: &Fact) -> Result<(), AllocError>
+    fn send_fact_to(&mut self, node: u8, fact: &Fact) -> Result<(), AllocError>
         requires { P.is_true fact.now }
         ensures rules { self.new.rules ≡ self.old.rules }
-        ensures sent { OnOk result ((g : Going) → IsAt P.has_log self.old.place self.old.counts g
+        ensures sent { OnOk result ((g : Progress) → IsAt P.has_log self.old.place self.old.counts g
             → IsAt P.has_log self.new.place self.new.counts
-            (sent_to self.old.rules fact.now g node)) }
+            (after_sending_to self.old.rules fact.now g node)) }
     {
-        if node != self.rules.home && !self.counts.lost.is_next() {
+        if node != self.rules.home && !self.counts.lost.count_next() {
             self.place.put(node, self.rules.home, fact)?;
         }
         Ok(())
     }
 
     // Has the node keep what it holds, in some turns.
-    fn keep(&mut self, turn: u32) -> Result<(), AllocError>
+    fn keep_if_due(&mut self, turn: u32) -> Result<(), AllocError>
         ensures rules { self.new.rules ≡ self.old.rules }
-        ensures kept { OnOk result ((g : Going) → IsAt P.has_log self.old.place self.old.counts g
-            → IsAt P.has_log self.new.place self.new.counts (kept turn g)) }
+        ensures kept { OnOk result ((g : Progress) → IsAt P.has_log self.old.place self.old.counts g
+            → IsAt P.has_log self.new.place self.new.counts (after_keeping turn g)) }
     {
-        if turn % KEEPING == 0 {
+        if turn % KEEP_PERIOD == 0 {
             self.place.keep()?;
         }
         Ok(())
     }
 
     // Restarts the node, in some turns.
-    fn restart(&mut self, turn: u32) -> Result<(), AllocError>
+    fn restart_if_due(&mut self, turn: u32) -> Result<(), AllocError>
         ensures rules { self.new.rules ≡ self.old.rules }
-        ensures restarted { OnOk result ((g : Going) → IsAt P.has_log self.old.place self.old.counts g
-            → IsAt P.has_log self.new.place self.new.counts (restarted self.old.rules turn g)) }
+        ensures restarted { OnOk result ((g : Progress) → IsAt P.has_log self.old.place self.old.counts g
+            → IsAt P.has_log self.new.place self.new.counts (after_restarting self.old.rules turn g)) }
     {
         let restart = self.rules.setup.faults.restart;
         if restart > 0 && turn % restart == 0 {

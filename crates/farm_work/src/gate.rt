@@ -6,18 +6,18 @@ use tile_fact::Fact;
 /// lock of the farm is held at a call.
 pub trait Gate {
     /// A worker enters a turn. Workers count from 0, turns from 1.
-    fn enter(&self, worker: u8, turn: u32);
+    fn enter_turn(&self, worker: u8, turn: u32);
 
     /// A worker has made a fact, which it has not given to its node yet.
-    fn made(&self, worker: u8, turn: u32, fact: &Fact);
+    fn report_fact(&self, worker: u8, turn: u32, fact: &Fact);
 }
 
 /// A gate that lets all pass.
 #[derive(Clone, Copy, Debug)]
-pub struct Open;
+pub struct OpenGate;
 
-impl Gate for Open {
-    fn enter(&self, _worker: u8, _turn: u32) {}
+impl Gate for OpenGate {
+    fn enter_turn(&self, _worker: u8, _turn: u32) {}
 
-    fn made(&self, _worker: u8, _turn: u32, _fact: &Fact) {}
+    fn report_fact(&self, _worker: u8, _turn: u32, _fact: &Fact) {}
 }

@@ -4,5 +4,5 @@
 mod gate;
 mod work;
 
-pub use gate::{Gate, Open};
+pub use gate::{Gate, OpenGate};
 pub use work::Work;

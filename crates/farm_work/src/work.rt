@@ -53,7 +53,7 @@ impl<'a, C: NamedCatalog> Work<'a, C> {
     }
 
     /// How a tile is made of which nothing is held, if something is held of all that it needs.
-    pub fn open_plan(
+    pub fn plan_ready_tile(
         &self,
         alloc: Global,
         held: &HeldFacts,
@@ -66,20 +66,20 @@ impl<'a, C: NamedCatalog> Work<'a, C> {
         ensures ready { IfOk result
             (λ found. IfSome found (λ plan. list_any (lacks held.now) plan.needs ≡ false)) }
     {
-        if !lacks(held, key) {
+        if !is_missing(held, key) {
             return Ok(None);
         }
-        let Some(plan) = self.plan(alloc, key)? else {
+        let Some(plan) = self.plan_tile(alloc, key)? else {
             return Ok(None);
         };
-        if lacks_any(held, plan.needs()) {
+        if is_any_missing(held, plan.needs()) {
             return Ok(None);
         }
         Ok(Some(plan))
     }
 
     // How a tile is made, if there is such a tile and it fits into scratch memory.
-    fn plan(&self, alloc: Global, key: &Key) -> Result<Option<TilePlan<'a>>, AllocError>
+    fn plan_tile(&self, alloc: Global, key: &Key) -> Result<Option<TilePlan<'a>>, AllocError>
         ensures { IfOk result (λ found. IfSome found (IsTilePlan
             (program_id_in self.now.job.now) (pipeline_in self.now.job.now)
             self.now.schedule.now.inlining key.now.stage key.now.row key.now.col)) }
@@ -94,14 +94,19 @@ impl<'a, C: NamedCatalog> Work<'a, C> {
 
     /// The fact of a tile, made from true facts, if these are all that it needs. The fact is true too. It is none only if these
     /// facts make none.
-    pub fn make(&self, alloc: Global, facts: &[Fact], key: &Key) -> Result<Option<Fact>, AllocError>
+    pub fn make_fact(
+        &self,
+        alloc: Global,
+        facts: &[Fact],
+        key: &Key,
+    ) -> Result<Option<Fact>, AllocError>
         requires { All (IsTrueFact C.catalog) facts.now }
         ensures is_true { IfOk result (λ made. IfSome made (IsTrueFact C.catalog)) }
         ensures key { IfOk result (λ made. IfSome made (λ fact. fact.key ≡ key.now)) }
         ensures none { IfOk result (λ made. IfNone made (IsNotMade
             C.catalog facts.now self.now.schedule.now.inlining key.now)) }
     {
-        let held = held_of(alloc, facts)?;
+        let held = hold_facts(alloc, facts)?;
         match held.make(self.catalog, self.schedule, key) {
             Ok(fact) => Ok(Some(fact)),
             Err(MakeFault::Memory) => Err(AllocError),
@@ -111,21 +116,21 @@ impl<'a, C: NamedCatalog> Work<'a, C> {
 }
 
 // Whether nothing is held of a key.
-fn lacks(held: &HeldFacts, key: &Key) -> bool
+fn is_missing(held: &HeldFacts, key: &Key) -> bool
     ensures { result ≡ lacks held.now key.now }
 {
-    held.count(key) == 0
+    held.count_facts_of_key(key) == 0
 }
 
 // Whether nothing is held of one of these keys.
-fn lacks_any(held: &HeldFacts, keys: &[Key]) -> bool
+fn is_any_missing(held: &HeldFacts, keys: &[Key]) -> bool
     ensures { result ≡ list_any (lacks held.now) keys.now }
 {
-    keys.iter().any(|key| lacks(held, key))
+    keys.iter().any(|key| is_missing(held, key))
 }
 
 // These facts as held facts, all of which are true if these are.
-fn held_of(alloc: Global, facts: &[Fact]) -> Result<HeldFacts, AllocError>
+fn hold_facts(alloc: Global, facts: &[Fact]) -> Result<HeldFacts, AllocError>
     ensures these { IfOk result (λ held. held ≡ fold with_fact nothing facts.now) }
     ensures is_true { (catalog : List Entry) → All (IsTrueFact catalog) facts.now
         → IfOk result (HoldsTrueFacts catalog) }

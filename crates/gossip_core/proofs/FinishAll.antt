@@ -23,14 +23,14 @@ use Rattle.gossip_events.specs.declared.event.Event.TheVariants.{Make, Deliver}
 use Rattle.gossip_core.specs.Finishing.{AllAccepted, IsPlanned, NoneRefused, makings}
 use Rattle.gossip_core.specs.Histories.{IsRefused}
 use Rattle.gossip_core.specs.Networks.{Network}
-use Rattle.gossip_core.specs.Steps.{Accepts, Work, held}
+use Rattle.gossip_core.specs.Steps.{Accepts, WorldWork, held}
 use Rattle.gossip_core.specs.Truths.{AllTrue}
 use Rattle.gossip_core.proofs.FinishEvents.{IsMadeNext, delivery_goes, gained, made_next, make_goes, message_there, told}
 use Rattle.gossip_core.proofs.FinishFaults.{no_make_fault, no_state_fault, why_not}
 use Rattle.gossip_core.proofs.FinishLists.{held_on, in_none, in_rest, not_lacked}
 use Rattle.gossip_core.proofs.FinishNeeds.{none_lower}
 
-module _ (u : Work) (n j : ℕ) (entry : Entry) (inlining : List Bool) (is : IsCatalog u.jobs) (good : IsJob entry.pipeline)
+module _ (u : WorldWork) (n j : ℕ) (entry : Entry) (inlining : List Bool) (is : IsCatalog u.jobs) (good : IsJob entry.pipeline)
     (planned : IsPlanned u n j entry inlining)
     (keeps : (w new : Network) (e : Event) → AllTrue u.jobs w → Accepts u w e new → AllTrue u.jobs new)
     (first : FactSet)

@@ -22,7 +22,7 @@ use Rattle.tile_fact.specs.declared.fact.Fact.{Fact}
 use Rattle.gossip_events.specs.declared.event.Event.TheVariants.{Make, Deliver}
 use Rattle.gossip_core.specs.Histories.{IsRefused}
 use Rattle.gossip_core.specs.Networks.{Network, Sent}
-use Rattle.gossip_core.specs.Steps.{Accepts, CannotMake, IsStepFault, Work, held, states_at}
+use Rattle.gossip_core.specs.Steps.{Accepts, CannotMake, IsStepFault, WorldWork, held, states_at}
 use Rattle.gossip_core.specs.declared.fault.StepFault.{StepFault}
 use Rattle.gossip_core.specs.declared.fault.StepFault.TheVariants as faults
 use Rattle.gossip_core.proofs.FinishLists.{in_none, is_held}
@@ -32,7 +32,7 @@ use Rattle.gossip_core.proofs.StateLaws.{found_within, held_set, length-slice_se
 abbrev pub told : ℕ → Fact → Sent
 told n fact = record { to = n; state = of_fact fact }
 
-module _ (u : Work) (n : ℕ) (key : Key) (w : Network) where
+module _ (u : WorldWork) (n : ℕ) (key : Key) (w : Network) where
   none_past : n < length w.nodes → Any (λ m. length w.nodes ≤ m) (n ∷ []) → ⊥
   none_past here past = elim (Contains-cases n [] past.1 (past.0, past.2, past.3)) [
     | inl same ↦ (let low = past.4 in omega arith)

@@ -31,11 +31,11 @@ use Rattle.overlap_tiles.specs.Needs.{key_of, needed_keys, needs}
 use Rattle.overlap_tiles.specs.Work.{IsWork, lacks_room}
 use Rattle.gossip_core.specs.Finishing.{IsPlanned}
 use Rattle.gossip_core.specs.Networks.{Network}
-use Rattle.gossip_core.specs.Steps.{CannotMake, IsScheduleFor, Work, held}
+use Rattle.gossip_core.specs.Steps.{CannotMake, IsScheduleFor, WorldWork, held}
 use Rattle.gossip_core.proofs.FinishLists.{found_in}
 use Rattle.gossip_core.proofs.FinishNeeds.{needed_is_lower, needed_is_work, none_disputed, none_missing, none_misshapen}
 
-module _ (u : Work) (n j : ℕ) (entry : Entry) (inlining : List Bool) (is : IsCatalog u.jobs)
+module _ (u : WorldWork) (n j : ℕ) (entry : Entry) (inlining : List Bool) (is : IsCatalog u.jobs)
     (planned : IsPlanned u n j entry inlining) where
   abbrev job : Pipeline
   job = entry.pipeline

@@ -18,13 +18,13 @@ use Rattle.overlap_tiles.specs.Work.{IsWork, first_without_room, lacks_room, wan
 use Rattle.gossip_events.specs.declared.event.Event.{Event}
 use Rattle.gossip_core.specs.Finishing.{GivesAll, IsPlanned, NoneRefused, lacked_work, makings}
 use Rattle.gossip_core.specs.Networks.{Network}
-use Rattle.gossip_core.specs.Steps.{Accepts, Work, held}
+use Rattle.gossip_core.specs.Steps.{Accepts, WorldWork, held}
 use Rattle.gossip_core.specs.Truths.{AllTrue}
 use Rattle.gossip_core.proofs.FinishAll.{Finishes, IsUnderWay, finishes}
 use Rattle.gossip_core.proofs.FinishLists.{none_passes}
 use Rattle.gossip_core.proofs.FinishWanted.{wanted_is_work}
 
-module _ (u : Work) (w : Network) (n j : ℕ) (entry : Entry) (inlining : List Bool) (is : IsCatalog u.jobs) (good : IsJob entry.pipeline)
+module _ (u : WorldWork) (w : Network) (n j : ℕ) (entry : Entry) (inlining : List Bool) (is : IsCatalog u.jobs) (good : IsJob entry.pipeline)
     (truth : AllTrue u.jobs w)
     (keeps : (v new : Network) (e : Event) → AllTrue u.jobs v → Accepts u v e new → AllTrue u.jobs new)
     (here : n < length w.nodes) (planned : IsPlanned u n j entry inlining) (live : retires (held w n) (ids_of entry) ≡ false)

@@ -18,7 +18,7 @@ use Rattle.gossip_events.specs.declared.event.Event.{Event}
 use Rattle.gossip_events.specs.declared.event.Event.TheVariants.{Make, Retire, Send, Deliver, Merge, Keep, Restart}
 use Rattle.gossip_core.specs.Histories.{Goes, Leads, start}
 use Rattle.gossip_core.specs.Networks.{Network, NodeStates, Sent}
-use Rattle.gossip_core.specs.Steps.{Accepts, Work, held, kept, state_at, with_held, with_kept, with_message}
+use Rattle.gossip_core.specs.Steps.{Accepts, WorldWork, held, kept, state_at, with_held, with_kept, with_message}
 use Rattle.gossip_core.specs.Taking.{HasTaken, IsTaken, IsTakenAtKeep, Came, CameAtKeep, By_delivery, By_merge, By_keep}
 use Rattle.gossip_core.proofs.StateLaws.{state_found, found_within, held_keep, held_set, kept_keep, kept_set, states_start}
 use Rattle.gossip_core.proofs.TakingLaws.{AreSent, Gives, all_sent_more, gives_came, grown, kept_grown, kept_here, kept_later}
@@ -213,7 +213,7 @@ follows_keep h w a within is =
 pub within_first : (w : Network) (a : ℕ) (more : List ℕ) → All (λ n. n < length w.nodes) (a ∷ more) → a < length w.nodes
 within_first w a more all = All-head (λ n. n < length w.nodes) a more all
 
-pub follows_step : (u : Work) (h : List Event) (w new : Network) (e : Event) → Follows h w → Accepts u w e new → Follows (e ∷ h) new
+pub follows_step : (u : WorldWork) (h : List Event) (w new : Network) (e : Event) → Follows h w → Accepts u w e new → Follows (e ∷ h) new
 follows_step u h w new (Make a key) is ok =
     subst (Follows (Make a key ∷ h)) (sym ok.1.2)
     (follows_message h w (Make a key) a _ (λ n e. cc) (λ n e. cc) (λ ms u n gives. gives)
@@ -233,7 +233,7 @@ follows_step u h w new (Merge a b) is ok = subst (Follows (Merge a b ∷ h)) (sy
 follows_step u h w new (Keep a) is ok = subst (Follows (Keep a ∷ h)) (sym ok.1) (follows_keep h w a (within_first w a [] ok.0) is)
 follows_step u h w new (Restart a) is ok = subst (Follows (Restart a ∷ h)) (sym ok.1) (follows_restart h w a (within_first w a [] ok.0) is)
 
-pub leads_follows : (u : Work) (size : ℕ) (h accepted : List Event) (w : Network) → Leads u size h accepted w → Follows accepted w
+pub leads_follows : (u : WorldWork) (size : ℕ) (h accepted : List Event) (w : Network) → Leads u size h accepted w → Follows accepted w
 leads_follows u size [] accepted w leads =
     subst (λ (es : List Event). Follows es w) (sym leads.0) (subst (Follows []) (sym leads.1) (follows_start size))
 leads_follows u size (e ∷ h) accepted w (old, earlier, before, inl goes) =
@@ -264,13 +264,13 @@ itself a s t = ap (λ b. cond b s t) (eq-eqb a a refl)
 apart : (a n : ℕ) (s t : State) → ¬ (a ≡ n) → (if a == n then s else t) ≡ t
 apart a n s t differ = picked (λ x. x ≡ t) a n s t (λ same. absurd (differ same)) (λ other. refl)
 
-pub merged_held : (u : Work) (w new : Network) (a b : ℕ) → Accepts u w (Merge a b) new → held new a ≡ join (held w a) (held w b)
+pub merged_held : (u : WorldWork) (w new : Network) (a b : ℕ) → Accepts u w (Merge a b) new → held new a ≡ join (held w a) (held w b)
 merged_held u w new a b ok =
     ap (λ (v : Network). held v a) ok.1
     ∙ held_set w a (join (held w a) (held w b)) a (within_first w a (b ∷ []) ok.0)
     ∙ itself a (join (held w a) (held w b)) (held w a)
 
-pub others_held : (u : Work) (w new : Network) (a b n : ℕ) → Accepts u w (Merge a b) new → ¬ (a ≡ n) → held new n ≡ held w n
+pub others_held : (u : WorldWork) (w new : Network) (a b n : ℕ) → Accepts u w (Merge a b) new → ¬ (a ≡ n) → held new n ≡ held w n
 others_held u w new a b n ok differ =
     ap (λ (v : Network). held v n) ok.1
     ∙ held_set w a (join (held w a) (held w b)) n (within_first w a (b ∷ []) ok.0)

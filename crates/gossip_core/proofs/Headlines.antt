@@ -10,7 +10,7 @@ use Rattle.gossip_events.specs.declared.event.Event.TheVariants.{Merge}
 use Rattle.gossip_core.specs.Headline.{Headline, IsLeastOfBoth}
 use Rattle.gossip_core.specs.Histories.{Leads}
 use Rattle.gossip_core.specs.Networks.{Network}
-use Rattle.gossip_core.specs.Steps.{Accepts, Work, held}
+use Rattle.gossip_core.specs.Steps.{Accepts, WorldWork, held}
 use Rattle.gossip_core.proofs.AllHeld.{answers_exactly}
 use Rattle.gossip_core.proofs.Following.{held_live, leads_follows, merged_held, others_held, same_takings}
 use Rattle.gossip_core.proofs.TruthLaws.{worlds_true}
@@ -19,11 +19,11 @@ use Rattle.gossip_core.proofs.TruthLaws.{worlds_true}
 least_join : (s t : State) → IsLeastOfBoth s t (join s t)
 least_join s t = record { first = join_first s t; second = join_second s t; least = join_least s t }
 
-least_merge : (u : Work) (w new : Network) (a b : ℕ) → Accepts u w (Merge a b) new → IsLeastOfBoth (held w a) (held w b) (held new a)
+least_merge : (u : WorldWork) (w new : Network) (a b : ℕ) → Accepts u w (Merge a b) new → IsLeastOfBoth (held w a) (held w b) (held new a)
 least_merge u w new a b ok =
     subst (IsLeastOfBoth (held w a) (held w b)) (sym (merged_held u w new a b ok)) (least_join (held w a) (held w b))
 
-pub headline_of : (u : Work) (size : ℕ) (h accepted : List Event) (w : Network) → IsCatalog u.jobs → AreJobs u.jobs
+pub headline_of : (u : WorldWork) (size : ℕ) (h accepted : List Event) (w : Network) → IsCatalog u.jobs → AreJobs u.jobs
     → Leads u size h accepted w → Headline u w accepted
 headline_of u size h accepted w catalog good leads =
     let follows = leads_follows u size h accepted w leads in

@@ -15,7 +15,7 @@ use Rattle.gossip_events.specs.declared.event.Event.{Event}
 use Rattle.gossip_events.specs.declared.event.Event.TheVariants.{Make, Retire, Send, Deliver, Merge, Keep, Restart}
 use Rattle.gossip_core.specs.Histories.{Leads}
 use Rattle.gossip_core.specs.Networks.{Network, Sent}
-use Rattle.gossip_core.specs.Steps.{Accepts, Work, held, state_at}
+use Rattle.gossip_core.specs.Steps.{Accepts, WorldWork, held, state_at}
 use Rattle.gossip_core.specs.Taking.{Came, By_delivery, By_merge, By_keep, IsJoinOf, IsPart, IsTaken}
 use Rattle.gossip_core.proofs.Following.{held_live, leads_follows, taken_grown}
 use Rattle.gossip_core.proofs.TakingLaws.{AreSent, sent_behind}
@@ -23,7 +23,7 @@ use Rattle.gossip_core.proofs.TakingLaws.{AreSent, sent_behind}
 -- ---- of each beginning of the events there is a state that is what a node took
 
 -- what was taken is so still when more was sent
-taken_still : (u : Work) (w new : Network) (e : Event) (h : List Event) (n : ℕ) (s : State) → Accepts u w e new
+taken_still : (u : WorldWork) (w new : Network) (e : Event) (h : List Event) (n : ℕ) (s : State) → Accepts u w e new
     → AreSent (length w.messages) h → IsTaken w.messages h n s → IsTaken new.messages h n s
 taken_still u w new (Make a key) h n s ok are is =
     subst (λ (v : Network). IsTaken v.messages h n s) (sym ok.1.2) (taken_grown w.messages _ h n s are is)
@@ -39,7 +39,7 @@ taken_still u w new (Restart a) h n s ok are is = subst (λ (v : Network). IsTak
 abbrev TakenAt : List Sent → List Event → ℕ → Type 0
 TakenAt messages h n = (s : State) × IsTaken messages h n s
 
-taken_here : (u : Work) (size : ℕ) (h accepted before : List Event) (w : Network) → Leads u size h accepted w → (n : ℕ)
+taken_here : (u : WorldWork) (size : ℕ) (h accepted before : List Event) (w : Network) → Leads u size h accepted w → (n : ℕ)
     → accepted ≡ before → TakenAt w.messages before n
 taken_here u size h accepted before w leads n same =
     (held w n, subst (λ (es : List Event). IsTaken w.messages es n (held w n)) same ((leads_follows u size h accepted w leads).holds n))
@@ -47,7 +47,7 @@ taken_here u size h accepted before w leads n same =
 none_later : (x : Event) (later before : List Event) → ◌≡◌ {A = List Event} [] (x ∷ (later ++ before)) → ⊥
 none_later x later before e = cc
 
-taken_before : (u : Work) (size : ℕ) (h accepted : List Event) (w : Network) → Leads u size h accepted w → (later before : List Event)
+taken_before : (u : WorldWork) (size : ℕ) (h accepted : List Event) (w : Network) → Leads u size h accepted w → (later before : List Event)
     → (n : ℕ) → accepted ≡ later ++ before → TakenAt w.messages before n
 taken_before u size [] accepted w leads later before n = by later
   where
@@ -152,7 +152,7 @@ covers_more p t below (fact f) (inr gone) = inr (below.retired (ids_in f.key) go
 below_covers : (p t : State) → ((u : Update) → Shows p u → Covers t u) → IsBelow p t
 below_covers p t all = record { retired = λ i has. all (retirement i) has; facts = λ f has. all (fact f) has }
 
-pub join_of_parts : (u : Work) (size : ℕ) (h accepted : List Event) (w : Network) → Leads u size h accepted w → (n : ℕ)
+pub join_of_parts : (u : WorldWork) (size : ℕ) (h accepted : List Event) (w : Network) → Leads u size h accepted w → (n : ℕ)
     → IsJoinOf (IsPart w.messages accepted n) (held w n)
 join_of_parts u size h accepted w leads n =
     let ms = w.messages in

@@ -16,7 +16,7 @@ use Rattle.gossip_events.specs.declared.event.Event.{Event}
 use Rattle.gossip_events.specs.declared.event.Event.TheVariants.{Make, Retire, Send, Deliver, Merge, Keep, Restart}
 use Rattle.gossip_core.specs.Histories.{Leads, start}
 use Rattle.gossip_core.specs.Networks.{Network, NodeStates, Sent}
-use Rattle.gossip_core.specs.Steps.{Accepts, Work, held, kept, state_at, with_held, with_kept, with_message}
+use Rattle.gossip_core.specs.Steps.{Accepts, WorldWork, held, kept, state_at, with_held, with_kept, with_message}
 use Rattle.gossip_core.specs.Truths.{AllTrue}
 use Rattle.gossip_core.proofs.Following.{within_first}
 use Rattle.gossip_core.proofs.MadeTruth.{made_true}
@@ -92,7 +92,7 @@ module _ (jobs : List Entry) where
 
 -- ---- each event
 
-pub accepted_true : (u : Work) (w new : Network) (e : Event) → IsCatalog u.jobs → AreJobs u.jobs → AllTrue u.jobs w → Accepts u w e new
+pub accepted_true : (u : WorldWork) (w new : Network) (e : Event) → IsCatalog u.jobs → AreJobs u.jobs → AllTrue u.jobs w → Accepts u w e new
     → AllTrue u.jobs new
 accepted_true u w new (Make n key) catalog good all ok =
     let fact = ok.1.0 in
@@ -121,7 +121,7 @@ accepted_true u w new (Keep n) catalog good all ok =
 accepted_true u w new (Restart n) catalog good all ok =
     subst (AllTrue u.jobs) (sym ok.1) (true_held u.jobs w n (kept w n) (within_first w n [] ok.0) all (all.keeps n))
 
-pub worlds_true : (u : Work) (size : ℕ) (h accepted : List Event) (w : Network) → IsCatalog u.jobs → AreJobs u.jobs
+pub worlds_true : (u : WorldWork) (size : ℕ) (h accepted : List Event) (w : Network) → IsCatalog u.jobs → AreJobs u.jobs
     → Leads u size h accepted w → AllTrue u.jobs w
 worlds_true u size [] accepted w catalog good leads = subst (AllTrue u.jobs) (sym leads.1) (true_start u.jobs size)
 worlds_true u size (e ∷ h) accepted w catalog good (old, earlier, before, inl goes) =

@@ -12,12 +12,12 @@ use Rattle.gossip_events.specs.declared.event.Event.{Event}
 use Rattle.gossip_events.specs.declared.event.Event.TheVariants.{Make, Deliver}
 use Rattle.gossip_core.specs.Histories.{IsRefused}
 use Rattle.gossip_core.specs.Networks.{Network}
-use Rattle.gossip_core.specs.Steps.{Accepts, Work, held}
+use Rattle.gossip_core.specs.Steps.{Accepts, WorldWork, held}
 
 -- ---- what is requested
 
 -- job j is this one, and node n inlines these of its stages
-pub record IsPlanned (u : Work) (n j : ℕ) (entry : Entry) (inlining : List Bool) : Type 0 where
+pub record IsPlanned (u : WorldWork) (n j : ℕ) (entry : Entry) (inlining : List Bool) : Type 0 where
   pub there : slice_get u.jobs j ≡ Some entry
   pub schedules : List (List Bool)
   pub of_node : slice_get u.schedules n ≡ Some schedules
@@ -35,15 +35,15 @@ makings n sent (key ∷ keys) = Make n key ∷ Deliver n sent ∷ makings n (suc
 -- ---- what comes of it
 
 -- one after the other, the oldest first, the events are accepted
-abbrev pub AllAccepted : Work → Network → List Event → Network → Type 0
+abbrev pub AllAccepted : WorldWork → Network → List Event → Network → Type 0
 AllAccepted u w [] new = new ≡ w
 AllAccepted u w (e ∷ events) new = (next : Network) × Accepts u w e next × AllAccepted u next events new
 
 -- whatever worlds the events lead to, none of them is refused, unless memory is
-abbrev pub NoneRefused : Work → Network → List Event → Type 0
+abbrev pub NoneRefused : WorldWork → Network → List Event → Type 0
 NoneRefused u w [] = Unit {0}
 NoneRefused u w (e ∷ events) = ¬ (IsRefused u w e) × ((next : Network) → Accepts u w e next → NoneRefused u next events)
 
 -- where all of them are accepted, node n holds a fact of each of the keys
-abbrev pub GivesAll : Work → Network → ℕ → List Event → List Key → Type 0
+abbrev pub GivesAll : WorldWork → Network → ℕ → List Event → List Key → Type 0
 GivesAll u w n events keys = (new : Network) → AllAccepted u w events new → AreHeld (held new n).facts keys

@@ -19,7 +19,7 @@ use Rattle.node_state.specs.States.{IsBelow, IsState, State, facts_in, retired_i
 use Rattle.gossip_events.specs.declared.event.Event.{Event}
 use Rattle.gossip_events.specs.declared.event.Event.TheVariants.{Merge}
 use Rattle.gossip_core.specs.Networks.{Network}
-use Rattle.gossip_core.specs.Steps.{Accepts, Work, held, kept}
+use Rattle.gossip_core.specs.Steps.{Accepts, WorldWork, held, kept}
 use Rattle.gossip_core.specs.Taking.{HasTaken, IsTaken, IsTakenAtKeep}
 use Rattle.gossip_core.specs.Truths.{AllTrue}
 
@@ -49,7 +49,7 @@ pub record AnswersExactly (s : State) (entry : Entry) : Type 0 where
   -- refused. No tile is disputed or misshapen
   pub fault : (fault : AnswerFault) → IsAnswerFault s (ids_of entry).program entry.pipeline fault ↔ IsFaultOfTrueState s entry fault
 
-pub record Headline (u : Work) (w : Network) (accepted : List Event) : Type 0 where
+pub record Headline (u : WorldWork) (w : Network) (accepted : List Event) : Type 0 where
   -- every fact that a node holds is the pipeline's own value on its tile, and so is each that is kept or was sent
   pub truth : AllTrue u.jobs w
   -- and none is of a job that the node has retired

@@ -26,12 +26,12 @@ abbrev pub Schedules : Type 0
 Schedules = List (List (List Bool))
 
 -- the jobs of a world, and each node's schedules for them
-pub record Work : Type 0 where
+pub record WorldWork : Type 0 where
   pub jobs : List Entry
   pub schedules : Schedules
 
 -- node n's schedule for the job that the key names
-pub record IsScheduleFor (u : Work) (n : ℕ) (key : Key) (inlining : List Bool) : Type 0 where
+pub record IsScheduleFor (u : WorldWork) (n : ℕ) (key : Key) (inlining : List Bool) : Type 0 where
   pub job : ℕ
   pub there : StandsAt u.jobs (ids_in key) job
   pub schedules : List (List Bool)
@@ -82,13 +82,13 @@ abbrev pub HasNodes : Network → Event → Type 0
 HasNodes w e = All (λ n. n < length w.nodes) (nodes_of e)
 
 -- node n makes the fact of the key from what it holds
-pub record Makes (u : Work) (w : Network) (n : ℕ) (key : Key) (fact : Fact) : Type 0 where
+pub record Makes (u : WorldWork) (w : Network) (n : ℕ) (key : Key) (fact : Fact) : Type 0 where
   pub of_key : fact.key ≡ key
   pub inlining : List Bool
   pub schedule : IsScheduleFor u n key inlining
   pub made : IsMade u.jobs (held w n) inlining fact
 
-abbrev pub Does : Work → Network → Event → Network → Type 0
+abbrev pub Does : WorldWork → Network → Event → Network → Type 0
 -- the fact is sent to the node itself
 Does u w (Make n key) new = (fact : Fact) × Makes u w n key fact × (new ≡ with_message w n (of_fact fact))
 -- and so is a retirement, of any job
@@ -102,7 +102,7 @@ Does u w (Keep n) new = new ≡ with_kept w n (held w n)
 Does u w (Restart n) new = new ≡ with_held w n (kept w n)
 
 -- an event that is accepted, and the world after it
-abbrev pub Accepts : Work → Network → Event → Network → Type 0
+abbrev pub Accepts : WorldWork → Network → Event → Network → Type 0
 Accepts u w e new = HasNodes w e × Does u w e new
 
 -- ---- what it answers
@@ -124,7 +124,7 @@ IsDone w (Restart n) new d = d ≡ does.Restarted
 -- ---- why it is refused
 
 -- why node n makes no fact of the key
-abbrev pub CannotMake : Work → Network → ℕ → Key → MakeFault → Type 0
+abbrev pub CannotMake : WorldWork → Network → ℕ → Key → MakeFault → Type 0
 CannotMake u w n key makes.Foreign = (i : ℕ) → ¬ (StandsAt u.jobs (ids_in key) i)
 CannotMake u w n key fault = (inlining : List Bool) × IsScheduleFor u n key inlining × IsMakeFault u.jobs (held w n) inlining key fault
 
@@ -138,7 +138,7 @@ abbrev pub IsMisaddressed : Network → Event → Type 0
 IsMisaddressed w (Deliver n k) = (m : Sent) × (slice_get w.messages k ≡ Some m) × (m.to ≢ n)
 IsMisaddressed w _ = ⊥
 
-abbrev pub MakesNothing : Work → Network → Event → MakeFault → Type 0
+abbrev pub MakesNothing : WorldWork → Network → Event → MakeFault → Type 0
 MakesNothing u w (Make n key) fault = CannotMake u w n key fault × (fault ≢ makes.Memory)
 MakesNothing u w _ fault = ⊥
 
@@ -148,7 +148,7 @@ AsksInVain w (Send n m keys) key = IsLeastNotHeld (held w n).facts keys key
 AsksInVain w _ key = ⊥
 
 -- The first fault of an event. Memory is refused only if the nodes and the message exist, and the message is for the node.
-abbrev pub IsStepFault : Work → Network → Event → StepFault → Type 0
+abbrev pub IsStepFault : WorldWork → Network → Event → StepFault → Type 0
 IsStepFault u w e faults.NoSuchNode = Any (λ n. length w.nodes ≤ n) (nodes_of e)
 IsStepFault u w e faults.NoSuchMessage = HasNodes w e × ¬ HasMessage w e
 IsStepFault u w e faults.WrongAddress = HasNodes w e × IsMisaddressed w e
@@ -157,6 +157,6 @@ IsStepFault u w e (faults.NotHeld key) = HasNodes w e × AsksInVain w e key
 IsStepFault u w e faults.Memory = HasNodes w e × HasMessage w e × ¬ IsMisaddressed w e
 
 -- a refused event changes nothing
-pub record Refuses (u : Work) (w : Network) (e : Event) (new : Network) (fault : StepFault) : Type 0 where
+pub record Refuses (u : WorldWork) (w : Network) (e : Event) (new : Network) (fault : StepFault) : Type 0 where
   pub first : IsStepFault u w e fault
   pub unchanged : new ≡ w

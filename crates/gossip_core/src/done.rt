@@ -5,7 +5,7 @@
 pub enum Done {
     /// A message of this number was sent.
     Message(u64),
-    /// So many facts are held now, and jobs are known to be retired, that were not before.
+    /// The number of facts and retirements that the node holds now and did not hold before.
     New(usize),
     /// What is held is kept.
     Kept,

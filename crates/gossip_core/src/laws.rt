@@ -7,7 +7,7 @@ ghost use Rattle.gossip_core.specs.Finishing.{GivesAll, IsPlanned, NoneRefused, 
 ghost use Rattle.gossip_core.specs.Headline.{Headline};
 ghost use Rattle.gossip_core.specs.Histories.{Leads, start};
 ghost use Rattle.gossip_core.specs.Networks.{Network};
-ghost use Rattle.gossip_core.specs.Steps.{Accepts, Work, held, kept};
+ghost use Rattle.gossip_core.specs.Steps.{Accepts, WorldWork, held, kept};
 ghost use Rattle.gossip_core.specs.Taking.{HasTaken, IsJoinOf, IsPart, IsTaken, IsTakenAtKeep};
 ghost use Rattle.gossip_core.specs.Truths.{AllTrue};
 ghost use Rattle.gossip_events.specs.declared.event.Event.{Event};
@@ -24,9 +24,9 @@ ghost use Rattle.tile_fact.specs.declared.update.Update.{Update};
 /// just what it had taken at its last keep. This is what the updates leave that came to it, where retirements remove the facts of
 /// their jobs.
 pub fn nodes_hold_what_they_took()
-    ensures held { (u : Work) (size : ℕ) (h accepted : List Event) (w : Network)
+    ensures held { (u : WorldWork) (size : ℕ) (h accepted : List Event) (w : Network)
         → Leads u size h accepted w → (n : ℕ) → IsTaken w.messages accepted n (held w n) }
-    ensures kept { (u : Work) (size : ℕ) (h accepted : List Event) (w : Network)
+    ensures kept { (u : WorldWork) (size : ℕ) (h accepted : List Event) (w : Network)
         → Leads u size h accepted w → (n : ℕ) → IsTakenAtKeep w.messages accepted n (kept w n) }
 {}
 
@@ -34,14 +34,14 @@ pub fn nodes_hold_what_they_took()
 /// last restart, and what nodes had taken that were merged in after that. The last part is what it had taken itself at its last
 /// keep before that restart.
 pub fn what_is_taken_is_the_join_of_its_parts()
-    ensures { (u : Work) (size : ℕ) (h accepted : List Event) (w : Network)
+    ensures { (u : WorldWork) (size : ℕ) (h accepted : List Event) (w : Network)
         → Leads u size h accepted w
         → (n : ℕ) → IsJoinOf (IsPart w.messages accepted n) (held w n) }
 {}
 
 /// So nodes that took the same hold the same.
 pub fn equal_takings_are_equal_states()
-    ensures { (u : Work) (size : ℕ) (h accepted : List Event) (w : Network) (n m : ℕ)
+    ensures { (u : WorldWork) (size : ℕ) (h accepted : List Event) (w : Network) (n m : ℕ)
         → Leads u size h accepted w
         → ((update : Update) → HasTaken w.messages accepted n update ↔ HasTaken w.messages accepted m update)
         → held w n ≡ held w m }
@@ -50,13 +50,13 @@ pub fn equal_takings_are_equal_states()
 /// After a merge a node holds the least state that has what both held before. The other node holds what it held, unless it is the
 /// same one.
 pub fn merges_are_least()
-    ensures first { (u : Work) (w new : Network) (a b : ℕ) → Accepts u w (Merge a b) new
+    ensures first { (u : WorldWork) (w new : Network) (a b : ℕ) → Accepts u w (Merge a b) new
         → IsBelow (held w a) (held new a) }
-    ensures second { (u : Work) (w new : Network) (a b : ℕ) → Accepts u w (Merge a b) new
+    ensures second { (u : WorldWork) (w new : Network) (a b : ℕ) → Accepts u w (Merge a b) new
         → IsBelow (held w b) (held new a) }
-    ensures least { (u : Work) (w new : Network) (a b : ℕ) → Accepts u w (Merge a b) new
+    ensures least { (u : WorldWork) (w new : Network) (a b : ℕ) → Accepts u w (Merge a b) new
         → (s : State) → IsBelow (held w a) s → IsBelow (held w b) s → IsBelow (held new a) s }
-    ensures other { (u : Work) (w new : Network) (a b n : ℕ) → Accepts u w (Merge a b) new
+    ensures other { (u : WorldWork) (w new : Network) (a b n : ℕ) → Accepts u w (Merge a b) new
         → ¬ (a ≡ n) → held new n ≡ held w n }
 {}
 
@@ -69,13 +69,13 @@ pub fn made_facts_are_true()
 
 /// In a world of true facts an accepted event brings only true facts.
 pub fn accepted_events_keep_truth()
-    ensures { (u : Work) (w new : Network) (e : Event) → IsCatalog u.jobs → AreJobs u.jobs
+    ensures { (u : WorldWork) (w new : Network) (e : Event) → IsCatalog u.jobs → AreJobs u.jobs
         → AllTrue u.jobs w → Accepts u w e new → AllTrue u.jobs new }
 {}
 
 /// So all that nodes hold, keep and send is true in each world to which events lead from nodes that hold nothing.
 pub fn worlds_hold_true_facts()
-    ensures { (u : Work) (size : ℕ) (h accepted : List Event) (w : Network) → IsCatalog u.jobs
+    ensures { (u : WorldWork) (size : ℕ) (h accepted : List Event) (w : Network) → IsCatalog u.jobs
         → AreJobs u.jobs → Leads u size h accepted w → AllTrue u.jobs w }
 {}
 
@@ -84,20 +84,20 @@ pub fn worlds_hold_true_facts()
 /// holds all tiles of the job's stored functions and accumulators. If its schedule stores the outputs, it holds all tiles that
 /// the job's answer is composed from.
 pub fn finishing_events_give_all()
-    ensures accepted { (u : Work) (w : Network) (n j : ℕ) (entry : Entry) (inlining : List Bool)
+    ensures accepted { (u : WorldWork) (w : Network) (n j : ℕ) (entry : Entry) (inlining : List Bool)
         → IsCatalog u.jobs → AreJobs u.jobs → AllTrue u.jobs w
         → n < length w.nodes → IsPlanned u n j entry inlining
         → retires (held w n) (ids_of entry) ≡ false
         → first_without_room entry.pipeline inlining (lacked_work (held w n).facts entry inlining) ≡ None
         → NoneRefused u w (makings n (length w.messages) (lacked_work (held w n).facts entry inlining)) }
-    ensures work { (u : Work) (w : Network) (n j : ℕ) (entry : Entry) (inlining : List Bool)
+    ensures work { (u : WorldWork) (w : Network) (n j : ℕ) (entry : Entry) (inlining : List Bool)
         → IsCatalog u.jobs → AreJobs u.jobs → AllTrue u.jobs w
         → n < length w.nodes → IsPlanned u n j entry inlining
         → retires (held w n) (ids_of entry) ≡ false
         → first_without_room entry.pipeline inlining (lacked_work (held w n).facts entry inlining) ≡ None
         → GivesAll u w n (makings n (length w.messages) (lacked_work (held w n).facts entry inlining))
         (work_keys (ids_of entry).program entry.pipeline inlining) }
-    ensures wanted { (u : Work) (w : Network) (n j : ℕ) (entry : Entry) (inlining : List Bool)
+    ensures wanted { (u : WorldWork) (w : Network) (n j : ℕ) (entry : Entry) (inlining : List Bool)
         → IsCatalog u.jobs → AreJobs u.jobs → AllTrue u.jobs w
         → n < length w.nodes → IsPlanned u n j entry inlining
         → retires (held w n) (ids_of entry) ≡ false
@@ -110,6 +110,6 @@ pub fn finishing_events_give_all()
 /// The headline: all that `Headline` says holds of each world to which events lead from nodes that hold nothing, over a catalog
 /// of jobs.
 pub fn headline()
-    ensures { (u : Work) (size : ℕ) (h accepted : List Event) (w : Network) → IsCatalog u.jobs
+    ensures { (u : WorldWork) (size : ℕ) (h accepted : List Event) (w : Network) → IsCatalog u.jobs
         → AreJobs u.jobs → Leads u size h accepted w → Headline u w accepted }
 {}

@@ -10,7 +10,7 @@ use Rattle.gossip_events.specs.declared.event.Event.{Event}
 use Rattle.gossip_events.specs.declared.event.Event.TheVariants as events
 use Rattle.gossip_events.specs.declared.order.Order.{Order}
 use Rattle.gossip_events.specs.declared.order.Order.TheVariants.{Make, Retire, Send, Plain}
-use Rattle.gossip_events.specs.declared.places.Place.{Place}
+use Rattle.gossip_events.specs.declared.places.TileName.{TileName}
 use Rattle.gossip_events.specs.declared.verb.Verb.{Verb}
 use Rattle.gossip_events.specs.declared.verb.Verb.TheVariants as verbs
 
@@ -48,17 +48,17 @@ abbrev pub SpellsStage : List ℕ → ℕ → Type 0
 SpellsStage word n = SpellsNumber word n × (n < 2 ^ 16)
 
 -- a job's number, a stage, a row and a column
-abbrev pub NamePlace : List (List ℕ) → Place → Type 0
+abbrev pub NamePlace : List (List ℕ) → TileName → Type 0
 NamePlace (job ∷ stage ∷ row ∷ col ∷ []) place =
     SpellsNumber job place.job × SpellsStage stage place.stage × SpellsNumber row place.row × SpellsNumber col place.col
 NamePlace _ place = ⊥
 
 -- `JOB:STAGE:ROW:COL`
-abbrev pub SpellsPlace : List ℕ → Place → Type 0
+abbrev pub SpellsPlace : List ℕ → TileName → Type 0
 SpellsPlace word place = NamePlace (slice_split (λ byte. byte == 58) word) place
 
 -- a tile for each word
-abbrev pub SpellPlaces : List (List ℕ) → List Place → Type 0
+abbrev pub SpellPlaces : List (List ℕ) → List TileName → Type 0
 SpellPlaces [] [] = Unit {0}
 SpellPlaces (word ∷ words) (place ∷ places) = SpellsPlace word place × SpellPlaces words places
 SpellPlaces [] (place ∷ places) = ⊥
@@ -85,7 +85,7 @@ AreTwo (first ∷ second ∷ []) P Q = P first × Q second
 AreTwo _ P Q = ⊥
 
 -- two nodes and a tile for each word after them
-abbrev pub AreSent : List (List ℕ) → ℕ → ℕ → List Place → Type 0
+abbrev pub AreSent : List (List ℕ) → ℕ → ℕ → List TileName → Type 0
 AreSent (first ∷ second ∷ rest) node to places = SpellsNode first node × SpellsNode second to × SpellPlaces rest places
 AreSent _ node to places = ⊥
 
@@ -118,7 +118,7 @@ abbrev pub AreIdsAt : List Entry → ℕ → Ids → Type 0
 AreIdsAt jobs number ids = (job : Entry) × (slice_get jobs number ≡ Some job) × (ids ≡ ids_of job)
 
 -- the key of a tile of the catalog's job of this number
-pub record IsKeyOf (jobs : List Entry) (place : Place) (key : Key) : Type 0 where
+pub record IsKeyOf (jobs : List Entry) (place : TileName) (key : Key) : Type 0 where
   pub job : Entry
   pub there : slice_get jobs place.job ≡ Some job
   pub program : key.program ≡ (ids_of job).program
@@ -127,7 +127,7 @@ pub record IsKeyOf (jobs : List Entry) (place : Place) (key : Key) : Type 0 wher
   pub row : key.row ≡ place.row
   pub col : key.col ≡ place.col
 
-abbrev pub AreKeysOf : List Entry → List Place → List Key → Type 0
+abbrev pub AreKeysOf : List Entry → List TileName → List Key → Type 0
 AreKeysOf jobs [] [] = Unit {0}
 AreKeysOf jobs (place ∷ places) (key ∷ keys) = IsKeyOf jobs place key × AreKeysOf jobs places keys
 AreKeysOf jobs [] (key ∷ keys) = ⊥

@@ -15,5 +15,5 @@ mod words;
 
 pub use event::{Event, Keys};
 pub use fault::ScriptFault;
-pub use line::MOST_EVENTS;
-pub use script::script_of;
+pub use line::MAX_EVENTS;
+pub use script::parse_script;

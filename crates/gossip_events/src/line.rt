@@ -10,18 +10,18 @@ ghost use Rattle.gossip_events.specs.declared.order.OrderFault.TheVariants.{NoOr
 
 use crate::event::Event;
 use crate::fault::ScriptFault;
-use crate::naming::event_of;
+use crate::naming::resolve_order;
 use crate::order::{Order, OrderFault};
-use crate::order_words::order_of;
-use crate::words::words_of;
+use crate::order_words::parse_order_words;
+use crate::words::split_words;
 use catalog::Catalog;
 use std::alloc::{AllocError, Global};
 
 /// The most events of a script.
-pub const MOST_EVENTS: usize = 65_536;
+pub const MAX_EVENTS: usize = 65_536;
 
 /// Adds the event that the line of this number specifies, unless the line is passed over.
-pub fn add_line(
+pub fn add_event_line(
     alloc: Global,
     jobs: &Catalog,
     number: usize,
@@ -35,13 +35,13 @@ pub fn add_line(
     ensures fault { IfErr result
         (IsLineFault jobs.now number (length events.old.items) line.now) }
 {
-    if is_passed_over(line) {
+    if is_skipped_line(line) {
         return Ok(());
     }
-    if events.len() == MOST_EVENTS {
+    if events.len() == MAX_EVENTS {
         return Err(ScriptFault::TooManyEvents);
     }
-    match event_on(alloc, jobs, line) {
+    match parse_event(alloc, jobs, line) {
         Ok(event) => {
             events.push(event).map_err(AllocError::from)?;
             Ok(())
@@ -53,7 +53,7 @@ pub fn add_line(
 }
 
 // Whether the line is passed over.
-fn is_passed_over(line: &[u8]) -> bool
+fn is_skipped_line(line: &[u8]) -> bool
     ensures { result ≡ is_passed_over line.now }
 {
     match line {
@@ -82,13 +82,13 @@ impl From<OrderFault> for LineFault {
 }
 
 // The event that the line specifies.
-fn event_on(alloc: Global, jobs: &Catalog, line: &[u8]) -> Result<Event, LineFault>
+fn parse_event(alloc: Global, jobs: &Catalog, line: &[u8]) -> Result<Event, LineFault>
     ensures some { IfOk result (TellsEvent jobs.now line.now) }
     ensures bad { IfErr result (λ fault. fault ≡ faults.Bad → IsBadLine line.now) }
     ensures lacks { IfErr result (λ fault. fault ≡ faults.NoSuchJob → LacksJob jobs.now line.now) }
 {
-    let order = order_on(alloc, line)?;
-    match event_of(alloc, jobs, order) {
+    let order = parse_order(alloc, line)?;
+    match resolve_order(alloc, jobs, order) {
         Ok(Some(event)) => Ok(event),
         Ok(None) => Err(LineFault::NoSuchJob),
         Err(_) => Err(LineFault::Memory),
@@ -96,11 +96,11 @@ fn event_on(alloc: Global, jobs: &Catalog, line: &[u8]) -> Result<Event, LineFau
 }
 
 // What the line requests.
-fn order_on(alloc: Global, line: &[u8]) -> Result<Order, OrderFault>
+fn parse_order(alloc: Global, line: &[u8]) -> Result<Order, OrderFault>
     ensures some { IfOk result (SpellsOrder (words line.now)) }
     ensures none { IfErr result (λ fault. fault ≡ NoOrder
         → (order : OrderType) → ¬ SpellsOrder (words line.now) order) }
 {
-    let words = words_of(alloc, line)?;
-    order_of(alloc, &words)
+    let words = split_words(alloc, line)?;
+    parse_order_words(alloc, &words)
 }

@@ -8,7 +8,7 @@ ghost use Rattle.identity.specs.declared.key.Key.{Key as KeyType};
 
 use crate::event::{Event, Keys};
 use crate::order::Order;
-use crate::places::Place;
+use crate::places::TileName;
 use catalog::{Catalog, ids_of};
 use identity::{Ids, Key};
 use std::alloc::{AllocError, Global};
@@ -18,21 +18,25 @@ use std::alloc::{AllocError, Global};
 /// # Errors
 ///
 /// Fails only where memory is refused.
-pub fn event_of(alloc: Global, jobs: &Catalog, order: Order) -> Result<Option<Event>, AllocError>
+pub fn resolve_order(
+    alloc: Global,
+    jobs: &Catalog,
+    order: Order,
+) -> Result<Option<Event>, AllocError>
     ensures some { IfOk result (λ found. IfSome found (IsAsked jobs.now order)) }
     ensures none { IfOk result (λ found. IfNone found
         ((event : EventType) → ¬ IsAsked jobs.now order event)) }
 {
     match order {
-        Order::Make { node, place } => match key_of(jobs, &place) {
+        Order::Make { node, place } => match resolve_tile(jobs, &place) {
             Some(key) => Ok(Some(Event::Make { node, key })),
             None => Ok(None),
         },
-        Order::Retire { node, job } => match ids_at(jobs, job) {
+        Order::Retire { node, job } => match find_job_ids(jobs, job) {
             Some(ids) => Ok(Some(Event::Retire { node, ids })),
             None => Ok(None),
         },
-        Order::Send { node, to, places } => match keys_of(alloc, jobs, places.as_slice())? {
+        Order::Send { node, to, places } => match resolve_tiles(alloc, jobs, places.as_slice())? {
             Some(keys) => Ok(Some(Event::Send { node, to, keys })),
             None => Ok(None),
         },
@@ -41,14 +45,18 @@ pub fn event_of(alloc: Global, jobs: &Catalog, order: Order) -> Result<Option<Ev
 }
 
 // The keys of the tiles, one each, if the catalog has their jobs.
-fn keys_of(alloc: Global, jobs: &Catalog, places: &[Place]) -> Result<Option<Keys>, AllocError>
+fn resolve_tiles(
+    alloc: Global,
+    jobs: &Catalog,
+    places: &[TileName],
+) -> Result<Option<Keys>, AllocError>
     ensures some { IfOk result (λ found. IfSome found (AreKeysOf jobs.now places.now)) }
     ensures none { IfOk result (λ found. IfNone found
         ((keys : List KeyType) → ¬ AreKeysOf jobs.now places.now keys)) }
 {
     let mut keys = Vec::new(alloc);
     for place in places {
-        let Some(key) = key_of(jobs, place) else {
+        let Some(key) = resolve_tile(jobs, place) else {
             return Ok(None);
         };
         keys.push(key).map_err(AllocError::from)?;
@@ -57,11 +65,11 @@ fn keys_of(alloc: Global, jobs: &Catalog, places: &[Place]) -> Result<Option<Key
 }
 
 // The key of the tile, if the catalog has its job.
-fn key_of(jobs: &Catalog, place: &Place) -> Option<Key>
+fn resolve_tile(jobs: &Catalog, place: &TileName) -> Option<Key>
     ensures some { IfSome result (IsKeyOf jobs.now place.now) }
     ensures none { IfNone result ((key : KeyType) → ¬ IsKeyOf jobs.now place.now key) }
 {
-    let ids = ids_at(jobs, place.job)?;
+    let ids = find_job_ids(jobs, place.job)?;
     Some(Key {
         program: ids.program,
         input: ids.input,
@@ -72,7 +80,7 @@ fn key_of(jobs: &Catalog, place: &Place) -> Option<Key>
 }
 
 // The identities of the catalog's job of this number.
-fn ids_at(jobs: &Catalog, job: u32) -> Option<Ids>
+fn find_job_ids(jobs: &Catalog, job: u32) -> Option<Ids>
     ensures some { IfSome result (AreIdsAt jobs.now job) }
     ensures none { IfNone result ((ids : IdsType) → ¬ AreIdsAt jobs.now job ids) }
 {

@@ -3,15 +3,15 @@
 ghost use Rattle.std.specs.Prelude.{◌≡◌};
 
 use crate::event::Event;
-use crate::places::{Place, Places};
+use crate::places::{TileName, TileNames};
 use std::alloc::AllocError;
 
 /// What a line requests: an event that names its job or its tiles by numbers of jobs, or one that names neither.
 #[derive(Debug, Drop)]
 pub enum Order {
-    Make { node: u8, place: Place },
+    Make { node: u8, place: TileName },
     Retire { node: u8, job: u32 },
-    Send { node: u8, to: u8, places: Places },
+    Send { node: u8, to: u8, places: TileNames },
     Plain(Event),
 }
 

@@ -4,7 +4,7 @@ use sequences::Sequence;
 
 /// A tile by the number of its job, its stage, and the row and the column in the stage's grid.
 #[derive(Clone, Copy, Debug, PartialEq, Eq)]
-pub struct Place {
+pub struct TileName {
     pub job: u32,
     pub stage: u16,
     pub row: u32,
@@ -12,4 +12,4 @@ pub struct Place {
 }
 
 /// Tiles in the order in which they were named.
-pub type Places = Sequence<Place>;
+pub type TileNames = Sequence<TileName>;

@@ -6,7 +6,7 @@ ghost use Rattle.gossip_events.specs.Scripts.{AreEvents, lines};
 
 use crate::event::Event;
 use crate::fault::ScriptFault;
-use crate::line::add_line;
+use crate::line::add_event_line;
 use catalog::Catalog;
 use std::alloc::Global;
 
@@ -16,7 +16,7 @@ use std::alloc::Global;
 /// `make N KEY`, `retire N JOB`, `send N M KEY..` (zero or more keys), `deliver N K`, `merge A B`, `keep N` and `restart N`, with
 /// one blank between its words. Nodes are numbers up to 255, messages and jobs are numbers up to 4,294,967,295, and a key is
 /// `JOB:STAGE:ROW:COL`. JOB counts the jobs of the catalog from 0.
-pub fn script_of(alloc: Global, jobs: &Catalog, text: &[u8]) -> Result<Vec<Event>, ScriptFault>
+pub fn parse_script(alloc: Global, jobs: &Catalog, text: &[u8]) -> Result<Vec<Event>, ScriptFault>
     // The events are those of the text's lines.
     ensures events { IfOk result (λ events. AreEvents jobs.now (lines text.now) events.items) }
 
@@ -27,7 +27,7 @@ pub fn script_of(alloc: Global, jobs: &Catalog, text: &[u8]) -> Result<Vec<Event
     let mut number = 0;
     for line in text.split(|byte| *byte == b'\n') {
         number += 1;
-        add_line(alloc, jobs, number, line, &mut events)?;
+        add_event_line(alloc, jobs, number, line, &mut events)?;
     }
     Ok(events)
 }

@@ -17,7 +17,7 @@ pub enum Verb {
 }
 
 /// The verb that a word spells.
-pub fn verb_of(word: &[u8]) -> Option<Verb>
+pub fn parse_verb(word: &[u8]) -> Option<Verb>
     ensures some { IfSome result (λ verb. word.now ≡ verb_word verb) }
     ensures none { IfNone result ((verb : VerbType) → ¬ (word.now ≡ verb_word verb)) }
 {

@@ -9,7 +9,7 @@ use Rattle.std.proofs.lemmas.List.Folds.{flat_map-map}
 use Rattle.std.proofs.lemmas.List.{append-nil}
 use Rattle.std.proofs.lemmas.Option.{none-some}
 use Rattle.accumulators.specs.Gatherings.{HasTaken}
-use Rattle.accumulators.specs.declared.running.Gathering.{Gathering}
+use Rattle.accumulators.specs.declared.running.RunningTotal.{RunningTotal}
 use Rattle.domains.specs.Span.{Ends}
 use Rattle.domains.specs.Pairs.{pairs}
 use Rattle.domains.specs.Tiles.{tile_cols, tile_rows, tiles_of}
@@ -51,27 +51,27 @@ module _ (s : FactSet) (program : List ℕ) (job : Pipeline) (g : ℕ) where
 -- ---- what comes in
 
 module _ (job : Pipeline) (g : ℕ) where
-  pub none_came : (xs : List (List ℤ)) (before now : Gathering) → xs ≡ [] → now ≡ before → CameIn job g xs before now
+  pub none_came : (xs : List (List ℤ)) (before now : RunningTotal) → xs ≡ [] → now ≡ before → CameIn job g xs before now
   none_came xs before now none same = record {
-    span = ap (λ (x : Gathering). x.span) same;
+    span = ap (λ (x : RunningTotal). x.span) same;
     taken = λ partials had.
         subst (λ (ys : List (List ℤ)). HasTaken job g ys now)
         (sym (append-nil partials) ∙ ap (λ ys. partials ++ ys) (sym none))
         (subst (HasTaken job g partials) (sym same) had);
   }
 
-  pub one_came : (xs : List (List ℤ)) (x : List ℤ) (before after now : Gathering) → xs ≡ x ∷ [] → now ≡ after → after.span ≡ before.span
+  pub one_came : (xs : List (List ℤ)) (x : List ℤ) (before after now : RunningTotal) → xs ≡ x ∷ [] → now ≡ after → after.span ≡ before.span
       → ((partials : List (List ℤ)) → HasTaken job g partials before → HasTaken job g (partials ++ x ∷ []) after)
       → CameIn job g xs before now
   one_came xs x before after now is same span takes = record {
-    span = ap (λ (y : Gathering). y.span) same ∙ span;
+    span = ap (λ (y : RunningTotal). y.span) same ∙ span;
     taken = λ partials had.
         subst (λ (ys : List (List ℤ)). HasTaken job g ys now) (ap (λ ys. partials ++ ys) (sym is))
         (subst (HasTaken job g (partials ++ x ∷ [])) (sym same) (takes partials had));
   }
 
   -- the next piece of a list that is made of pieces
-  pub more_came : (f : ℕ → List (List ℤ)) (n : ℕ) (start before now : Gathering)
+  pub more_came : (f : ℕ → List (List ℤ)) (n : ℕ) (start before now : RunningTotal)
       → CameIn job g (flat_map f (range_with_len 0 n)) start before
       → CameIn job g (f n) before now → CameIn job g (flat_map f (range_with_len 0 (n + 1))) start now
   more_came f n start before now first next = record {

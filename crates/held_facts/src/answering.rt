@@ -8,11 +8,11 @@ ghost use Rattle.std.specs.Prelude.{IfErr, IfOk};
 
 use crate::answer_fault::AnswerFault;
 use crate::facts::HeldFacts;
-use crate::held::Held;
+use crate::held::HeldJob;
 use accumulators::Answer;
 use fact_store::FactStore;
 use job::Job;
-use pictures::image_of;
+use pictures::assemble_image;
 
 impl<S: FactStore> HeldFacts<S> {
     /// The answer of a job from the facts that are held of its outputs and accumulators, true or not. The picture has the
@@ -30,10 +30,10 @@ impl<S: FactStore> HeldFacts<S> {
         ensures fault { IfErr result
             (IsAnswerFault self.now (program_id_in job.now) (pipeline_in job.now)) }
     {
-        let held = Held::of(self, job);
-        held.check()?;
-        let picture = image_of(self.alloc, job, &held)?;
-        let totals = held.totals(self.alloc)?;
+        let held = HeldJob::new(self, job);
+        held.check_wanted_tiles()?;
+        let picture = assemble_image(self.alloc, job, &held)?;
+        let totals = held.accumulate_totals(self.alloc)?;
         Ok(Answer { picture, totals })
     }
 }

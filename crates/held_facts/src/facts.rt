@@ -6,7 +6,7 @@ ghost use Rattle.std.specs.Option.{option_copied};
 ghost use Rattle.std.specs.Prelude.{◌≡◌, ◌<◌, ◌^◌, OnOk, OnErr, IfOk, IfErr, length, slice_get, filter, false};
 
 use crate::answers::{Known, Taken};
-use fact_store::{FactStore, TableFacts, names_one};
+use fact_store::{FactStore, TableFacts, has_job_of_key};
 use identity::{Ids, Key};
 use std::alloc::{AllocError, AllocFailed, Global};
 use std::marker::Model;
@@ -37,7 +37,7 @@ impl<S: FactStore> HeldFacts<S> {
     {
         HeldFacts {
             alloc,
-            store: S::empty(alloc),
+            store: S::new(alloc),
         }
     }
 
@@ -61,7 +61,7 @@ impl<S: FactStore> HeldFacts<S> {
         ensures only_new { IfErr result (λ _. holds self.old fact ≡ false) }
         ensures unchanged { OnErr result (self.new ≡ self.old) }
     {
-        if self.store.add(fact)? {
+        if self.store.add_fact(fact)? {
             Ok(Taken::New)
         } else {
             Ok(Taken::Already)
@@ -75,15 +75,15 @@ impl<S: FactStore> HeldFacts<S> {
         ensures few { IfOk result (λ count. count < 2 ^ 63) }
         ensures unchanged { OnErr result (self.new ≡ self.old) }
     {
-        self.store.join(&other.store)
+        self.store.join_facts(&other.store)
     }
 
     /// Removes the facts of the tiles of these jobs. No memory is taken.
-    pub fn remove(&mut self, jobs: &[Ids])
+    pub fn remove_facts_of_jobs(&mut self, jobs: &[Ids])
         ensures { self.new ≡ without self.old jobs.now }
     {
         if !jobs.is_empty() {
-            self.store.remove(jobs);
+            self.store.remove_facts_of_jobs(jobs);
         }
     }
 
@@ -91,7 +91,7 @@ impl<S: FactStore> HeldFacts<S> {
     pub fn knows(&self, key: &Key) -> Known
         ensures { result ≡ known_of self.now key.now }
     {
-        match self.store.count(key) {
+        match self.store.count_facts_of_key(key) {
             0 => Known::Nothing,
             1 => Known::One,
             _ => Known::Disputed,
@@ -99,48 +99,48 @@ impl<S: FactStore> HeldFacts<S> {
     }
 
     /// How many facts of the key are held.
-    pub fn count(&self, key: &Key) -> usize
+    pub fn count_facts_of_key(&self, key: &Key) -> usize
         ensures { result ≡ length (facts_of self.now key.now) }
     {
-        self.store.count(key)
+        self.store.count_facts_of_key(key)
     }
 
     /// The held fact of the key with exactly `n` held facts of the key below it.
-    pub fn nth(&self, key: &Key, n: usize) -> Option<&Fact>
+    pub fn find_nth_fact(&self, key: &Key, n: usize) -> Option<&Fact>
         ensures { option_copied result ≡ slice_get (facts_of self.now key.now) n }
     {
-        self.store.nth(key, n)
+        self.store.find_nth_fact(key, n)
     }
 
     /// The least fact that is held.
-    pub fn least(&self) -> Option<&Fact>
+    pub fn find_least_fact(&self) -> Option<&Fact>
         ensures { option_copied result ≡ least self.now }
     {
-        self.store.least()
+        self.store.find_least_fact()
     }
 
     /// The least held fact above a given one, which need not be held.
-    pub fn least_above(&self, fact: &Fact) -> Option<&Fact>
+    pub fn find_least_above(&self, fact: &Fact) -> Option<&Fact>
         ensures { option_copied result ≡ least_above self.now fact.now }
     {
-        self.store.least_above(fact)
+        self.store.find_least_above(fact)
     }
 
     /// All held facts, rising.
-    pub fn facts(&self) -> Result<Vec<Fact>, AllocError>
+    pub fn list_facts(&self) -> Result<Vec<Fact>, AllocError>
         ensures { IfOk result (λ facts. facts.items ≡ facts_in self.now) }
     {
         let mut facts = Vec::new(self.alloc);
-        let mut next = self.least();
+        let mut next = self.find_least_fact();
         while let Some(fact) = next {
             facts.push(fact.clone()?)?;
-            next = self.least_above(fact);
+            next = self.find_least_above(fact);
         }
         Ok(facts)
     }
 
     /// How many facts are of tiles of these jobs. If they are too many to be counted, this fails as if memory ran out.
-    pub fn count_of(&self, jobs: &[Ids]) -> Result<usize, AllocError>
+    pub fn count_facts_of_jobs(&self, jobs: &[Ids]) -> Result<usize, AllocError>
         ensures { IfOk result
             (λ count. count ≡ length (filter (λ f. names_one jobs.now f.key) (facts_in self.now))) }
     {
@@ -149,11 +149,11 @@ impl<S: FactStore> HeldFacts<S> {
         }
         let mut passed: usize = 0;
         let mut count = 0;
-        let mut next = self.least();
+        let mut next = self.find_least_fact();
         while let Some(fact) = next {
             passed = passed.checked_add(1).ok_or(AllocError)?;
-            count += usize::from(names_one(jobs, fact.key()));
-            next = self.least_above(fact);
+            count += usize::from(has_job_of_key(jobs, fact.key()));
+            next = self.find_least_above(fact);
         }
         Ok(count)
     }

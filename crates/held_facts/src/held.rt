@@ -12,11 +12,11 @@ use fact_store::FactStore;
 use identity::{InputId, Key, ProgramId};
 use job::Job;
 use tile_fact::{Body, Fact};
-use tile_run::Known;
+use tile_run::TileSource;
 
 /// What a node holds, together with a job, whose identities are found once.
 #[derive(Drop)]
-pub(crate) struct Held<'a, S: FactStore> {
+pub(crate) struct HeldJob<'a, S: FactStore> {
     pub(crate) state: &'a HeldFacts<S>,
     pub(crate) job: &'a Job,
     program: ProgramId,
@@ -25,12 +25,12 @@ pub(crate) struct Held<'a, S: FactStore> {
     ghost input_is: { input ≡ input_id (pipeline_in job.now) },
 }
 
-impl<'a, S: FactStore> Held<'a, S> {
-    pub(crate) fn of(state: &'a HeldFacts<S>, job: &'a Job) -> Held<'a, S>
+impl<'a, S: FactStore> HeldJob<'a, S> {
+    pub(crate) fn new(state: &'a HeldFacts<S>, job: &'a Job) -> HeldJob<'a, S>
         ensures state { result.state.now ≡ state.now }
         ensures job { result.job.now ≡ job.now }
     {
-        Held {
+        HeldJob {
             state,
             job,
             program: job.program_id(),
@@ -39,9 +39,9 @@ impl<'a, S: FactStore> Held<'a, S> {
     }
 }
 
-impl<S: FactStore> Held<'_, S> {
+impl<S: FactStore> HeldJob<'_, S> {
     /// The key of a tile.
-    pub(crate) fn key(&self, stage: usize, row: u32, col: u32) -> Key
+    pub(crate) fn build_key(&self, stage: usize, row: u32, col: u32) -> Key
         requires { stage < 65536 }
         ensures { result ≡ tile_key (program_id_in self.now.job.now)
             (pipeline_in self.now.job.now) stage row col }
@@ -56,18 +56,20 @@ impl<S: FactStore> Held<'_, S> {
     }
 }
 
-impl<S: FactStore> Known for Held<'_, S> {
+impl<S: FactStore> TileSource for HeldJob<'_, S> {
     ghost given = { λ held. held_tiles held.state.now (program_id_in held.job.now) (pipeline_in held.job.now) };
 
-    fn tile(&self, stage: usize, row: u32, col: u32) -> Option<&[i32]> {
+    fn borrow_tile(&self, stage: usize, row: u32, col: u32) -> Option<&[i32]> {
         self.job.grid(stage)?;
-        let fact = self.state.nth(&self.key(stage, row, col), 0)?;
-        samples_of(fact)
+        let fact = self
+            .state
+            .find_nth_fact(&self.build_key(stage, row, col), 0)?;
+        read_samples(fact)
     }
 }
 
 // The numbers of a tile.
-fn samples_of(fact: &Fact) -> Option<&[i32]>
+fn read_samples(fact: &Fact) -> Option<&[i32]>
     ensures { option_map (λ samples. samples.now) result ≡ samples_in fact.now.body }
 {
     match fact.body() {

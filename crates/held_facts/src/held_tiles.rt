@@ -6,7 +6,7 @@ ghost use Rattle.std.specs.Option.{option_copied};
 ghost use Rattle.std.specs.Prelude.{◌≡◌, find, slice_get};
 
 use tile_fact::{Body, Fact};
-use tile_run::Known;
+use tile_run::TileSource;
 
 /// Facts of tiles of one job, in the order of their tiles, each of which is returned when its tile is requested. Look-ups search
 /// these facts alone. They share their numbers with the state that holds them.
@@ -16,13 +16,13 @@ pub(crate) struct HeldTiles {
     ghost rising: { TilesRise facts.items },
 }
 
-impl Known for HeldTiles {
+impl TileSource for HeldTiles {
     ghost use Rattle.held_facts.specs.Making.{tiles_in};
 
     ghost given = { λ held. tiles_in held.facts.items };
 
-    fn tile(&self, stage: usize, row: u32, col: u32) -> Option<&[i32]> {
-        let fact = fact_of(&self.facts, stage, row, col)?;
+    fn borrow_tile(&self, stage: usize, row: u32, col: u32) -> Option<&[i32]> {
+        let fact = find_tile_fact(&self.facts, stage, row, col)?;
         match fact.body() {
             Body::Tile(samples) => Some(samples.as_slice()),
             Body::Partial(_) => None,
@@ -31,12 +31,12 @@ impl Known for HeldTiles {
 }
 
 // The fact of this tile, if there is one.
-fn fact_of(facts: &[Fact], stage: usize, row: u32, col: u32) -> Option<&Fact>
+fn find_tile_fact(facts: &[Fact], stage: usize, row: u32, col: u32) -> Option<&Fact>
     requires { TilesRise facts.now }
     ensures { option_copied result ≡ find (is_of_tile stage row col) facts.now }
 {
-    let place = facts.partition_point(|fact| is_before(fact, stage, row, col));
-    let fact = at(facts, place)?;
+    let place = facts.partition_point(|fact| is_before_tile(fact, stage, row, col));
+    let fact = get_fact(facts, place)?;
     if is_of_tile(fact, stage, row, col) {
         Some(fact)
     } else {
@@ -44,14 +44,14 @@ fn fact_of(facts: &[Fact], stage: usize, row: u32, col: u32) -> Option<&Fact>
     }
 }
 
-fn at(facts: &[Fact], n: usize) -> Option<&Fact>
+fn get_fact(facts: &[Fact], n: usize) -> Option<&Fact>
     ensures { option_copied result ≡ slice_get facts.now n }
 {
     facts.get(n)
 }
 
 // Whether the fact is of a tile before that of this stage in this row and this column.
-fn is_before(fact: &Fact, stage: usize, row: u32, col: u32) -> bool
+fn is_before_tile(fact: &Fact, stage: usize, row: u32, col: u32) -> bool
     ensures { result ≡ is_before_tile stage row col fact.now }
 {
     let key = fact.key();

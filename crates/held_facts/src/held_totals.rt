@@ -10,21 +10,21 @@ ghost use Rattle.held_facts.specs.inside.Gathering.{CameIn, row_partials};
 ghost use Rattle.held_facts.specs.inside.Judging.{RowIsReady, StageIsReady};
 ghost use Rattle.std.specs.Prelude.{◌≡◌, ◌<◌, ◌++◌, ◌∷◌, [], Some, length, map, slice_get, IfNone, IfOk, IfSome, OnOk};
 
-use crate::held::Held;
-use accumulators::{Gathering, Total};
+use crate::held::HeldJob;
+use accumulators::{RunningTotal, Total};
 use fact_store::FactStore;
 use identity::Key;
 use std::alloc::{AllocError, Global};
 use tile_fact::Body;
 
-impl<S: FactStore> Held<'_, S> {
+impl<S: FactStore> HeldJob<'_, S> {
     /// What the accumulators accumulate from the partials that are held, in the order of the stages.
     ///
     /// # Errors
     ///
     /// Fails only where memory is refused.
     #[tactic(auto, using(tile_boxes::proofs::Lists::flat_map_range_more))]
-    pub(crate) fn totals(&self, alloc: Global) -> Result<Vec<Total>, AllocError>
+    pub(crate) fn accumulate_totals(&self, alloc: Global) -> Result<Vec<Total>, AllocError>
         requires { AllAreReady self.now.state.now (program_id_in self.now.job.now)
             (pipeline_in self.now.job.now) }
         ensures { IfOk result (λ totals. map gathered totals.items
@@ -33,13 +33,13 @@ impl<S: FactStore> Held<'_, S> {
     {
         let mut totals = Vec::new(alloc);
         for stage in 0..self.job.stages().len() {
-            self.push_total(&mut totals, alloc, stage)?;
+            self.push_stage_total(&mut totals, alloc, stage)?;
         }
         Ok(totals)
     }
 
     // Adds what a stage accumulates, if it is an accumulator.
-    fn push_total(
+    fn push_stage_total(
         &self,
         totals: &mut Vec<Total>,
         alloc: Global,
@@ -53,15 +53,15 @@ impl<S: FactStore> Held<'_, S> {
             (held_partials self.now.state.now (program_id_in self.now.job.now)
             (pipeline_in self.now.job.now) stage)) }
     {
-        if let Some(mut gathering) = Gathering::of(alloc, self.job, stage)? {
-            self.take_stage(stage, &mut gathering);
+        if let Some(mut gathering) = RunningTotal::from_job(alloc, self.job, stage)? {
+            self.accumulate_stage(stage, &mut gathering);
             totals.push(gathering.into_total())?;
         }
         Ok(())
     }
 
     // Accumulates the partials of all tiles of a stage.
-    fn take_stage(&self, stage: usize, gathering: &mut Gathering)
+    fn accumulate_stage(&self, stage: usize, gathering: &mut RunningTotal)
         requires span { stage_bins (slice_get (pipeline_in self.now.job.now).stages stage)
             ≡ Some gathering.old.span }
         requires ready { StageIsReady self.now.state.now (program_id_in self.now.job.now)
@@ -72,13 +72,13 @@ impl<S: FactStore> Held<'_, S> {
     {
         if let Some(grid) = self.job.grid(stage) {
             for row in 0..grid.tile_rows() {
-                self.take_row(stage, row, grid.tile_cols(), gathering);
+                self.accumulate_row(stage, row, grid.tile_cols(), gathering);
             }
         }
     }
 
     // Those of the first tiles of a row.
-    fn take_row(&self, stage: usize, row: u32, cols: u32, gathering: &mut Gathering)
+    fn accumulate_row(&self, stage: usize, row: u32, cols: u32, gathering: &mut RunningTotal)
         requires stage { stage < 65536 }
         requires span { stage_bins (slice_get (pipeline_in self.now.job.now).stages stage)
             ≡ Some gathering.old.span }
@@ -89,14 +89,14 @@ impl<S: FactStore> Held<'_, S> {
             (pipeline_in self.now.job.now) stage cols row) gathering.old gathering.new }
     {
         for col in 0..cols {
-            if let Some(bins) = self.bins(&self.key(stage, row, col)) {
-                gathering.take(bins);
+            if let Some(bins) = self.find_partial_bins(&self.build_key(stage, row, col)) {
+                gathering.join_partial(bins);
             }
         }
     }
 
     // The bins of the one fact that is held of a key, if it is a partial.
-    fn bins(&self, key: &Key) -> Option<&[i64]>
+    fn find_partial_bins(&self, key: &Key) -> Option<&[i64]>
         requires { IsReady self.now.state.now (pipeline_in self.now.job.now) key.now }
         ensures some { IfSome result
             (λ bins. partials_of self.now.state.now key.now ≡ bins.now ∷ []) }
@@ -105,7 +105,7 @@ impl<S: FactStore> Held<'_, S> {
             → stage_bins (slice_get (pipeline_in self.now.job.now).stages key.now.stage) ≡ Some span
             → length bins.now ≡ len_of span) }
     {
-        match self.state.nth(key, 0)?.body() {
+        match self.state.find_nth_fact(key, 0)?.body() {
             Body::Partial(bins) => Some(bins.as_slice()),
             Body::Tile(_) => None,
         }

@@ -23,7 +23,7 @@ impl<S: FactStore> HeldFacts<S> {
         ensures fault { IfErr result (IsLendFault self.now keys.now) }
     {
         let state = self.lend_state(keys)?;
-        Ok(state.facts()?)
+        Ok(state.list_facts()?)
     }
 
     /// The state that holds exactly what [`lend`](HeldFacts::lend) answers.
@@ -32,24 +32,24 @@ impl<S: FactStore> HeldFacts<S> {
         ensures held { IfOk result (λ _. AreHeld self.now keys.now) }
         ensures fault { IfErr result (IsLendFault self.now keys.now) }
     {
-        if let Some(key) = self.least_not_held(keys) {
+        if let Some(key) = self.find_least_key_not_held(keys) {
             return Err(LendFault::NotHeld(key));
         }
         let mut state = HeldFacts::new(self.alloc);
         for key in keys {
-            state.take_of_key(self, key)?;
+            state.copy_facts_of_key(self, key)?;
         }
         Ok(state)
     }
 
     // The least of the keys of which nothing is held, if there is one.
-    fn least_not_held(&self, keys: &[Key]) -> Option<Key>
+    fn find_least_key_not_held(&self, keys: &[Key]) -> Option<Key>
         ensures found { IfSome result (IsLeastNotHeld self.now keys.now) }
         ensures none { result ≡ None → AreHeld self.now keys.now }
     {
         let mut least: Option<Key> = None;
         for key in keys {
-            if self.count(key) == 0 && is_first(key, &least) {
+            if self.count_facts_of_key(key) == 0 && is_below_least(key, &least) {
                 least = Some(*key);
             }
         }
@@ -57,13 +57,13 @@ impl<S: FactStore> HeldFacts<S> {
     }
 
     // Adds the facts of a key that another state holds.
-    fn take_of_key(&mut self, other: &HeldFacts<S>, key: &Key) -> Result<(), AllocError>
+    fn copy_facts_of_key(&mut self, other: &HeldFacts<S>, key: &Key) -> Result<(), AllocError>
         ensures { OnOk result ((f : Fact) →
             holds self.new f
             ≡ (holds self.old f || (holds other.now f && same_key key.now f.key))) }
     {
-        for n in 0..other.count(key) {
-            if let Some(fact) = other.nth(key, n) {
+        for n in 0..other.count_facts_of_key(key) {
+            if let Some(fact) = other.find_nth_fact(key, n) {
                 self.take(fact.clone()?)?;
             }
         }
@@ -72,7 +72,7 @@ impl<S: FactStore> HeldFacts<S> {
 }
 
 // Whether the key is below the one found before, if there is one.
-fn is_first(key: &Key, found: &Option<Key>) -> bool
+fn is_below_least(key: &Key, found: &Option<Key>) -> bool
     ensures { result ≡ is_first key.now found.now }
 {
     match found {

@@ -18,14 +18,14 @@ use overlap_tiles::TilePlan;
 use partials::partial;
 use std::alloc::{AllocError, Global};
 use tile_fact::{Bins, Body, Samples};
-use tile_run::{Scratch, run_tile};
+use tile_run::{TileScratch, run_tile};
 
 /// The body of the fact of this key, by its tile's plan, from facts that supply each tile that the plan needs.
 ///
 /// # Errors
 ///
 /// Fails only where memory is refused.
-pub(crate) fn local_body(
+pub(crate) fn compute_local_body(
     alloc: Global,
     job: &Job,
     plan: &TilePlan<'_>,
@@ -45,7 +45,7 @@ pub(crate) fn local_body(
     ensures within { IfOk result IsWithin }
 {
     // No need is missing, so the fault can only be that memory is.
-    let mut scratch = Scratch::new(alloc);
+    let mut scratch = TileScratch::new(alloc);
     match job.kind(usize::from(key.stage)) {
         Some(StageKind::Function) => {
             let Ok(samples) = run_tile(alloc, job, plan, &mut scratch, held) else {

@@ -12,10 +12,10 @@ ghost use Rattle.held_facts.specs.Facts.{facts_of};
 use crate::answers::Known;
 use crate::facts::HeldFacts;
 use crate::held_tiles::HeldTiles;
-use crate::local_bodies::local_body;
+use crate::local_bodies::compute_local_body;
 use crate::make_fault::MakeFault;
 use catalog::Catalog;
-use fact_audit::{job_of, shape_ok};
+use fact_audit::{find_job_of_key, is_well_shaped};
 use fact_store::FactStore;
 use grouping::Schedule;
 use identity::Key;
@@ -41,13 +41,13 @@ impl<S: FactStore> HeldFacts<S> {
         ensures fault { IfErr result
             (IsMakeFault catalog.now self.now schedule.now.inlining key.now) }
     {
-        let Some(job) = job_of(catalog, key) else {
+        let Some(job) = find_job_of_key(catalog, key) else {
             return Err(MakeFault::Foreign);
         };
         let stage = usize::from(key.stage);
         let plan = TilePlan::of(self.alloc, job, schedule, stage, key.row, key.col)?;
-        let facts = self.needed_facts(job, plan.needs())?;
-        let body = local_body(self.alloc, job, &plan, key, &HeldTiles { facts })?;
+        let facts = self.find_needed_facts(job, plan.needs())?;
+        let body = compute_local_body(self.alloc, job, &plan, key, &HeldTiles { facts })?;
         match Fact::new(*key, body) {
             Ok(fact) => Ok(fact),
             Err(_) => unreachable!(),
@@ -55,7 +55,7 @@ impl<S: FactStore> HeldFacts<S> {
     }
 
     // The held facts of the needs, in their order, if one that fits its tile is held of each.
-    fn needed_facts(&self, job: &Job, needs: &[Key]) -> Result<Vec<Fact>, MakeFault>
+    fn find_needed_facts(&self, job: &Job, needs: &[Key]) -> Result<Vec<Fact>, MakeFault>
         ensures facts { IfOk result
             (λ facts. facts.items ≡ flat_map (facts_of self.now) needs.now) }
         ensures ready { IfOk result (λ _. AreReady self.now (pipeline_in job.now) needs.now) }
@@ -63,14 +63,14 @@ impl<S: FactStore> HeldFacts<S> {
     {
         let mut facts = Vec::with_capacity(self.alloc, needs.len())?;
         for need in needs {
-            let fact = self.needed_fact(job, need)?;
+            let fact = self.find_needed_fact(job, need)?;
             facts.push(fact).map_err(AllocError::from)?;
         }
         Ok(facts)
     }
 
     // The one held fact of the need, if it fits its tile.
-    fn needed_fact(&self, job: &Job, need: &Key) -> Result<Fact, MakeFault>
+    fn find_needed_fact(&self, job: &Job, need: &Key) -> Result<Fact, MakeFault>
         ensures one { IfOk result (λ fact. facts_of self.now need.now ≡ fact ∷ []) }
         ensures fits { IfOk result (λ fact. FitsJob fact (pipeline_in job.now)) }
         ensures fault { IfErr result (IsNeedFault self.now (pipeline_in job.now) need.now) }
@@ -80,10 +80,10 @@ impl<S: FactStore> HeldFacts<S> {
             Known::Disputed => Err(MakeFault::NeedDisputed(*need)),
             Known::Retired => unreachable!(),
             Known::One => {
-                let Some(fact) = self.nth(need, 0) else {
+                let Some(fact) = self.find_nth_fact(need, 0) else {
                     unreachable!();
                 };
-                if !shape_ok(job, fact) {
+                if !is_well_shaped(job, fact) {
                     return Err(MakeFault::NeedMisshapen(*need));
                 }
                 Ok(fact.clone()?)

@@ -25,7 +25,7 @@ impl<S: FactStore> HeldFacts<S> {
         ensures rising { IfOk result (λ keys. AllPairs IsKeyBefore keys.items) }
     {
         let mut keys = wanted_keys(self.alloc, job)?;
-        keys.retain(|key| self.count(key) == 0);
+        keys.retain(|key| self.count_facts_of_key(key) == 0);
         Ok(keys)
     }
 }

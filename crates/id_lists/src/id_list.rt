@@ -48,7 +48,7 @@ impl IdList {
         ensures { IfOk result (λ copy. copy ≡ self.now) }
     {
         let mut ids = Vec::with_capacity(alloc, self.ids.len())?;
-        push_copies(&mut ids, &self.ids)?;
+        push_ids_copies(&mut ids, &self.ids)?;
         Ok(IdList { ids })
     }
 
@@ -60,14 +60,14 @@ impl IdList {
     }
 
     /// Whether a job's identities are among these.
-    pub fn has(&self, ids: &Ids) -> bool
+    pub fn has_ids(&self, ids: &Ids) -> bool
         ensures { result ≡ has self.now ids.now }
     {
-        is_among(&self.ids, ids)
+        is_listed(&self.ids, ids)
     }
 
     /// Adds a job's identities. If memory runs out, the list is unchanged.
-    pub fn add(&mut self, ids: &Ids) -> Result<(), AllocError>
+    pub fn add_ids(&mut self, ids: &Ids) -> Result<(), AllocError>
         ensures added { OnOk result (self.new ≡ with_ids self.old ids.now) }
         ensures unchanged { OnErr result (self.new ≡ self.old) }
     {
@@ -77,24 +77,24 @@ impl IdList {
     }
 
     /// The identities that are in this list or in the other.
-    pub fn union(&self, alloc: Global, other: &IdList) -> Result<IdList, AllocError>
+    pub fn unite(&self, alloc: Global, other: &IdList) -> Result<IdList, AllocError>
         ensures { IfOk result (λ both. both ≡ union self.now other.now) }
     {
         let mut ids = Vec::with_capacity(alloc, self.ids.len())?;
-        push_copies(&mut ids, &self.ids)?;
-        push_copies(&mut ids, &other.ids)?;
+        push_ids_copies(&mut ids, &self.ids)?;
+        push_ids_copies(&mut ids, &other.ids)?;
         sort_once(&mut ids);
         Ok(IdList { ids })
     }
 
     /// How many identities of the other list are not in this one.
-    pub fn count_lacked(&self, other: &IdList) -> usize
+    pub fn count_lacked_ids(&self, other: &IdList) -> usize
         ensures count { result ≡ length (ids_lacked self.now other.now) }
         ensures few { result < 2 ^ 63 }
     {
         let mut count = 0;
         for ids in &other.ids {
-            if !is_among(&self.ids, ids) {
+            if !is_listed(&self.ids, ids) {
                 count += 1;
             }
         }
@@ -103,14 +103,14 @@ impl IdList {
 }
 
 // Whether the identities are in the list.
-fn is_among(list: &[Ids], ids: &Ids) -> bool
+fn is_listed(list: &[Ids], ids: &Ids) -> bool
     ensures { result ≡ list_any (eq_by_cmp ids_cmp ids.now) list.now }
 {
     list.iter().any(|other| ids.cmp(other).is_eq())
 }
 
 // Adds copies of the identities.
-fn push_copies(copies: &mut Vec<Ids>, ids: &[Ids]) -> Result<(), AllocError>
+fn push_ids_copies(copies: &mut Vec<Ids>, ids: &[Ids]) -> Result<(), AllocError>
     ensures { OnOk result (copies.new.items ≡ copies.old.items ++ ids.now) }
 {
     for one in ids {

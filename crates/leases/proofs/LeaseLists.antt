@@ -10,8 +10,8 @@ use Rattle.std.proofs.lemmas.Option.{none-some}
 use Rattle.identity.specs.declared.key.Key.{Key}
 use Rattle.leases.specs.declared.entry.Lease.{Lease}
 use Rattle.leases.specs.declared.entry.Entry.{Entry}
-use Rattle.leases.specs.Leases.{time_of, ends, end_of, given, ended, leases_of, lasts}
-use Rattle.leases.specs.Standing.{unless_over}
+use Rattle.leases.specs.Leases.{time_of, ends, end_of, entry_lease, ended_lease, leases_of, lasts}
+use Rattle.leases.specs.Standing.{lease_unless_over}
 
 -- each lease is over before the next begins
 abbrev pub Apart : List Lease → Type 0
@@ -37,26 +37,26 @@ end_of-more q until (d ∷ h) e before =
     else (if b then min until (time_of d) else end_of q until h)))
     [ true ↦ cut_twice until (time_of d) (time_of e) (ends q e) first | false ↦ rest ]
 
-given_alone : (q : Key) (o : Option Lease) → option_to_list (option_map (ended q []) o) ++ [] ≡ option_to_list o
+given_alone : (q : Key) (o : Option Lease) → option_to_list (option_map (ended_lease q []) o) ++ [] ≡ option_to_list o
 given_alone q None = refl
 given_alone q (Some l) = refl
 
 given_before : (q : Key) (h : List Entry) (e : Entry) (o : Option Lease) (later rest : List Lease) → All (λ d. time_of d ≤ time_of e) h
-    → later ≡ map (cut q e) rest ++ option_to_list (given q e)
-    → option_to_list (option_map (ended q (h ++ e ∷ [])) o) ++ later
-    ≡ map (cut q e) (option_to_list (option_map (ended q h) o) ++ rest) ++ option_to_list (given q e)
+    → later ≡ map (cut q e) rest ++ option_to_list (entry_lease q e)
+    → option_to_list (option_map (ended_lease q (h ++ e ∷ [])) o) ++ later
+    ≡ map (cut q e) (option_to_list (option_map (ended_lease q h) o) ++ rest) ++ option_to_list (entry_lease q e)
 given_before q h e None later rest before eq = eq
 given_before q h e (Some l) later rest before eq =
-    ap (λ u. record l { until = u } ∷ later) (end_of-more q l.until h e before) ∙ ap (λ ls. cut q e (ended q h l) ∷ ls) eq
+    ap (λ u. record l { until = u } ∷ later) (end_of-more q l.until h e before) ∙ ap (λ ls. cut q e (ended_lease q h l) ∷ ls) eq
 
 -- one entry more may end leases that were there, and give one
 pub leases_of-more : (q : Key) (h : List Entry) (e : Entry) → All (λ d. time_of d ≤ time_of e) h
-    → leases_of q (h ++ e ∷ []) ≡ map (cut q e) (leases_of q h) ++ option_to_list (given q e)
-leases_of-more q [] e before = given_alone q (given q e)
+    → leases_of q (h ++ e ∷ []) ≡ map (cut q e) (leases_of q h) ++ option_to_list (entry_lease q e)
+leases_of-more q [] e before = given_alone q (entry_lease q e)
 leases_of-more q (d ∷ h) e before =
     let P : Entry → Type 0 = λ d. time_of d ≤ time_of e in
     let tail = All-tail P d h before in
-    given_before q h e (given q d) _ (leases_of q h) tail (leases_of-more q h e tail)
+    given_before q h e (entry_lease q d) _ (leases_of q h) tail (leases_of-more q h e tail)
 
 -- whether a lease that has begun lasts
 pub lasts_begun : (x : ℕ) (l : Lease) → l.from ≤ x → lasts x l ≡ nat_lt x l.until
@@ -82,7 +82,7 @@ nothing_later t l (m ∷ ls) lasting later begun =
 
 -- once all have begun, the lease in force at a time is the one in force later, until it is over
 pub find_later : (t x : ℕ) (ls : List Lease) → t ≤ x → All (λ l. l.from ≤ t) ls → Apart ls
-    → unless_over x (find (lasts t) ls) ≡ find (lasts x) ls
+    → lease_unless_over x (find (lasts t) ls) ≡ find (lasts x) ls
 find_later t x [] later begun apart = refl
 find_later t x (l ∷ ls) later begun apart =
     let P : Lease → Type 0 = λ l. l.from ≤ t in
@@ -92,10 +92,10 @@ find_later t x (l ∷ ls) later begun apart =
       | inl lasting ↦
           let now : lasts t l ≡ true = lasts_begun t l first ∙ lt-ltb t l.until lasting in
           let none : find (lasts x) ls ≡ None = ap (find (lasts x)) (nothing_later t l ls lasting apart.0 rest) in
-          ap (λ b. unless_over x (cond b (Some l) (find (lasts t) ls))) now
+          ap (λ b. lease_unless_over x (cond b (Some l) (find (lasts t) ls))) now
           ∙ sym (ap (λ b. cond b (Some l) (find (lasts x) ls)) (lasts_begun x l (omega arith)) ∙ ap (cond (nat_lt x l.until) (Some l)) none)
       | inr ended ↦
-          ap (λ b. unless_over x (cond b (Some l) (find (lasts t) ls))) (over t l ended)
+          ap (λ b. lease_unless_over x (cond b (Some l) (find (lasts t) ls))) (over t l ended)
           ∙ (find_later t x ls later rest apart.1 ∙ sym (ap (λ b. cond b (Some l) (find (lasts x) ls)) (over x l (omega arith))))
     ]
 

@@ -17,9 +17,9 @@ use Rattle.leases.specs.declared.answer.Release.TheVariants as release
 use Rattle.leases.specs.declared.entry.Lease.{Lease}
 use Rattle.leases.specs.declared.entry.Entry.{Entry}
 use Rattle.leases.specs.declared.entry.Entry.TheVariants.{Granted, Renewed, Held, Released}
-use Rattle.leases.specs.Leases.{same, time_of, ends, given, leases_of, in_force}
+use Rattle.leases.specs.Leases.{is_same_key, time_of, ends, entry_lease, leases_of, in_force}
 use Rattle.leases.specs.Rules.{until_of, claim_by, release_by, claim_entry}
-use Rattle.leases.specs.Rules.{release_entry, recorded, IsLegal, empty, later, claimed, released}
+use Rattle.leases.specs.Rules.{release_entry, with_entry, IsLegal, empty, later, claimed, released}
 use Rattle.leases.proofs.LeaseLists.{Apart, cut, leases_of-more, all_over, apart_cut, apart_push}
 
 pub record Kept (h : List Entry) (t : ℕ) : Type 0 where
@@ -40,7 +40,7 @@ equal_order Less h = cc
 equal_order Equal h = refl
 equal_order Greater h = cc
 
-one_key : (a b : Key) → same a b ≡ true → a ≡ b
+one_key : (a b : Key) → is_same_key a b ≡ true → a ≡ b
 one_key a b h = same_key a b (equal_order (key_cmp a b) h)
 
 cut_until : (until t : ℕ) (b : Bool) → b ≡ true → (if b then min until t else until) ≤ t
@@ -51,19 +51,19 @@ cut_until until t false h = cc
 pub cut_over : (q : Key) (e : Entry) (ls : List Lease) → ends q e ≡ true → All (λ l. (cut q e l).until ≤ time_of e) ls
 cut_over q e ls h = λ k d within. cut_until _ (time_of e) (ends q e) h
 
-pub given_over : (q : Key) (h : List Entry) (e : Entry) (n : Lease) → Kept h (time_of e) → MayCome h e → given q e ≡ Some n
+pub given_over : (q : Key) (h : List Entry) (e : Entry) (n : Lease) → Kept h (time_of e) → MayCome h e → entry_lease q e ≡ Some n
     → (n.from ≡ time_of e) × All (λ l. (cut q e l).until ≤ time_of e) (leases_of q h)
 given_over q h (Granted key lease) n k m eq =
-    let it = cond_some (same key q) lease n eq in
+    let it = cond_some (is_same_key key q) lease n eq in
     let none : in_force q lease.from h ≡ None = subst (λ p. in_force p lease.from h ≡ None) (one_key key q it.0) m in
     (ap (λ l. l.from) (sym it.1), all_over lease.from (leases_of q h) (k.begun q) none)
 given_over q h (Renewed key lease) n k m eq =
-    let it = cond_some (same key q) lease n eq in
+    let it = cond_some (is_same_key key q) lease n eq in
     (ap (λ l. l.from) (sym it.1), cut_over q (Renewed key lease) (leases_of q h) it.0)
 given_over q h (Held key node time) n k m eq = absurd (none-some n eq)
 given_over q h (Released key node time) n k m eq = absurd (none-some n eq)
 
-given_begun : (q : Key) (h : List Entry) (e : Entry) (o : Option Lease) → Kept h (time_of e) → MayCome h e → given q e ≡ o
+given_begun : (q : Key) (h : List Entry) (e : Entry) (o : Option Lease) → Kept h (time_of e) → MayCome h e → entry_lease q e ≡ o
     → All (λ l. l.from ≤ time_of e) (option_to_list o) × Apart (map (cut q e) (leases_of q h) ++ option_to_list o)
 given_begun q h e None k m eq = (All-nil (λ l. l.from ≤ time_of e), rw append-nil (apart_cut q e (leases_of q h) (k.apart q)))
 given_begun q h e (Some n) k m eq =
@@ -81,31 +81,31 @@ kept_more h e k m =
       times = All-push (λ d. time_of d ≤ time_of e) h e k.times now;
       rising = all_pairs_push (λ a b. time_of a ≤ time_of b) h e k.rising k.times;
       begun = λ q. rw (leases_of-more q h e k.times)
-          (All-append P (map (cut q e) (leases_of q h)) (option_to_list (given q e)) (All-map P (cut q e) (leases_of q h) (k.begun q))
-          (given_begun q h e (given q e) k m refl).0);
-      apart = λ q. rw (leases_of-more q h e k.times) (given_begun q h e (given q e) k m refl).1;
+          (All-append P (map (cut q e) (leases_of q h)) (option_to_list (entry_lease q e)) (All-map P (cut q e) (leases_of q h) (k.begun q))
+          (given_begun q h e (entry_lease q e) k m refl).0);
+      apart = λ q. rw (leases_of-more q h e k.times) (given_begun q h e (entry_lease q e) k m refl).1;
     }
 
 -- what is recorded of a claim by the rules may come
 claim_more_by : (P : List Entry → Type 0) (h : List Entry) (time node : ℕ) (key : Key) (ttl : ℕ) (o : Option Lease)
     → in_force key time h ≡ o
     → ((e : Entry) → MayCome h e → time_of e ≡ time → P (h ++ e ∷ []))
-    → P (recorded h (claim_entry time node key (claim_by o time node ttl)))
+    → P (with_entry h (claim_entry time node key (claim_by o time node ttl)))
 claim_more_by P h time node key ttl None eq step =
     step (Granted key (record { node = node; from = time; until = until_of time ttl })) eq refl
 claim_more_by P h time node key ttl (Some l) eq step =
     elim (l.node == node) as
-    (λ b. P (recorded h (claim_entry time node key (if b then claim.Renewed (until_of time ttl) else claim.Held l.node l.until)))) [
+    (λ b. P (with_entry h (claim_entry time node key (if b then claim.Renewed (until_of time ttl) else claim.Held l.node l.until)))) [
       | true ↦ step (Renewed key (record { node = node; from = time; until = until_of time ttl })) tt refl
       | false ↦ step (Held key node time) tt refl
     ]
 
 release_more_by : (P : List Entry → Type 0) (h : List Entry) (time node : ℕ) (key : Key) (o : Option Lease) → P h
     → ((e : Entry) → MayCome h e → time_of e ≡ time → P (h ++ e ∷ []))
-    → P (recorded h (release_entry time node key (release_by o node)))
+    → P (with_entry h (release_entry time node key (release_by o node)))
 release_more_by P h time node key None same step = same
 release_more_by P h time node key (Some l) same step =
-    elim (l.node == node) as (λ b. P (recorded h (release_entry time node key (if b then release.Released else release.NotHolder)))) [
+    elim (l.node == node) as (λ b. P (with_entry h (release_entry time node key (if b then release.Released else release.NotHolder)))) [
       | true ↦ step (Released key node time) tt refl
       | false ↦ same
     ]
@@ -122,17 +122,17 @@ kept_later h t x le k = record {
 }
 
 -- the rules keep it
-pub kept : (h : List Entry) (t : ℕ) → IsLegal h t → Kept h t
-kept _ _ empty = record {
+pub legal_is_kept : (h : List Entry) (t : ℕ) → IsLegal h t → Kept h t
+legal_is_kept _ _ empty = record {
   times = All-nil (λ e. time_of e ≤ 0);
   rising = λ i j d below within. absurd (omega arith);
   begun = λ q. All-nil (λ l. l.from ≤ 0);
   apart = λ q. tt;
 }
-kept _ _ (later h time now legal le) = kept_later h time now le (kept h time legal)
-kept _ _ (claimed h time node key ttl legal) =
-    let k = kept h time legal in
+legal_is_kept _ _ (later h time now legal le) = kept_later h time now le (legal_is_kept h time legal)
+legal_is_kept _ _ (claimed h time node key ttl legal) =
+    let k = legal_is_kept h time legal in
     claim_more_by (λ g. Kept g time) h time node key ttl (in_force key time h) refl (λ e m at. kept_step h time e k m at)
-kept _ _ (released h time node key legal) =
-    let k = kept h time legal in
+legal_is_kept _ _ (released h time node key legal) =
+    let k = legal_is_kept h time legal in
     release_more_by (λ g. Kept g time) h time node key (in_force key time h) k (λ e m at. kept_step h time e k m at)

@@ -4,7 +4,7 @@ use Rattle.std.specs.Global.{Vec}
 use Rattle.std.specs.Vec.{vec_capacity}
 use Rattle.leases.specs.declared.desk.Desk.{Desk}
 use Rattle.leases.specs.declared.entry.Entry.{Entry}
-use Rattle.leases.specs.Standing.{StandsFor, kept_by}
+use Rattle.leases.specs.Standing.{StandsFor, lease_count}
 
 -- the time, and the entries of all calls so far
 pub record Book : Type 0 where
@@ -14,4 +14,4 @@ pub record Book : Type 0 where
 -- the desk stands for the history, which has capacity for an entry of each lease that the desk keeps
 pub record IsBook (desk : Desk) (history : Vec Entry) : Type 0 where
   pub stands : StandsFor desk history.items desk.clock
-  pub room : vec_len history + kept_by desk ≤ vec_capacity history
+  pub room : vec_len history + lease_count desk ≤ vec_capacity history

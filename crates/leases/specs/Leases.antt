@@ -10,8 +10,8 @@ use Rattle.leases.specs.declared.entry.Entry.{Entry}
 use Rattle.leases.specs.declared.entry.Entry.TheVariants.{Granted, Renewed, Held, Released}
 
 -- whether two keys are one
-abbrev pub same : Key → Key → Bool
-same a b = is_eq (key_cmp a b)
+abbrev pub is_same_key : Key → Key → Bool
+is_same_key a b = is_eq (key_cmp a b)
 
 -- when an entry was made
 abbrev pub time_of : Entry → ℕ
@@ -23,9 +23,9 @@ time_of (Released key node time) = time
 -- whether an entry is a renewal or a release of key q, and so ends the lease of q before it
 abbrev pub ends : Key → Entry → Bool
 ends q (Granted key lease) = false
-ends q (Renewed key lease) = same key q
+ends q (Renewed key lease) = is_same_key key q
 ends q (Held key node time) = false
-ends q (Released key node time) = same key q
+ends q (Released key node time) = is_same_key key q
 
 -- when a lease of q that was to last until `until` ends: with the next renewal or release of q in the later entries, if that is
 -- sooner
@@ -34,20 +34,20 @@ end_of q until [] = until
 end_of q until (e ∷ later) = if ends q e then min until (time_of e) else end_of q until later
 
 -- the lease of q that an entry gives, as it was to last
-abbrev pub given : Key → Entry → Option Lease
-given q (Granted key lease) = if same key q then Some lease else None
-given q (Renewed key lease) = if same key q then Some lease else None
-given q (Held key node time) = None
-given q (Released key node time) = None
+abbrev pub entry_lease : Key → Entry → Option Lease
+entry_lease q (Granted key lease) = if is_same_key key q then Some lease else None
+entry_lease q (Renewed key lease) = if is_same_key key q then Some lease else None
+entry_lease q (Held key node time) = None
+entry_lease q (Released key node time) = None
 
 -- a lease of q until its end, by the entries after it
-abbrev pub ended : Key → List Entry → Lease → Lease
-ended q later lease = record lease { until = end_of q lease.until later }
+abbrev pub ended_lease : Key → List Entry → Lease → Lease
+ended_lease q later lease = record lease { until = end_of q lease.until later }
 
 -- the leases of q, each until its end
 abbrev pub leases_of : Key → List Entry → List Lease
 leases_of q [] = []
-leases_of q (e ∷ later) = option_to_list (option_map (ended q later) (given q e)) ++ leases_of q later
+leases_of q (e ∷ later) = option_to_list (option_map (ended_lease q later) (entry_lease q e)) ++ leases_of q later
 
 -- whether a lease is in force at time x: it has begun, and is not over
 abbrev pub lasts : ℕ → Lease → Bool

@@ -57,9 +57,9 @@ release_entry time node key release.Released = Some (entry.Released key node tim
 release_entry time node key release.NotHolder = None
 
 -- the history with what is recorded of one more call
-abbrev pub recorded : List Entry → Option Entry → List Entry
-recorded h None = h
-recorded h (Some e) = h ++ e ∷ []
+abbrev pub with_entry : List Entry → Option Entry → List Entry
+with_entry h None = h
+with_entry h (Some e) = h ++ e ∷ []
 
 -- the time after a claim; one without memory has no effect
 abbrev pub time_after : ℕ → ℕ → Claim → ℕ
@@ -73,6 +73,6 @@ pub data IsLegal : List Entry → ℕ → Type 0 where
   empty : IsLegal [] 0
   later : (h : List Entry) (time now : ℕ) → IsLegal h time → time ≤ now → IsLegal h now
   claimed : (h : List Entry) (time node : ℕ) (key : Key) (ttl : ℕ) → IsLegal h time
-      → IsLegal (recorded h (claim_entry time node key (claim_answer h time node key ttl))) time
+      → IsLegal (with_entry h (claim_entry time node key (claim_answer h time node key ttl))) time
   released : (h : List Entry) (time node : ℕ) (key : Key) → IsLegal h time
-      → IsLegal (recorded h (release_entry time node key (release_answer h time node key))) time
+      → IsLegal (with_entry h (release_entry time node key (release_answer h time node key))) time

@@ -11,19 +11,19 @@ use Rattle.leases.specs.Leases.{in_force}
 use Rattle.leases.specs.Rules.{IsLegal}
 
 -- a lease, while it is not over
-abbrev pub unless_over : ℕ → Option Lease → Option Lease
-unless_over x o = option_and_then (λ lease. if nat_lt x lease.until then Some lease else None) o
+abbrev pub lease_unless_over : ℕ → Option Lease → Option Lease
+lease_unless_over x o = option_and_then (λ lease. if nat_lt x lease.until then Some lease else None) o
 
 -- the lease of a key that a desk shows at a time
-abbrev pub shown_at : ℕ → Desk → Key → Option Lease
-shown_at x desk key = unless_over x (get key_cmp desk.leases key)
+abbrev pub shown_lease : ℕ → Desk → Key → Option Lease
+shown_lease x desk key = lease_unless_over x (get key_cmp desk.leases key)
 
 -- the desk is at that time, and shows of each key the lease that is then in force by the history, or none
 pub record StandsFor (desk : Desk) (h : List Entry) (time : ℕ) : Type 0 where
   pub legal : IsLegal h time
   pub clock : desk.clock ≡ time
-  pub shows : (key : Key) → shown_at time desk key ≡ in_force key time h
+  pub shows : (key : Key) → shown_lease time desk key ≡ in_force key time h
 
 -- how many leases a desk keeps, those that are over included
-abbrev pub kept_by : Desk → ℕ
-kept_by desk = btree_map_len desk.leases
+abbrev pub lease_count : Desk → ℕ
+lease_count desk = btree_map_len desk.leases

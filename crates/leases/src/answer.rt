@@ -22,7 +22,7 @@ impl Claim {
     ghost use Rattle.leases.specs.Rules.{claim_by, lease_of, claim_entry};
 
     // How the rules answer a node's claim when that lease is in force.
-    pub(crate) fn by_rules(in_force: Option<Lease>, time: u64, node: u8, ttl: u64) -> Claim
+    pub(crate) fn decide(in_force: Option<Lease>, time: u64, node: u8, ttl: u64) -> Claim
         ensures { result ≡ claim_by in_force time node ttl }
     {
         let until = time.saturating_add(ttl);
@@ -37,7 +37,7 @@ impl Claim {
     }
 
     // The lease that a node gets by it.
-    pub(crate) fn lease(self, time: u64, node: u8) -> Option<Lease>
+    pub(crate) fn to_lease(self, time: u64, node: u8) -> Option<Lease>
         ensures { result ≡ lease_of time node self }
     {
         match self {
@@ -51,7 +51,7 @@ impl Claim {
     }
 
     // What is recorded of it.
-    pub(crate) fn entry(self, time: u64, node: u8, key: &Key) -> Option<Entry>
+    pub(crate) fn to_entry(self, time: u64, node: u8, key: &Key) -> Option<Entry>
         ensures { result ≡ claim_entry time node key.now self }
     {
         let key = *key;
@@ -84,7 +84,7 @@ impl Release {
     ghost use Rattle.leases.specs.Rules.{release_by, release_entry};
 
     // How the rules answer a node's release when that lease is in force.
-    pub(crate) fn by_rules(in_force: Option<Lease>, node: u8) -> Release
+    pub(crate) fn decide(in_force: Option<Lease>, node: u8) -> Release
         ensures { result ≡ release_by in_force node }
     {
         match in_force {
@@ -94,7 +94,7 @@ impl Release {
     }
 
     // What is recorded of it.
-    pub(crate) fn entry(self, time: u64, node: u8, key: &Key) -> Option<Entry>
+    pub(crate) fn to_entry(self, time: u64, node: u8, key: &Key) -> Option<Entry>
         ensures { result ≡ release_entry time node key.now self }
     {
         let key = *key;

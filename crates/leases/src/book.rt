@@ -30,7 +30,7 @@ impl Model for DeskBook {
 
 impl DeskBook {
     ghost use Rattle.leases.specs.Rules.{IsLegal, claim_answer, release_answer};
-    ghost use Rattle.leases.specs.Rules.{holder_of, recorded, claim_entry, release_entry, time_after};
+    ghost use Rattle.leases.specs.Rules.{holder_of, with_entry, claim_entry, release_entry, time_after};
     ghost use Rattle.leases.specs.Standing.{StandsFor};
 
     /// A desk with no leases, at time 0, of which nothing is recorded.
@@ -63,16 +63,16 @@ impl DeskBook {
         ensures answer { result ≢ Claim.Memory
             → result ≡ claim_answer self.old.history (max self.old.time now) node key ttl }
         ensures history { self.new.history
-            ≡ recorded self.old.history (claim_entry (max self.old.time now) node key result) }
+            ≡ with_entry self.old.history (claim_entry (max self.old.time now) node key result) }
         ensures time { self.new.time ≡ time_after self.old.time now result }
     {
         // for this entry, for those of the leases, and for that of a new one
-        if self.history.reserve(self.desk.kept() + 2).is_err() {
+        if self.history.reserve(self.desk.count_leases() + 2).is_err() {
             return Claim::Memory;
         }
-        let time = self.desk.time_of_call(now);
+        let time = self.desk.find_call_time(now);
         let claim = self.desk.claim(now, node, key, ttl);
-        if let Some(entry) = claim.entry(time, node, &key) {
+        if let Some(entry) = claim.to_entry(time, node, &key) {
             self.history.push_reserved(entry);
         }
         claim
@@ -83,12 +83,12 @@ impl DeskBook {
         ensures answer { result
             ≡ release_answer self.old.history (max self.old.time now) node key.now }
         ensures history { self.new.history
-            ≡ recorded self.old.history (release_entry (max self.old.time now) node key.now result) }
+            ≡ with_entry self.old.history (release_entry (max self.old.time now) node key.now result) }
         ensures time { self.new.time ≡ max self.old.time now }
     {
-        let time = self.desk.time_of_call(now);
+        let time = self.desk.find_call_time(now);
         let release = self.desk.release(now, node, key);
-        if let Some(entry) = release.entry(time, node, key) {
+        if let Some(entry) = release.to_entry(time, node, key) {
             self.history.push_reserved(entry);
         }
         release

@@ -21,13 +21,13 @@ pub struct Desk {
 
 impl Desk {
     ghost use Rattle.leases.specs.Leases.{in_force};
-    ghost use Rattle.leases.specs.Rules.{claim_answer, release_answer, holder_of, recorded, claim_entry, release_entry, time_after};
-    ghost use Rattle.leases.specs.Standing.{StandsFor, shown_at, kept_by};
+    ghost use Rattle.leases.specs.Rules.{claim_answer, release_answer, holder_of, with_entry, claim_entry, release_entry, time_after};
+    ghost use Rattle.leases.specs.Standing.{StandsFor, shown_lease, lease_count};
 
     /// A desk with no leases, at time 0.
     pub fn new(alloc: Global) -> Desk
         ensures stands { StandsFor result [] 0 }
-        ensures kept { kept_by result ≡ 0 }
+        ensures kept { lease_count result ≡ 0 }
     {
         Desk {
             clock: 0,
@@ -36,8 +36,8 @@ impl Desk {
     }
 
     // The lease of a key, if it is not over at the time.
-    fn lease_at(&self, key: &Key, time: u64) -> Option<Lease>
-        ensures { result ≡ shown_at time self.now key.now }
+    fn find_lease(&self, key: &Key, time: u64) -> Option<Lease>
+        ensures { result ≡ shown_lease time self.now key.now }
     {
         let lease = *self.leases.get(key)?;
         if time < lease.until {
@@ -56,13 +56,13 @@ impl Desk {
         ensures memory { (h : List Entry) (t : ℕ) → StandsFor self.old h t → result ≡ Claim.Memory
             → in_force key (max t now) h ≡ None }
         ensures stands { (h : List Entry) (t : ℕ) → StandsFor self.old h t
-            → StandsFor self.new (recorded h (claim_entry (max t now) node key result))
+            → StandsFor self.new (with_entry h (claim_entry (max t now) node key result))
             (time_after t now result) }
-        ensures kept { kept_by self.new ≤ kept_by self.old + 1 }
+        ensures kept { lease_count self.new ≤ lease_count self.old + 1 }
     {
         let time = self.clock.max(now);
-        let claim = Claim::by_rules(self.lease_at(&key, time), time, node, ttl);
-        if let Some(lease) = claim.lease(time, node) {
+        let claim = Claim::decide(self.find_lease(&key, time), time, node, ttl);
+        if let Some(lease) = claim.to_lease(time, node) {
             let Ok(_) = self.leases.insert(key, lease) else {
                 return Claim::Memory;
             };
@@ -76,13 +76,13 @@ impl Desk {
         ensures answer { (h : List Entry) (t : ℕ) → StandsFor self.old h t
             → result ≡ release_answer h (max t now) node key.now }
         ensures stands { (h : List Entry) (t : ℕ) → StandsFor self.old h t
-            → StandsFor self.new (recorded h (release_entry (max t now) node key.now result))
+            → StandsFor self.new (with_entry h (release_entry (max t now) node key.now result))
             (max t now) }
-        ensures kept { kept_by self.new ≤ kept_by self.old }
-        ensures fewer { result ≡ Release.Released → kept_by self.new + 1 ≤ kept_by self.old }
+        ensures kept { lease_count self.new ≤ lease_count self.old }
+        ensures fewer { result ≡ Release.Released → lease_count self.new + 1 ≤ lease_count self.old }
     {
         self.clock = self.clock.max(now);
-        let release = Release::by_rules(self.lease_at(key, self.clock), node);
+        let release = Release::decide(self.find_lease(key, self.clock), node);
         if let Release::Released = release {
             self.leases.remove(key);
         }
@@ -95,22 +95,22 @@ impl Desk {
             → result ≡ holder_of h (max t now) key.now }
         ensures stands { (h : List Entry) (t : ℕ) → StandsFor self.old h t
             → StandsFor self.new h (max t now) }
-        ensures kept { kept_by self.new ≡ kept_by self.old }
+        ensures kept { lease_count self.new ≡ lease_count self.old }
     {
         self.clock = self.clock.max(now);
-        self.lease_at(key, self.clock).map(|lease| lease.node)
+        self.find_lease(key, self.clock).map(|lease| lease.node)
     }
 
     // The time of a call.
-    pub(crate) fn time_of_call(&self, now: u64) -> u64
+    pub(crate) fn find_call_time(&self, now: u64) -> u64
         ensures { (h : List Entry) (t : ℕ) → StandsFor self.now h t → result ≡ max t now }
     {
         self.clock.max(now)
     }
 
     // How many leases it keeps.
-    pub(crate) fn kept(&self) -> usize
-        ensures kept { result ≡ kept_by self.now }
+    pub(crate) fn count_leases(&self) -> usize
+        ensures kept { result ≡ lease_count self.now }
         ensures small { result < 2 ^ 63 }
     {
         self.leases.len()

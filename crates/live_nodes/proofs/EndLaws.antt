@@ -3,10 +3,10 @@ use Rattle.std.proofs.Common.{arith, subst, sym, ◌∙◌, refl}
 use Rattle.std.proofs.lemmas.List.Elements.{All-head, All-tail}
 use Rattle.std.proofs.lemmas.List.Sums.{sum_by-append}
 use Rattle.std.specs.Prelude.{◌≡◌, List, [], ◌∷◌, length, sum_by}
-use Rattle.books.specs.declared.event.Event.{Event}
-use Rattle.books.specs.declared.receipt.Receipt.{Receipt}
-use Rattle.receipts.proofs.LongAccounts.{as_long}
-use Rattle.receipts.specs.Accounts.{AccountFor}
+use Rattle.live_nodes.specs.declared.event.Event.{Event}
+use Rattle.live_nodes.specs.declared.receipt.Receipt.{Receipt}
+use Rattle.live_nodes.proofs.LongAccounts.{as_long}
+use Rattle.live_nodes.specs.Accounts.{AccountFor}
 use Rattle.identity.specs.declared.key.Key.{Key}
 use Rattle.fact_store.specs.Facts.{FactSet}
 use Rattle.held_facts.specs.Answers.{IsLendFault}

@@ -5,11 +5,11 @@ use Rattle.std.specs.Prelude.{◌≡◌, ℕ, List, All, length, map, sum_by}
 use Rattle.held_facts.specs.declared.answers.LendFault.{LendFault}
 use Rattle.held_facts.specs.declared.answers.LendFault.TheVariants.{NotHeld, Memory}
 use Rattle.identity.specs.declared.key.Key.{Key}
-use Rattle.books.specs.Histories.{IsLegal}
-use Rattle.books.specs.declared.event.Event.{Event}
-use Rattle.books.specs.declared.receipt.Receipt.{Receipt}
-use Rattle.receipts.specs.Accounts.{IsCloseFault}
-use Rattle.receipts.specs.declared.fault.CloseFault.{CloseFault}
+use Rattle.live_nodes.specs.Histories.{IsLegal}
+use Rattle.live_nodes.specs.declared.event.Event.{Event}
+use Rattle.live_nodes.specs.declared.receipt.Receipt.{Receipt}
+use Rattle.live_nodes.specs.Accounts.{IsCloseFault}
+use Rattle.live_nodes.specs.declared.fault.CloseFault.{CloseFault}
 
 -- a seat's count, and its receipts
 abbrev pub End : Type 0

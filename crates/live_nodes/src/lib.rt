@@ -1,11 +1,23 @@
-//! A node that threads share, under a lock, with a seat for each caller; at its end its history is checked against the receipts.
+//! Nodes that threads share: each is a book under a lock, with a seat for each caller, a receipt for each recorded call, and at
+//! its end a history that is checked against all receipts.
 #![tactic(auto)]
 
-mod closed;
+mod book;
+mod closing;
+mod equality;
+mod event;
+mod fault;
+pub mod laws;
 mod live;
+mod matching;
+mod receipt;
 mod seat;
 
-pub use closed::{Closed, close_book};
+pub use book::NodeBook;
+pub use closing::{ClosedNode, close_book};
+pub use event::{Event, Keys, RetiredIds, Updates};
+pub use fault::CloseFault;
 pub use live::LiveNode;
-pub use receipts::CloseFault;
+pub use matching::match_receipts;
+pub use receipt::{Loan, Receipt};
 pub use seat::Seat;

@@ -1,22 +1,23 @@
 //! A node that threads share.
 
-ghost use Rattle.books.specs.Histories.{IsLegal, replay};
-ghost use Rattle.books.specs.Loans.{AreTrueFactsOf};
-ghost use Rattle.books.specs.declared.event.Event.TheVariants.{Kept, Lent, Restarted, Took};
+ghost use Rattle.live_nodes.specs.Histories.{IsLegal, replay};
+ghost use Rattle.live_nodes.specs.Loans.{AreTrueFactsOf};
+ghost use Rattle.live_nodes.specs.declared.event.Event.TheVariants.{Kept, Lent, Restarted, Took};
 ghost use Rattle.held_facts.specs.HeldFacts.{HoldsTrueFacts};
 ghost use Rattle.live_nodes.specs.Ends.{HaveAllReceipts, IsAsked, IsSomeCloseFault, calls_of, receipts_of};
-ghost use Rattle.receipts.specs.Accounts.{AccountFor};
+ghost use Rattle.live_nodes.specs.Accounts.{AccountFor};
 ghost use Rattle.std.specs.Prelude.{◌≡◌, ◌+◌, All, IfErr, IfOk, OnErr, OnOk, length};
 ghost use Rattle.updates.specs.TrueUpdates.{AreTrue};
 
-use crate::closed::{Closed, close_book};
+use crate::book::NodeBook;
+use crate::closing::{ClosedNode, close_book};
+use crate::fault::CloseFault;
+use crate::receipt::{Loan, Receipt};
 use crate::seat::Seat;
-use books::{Loan, NodeBook, Receipt};
 use catalog::Catalog;
 use identity::Key;
 use named_catalogs::NamedCatalog;
 use node_state::{LendFault, NodeState};
-use receipts::CloseFault;
 use std::alloc::{AllocError, AllocFailed, Global};
 use std::sync::{Mutex, Wait};
 use tile_fact::Update;
@@ -133,7 +134,7 @@ impl<C: NamedCatalog> LiveNode<C> {
     pub fn close(
         self,
         ends: Vec<(Seat, Vec<Receipt>)>,
-    ) -> Result<Closed, (LiveNode<C>, Vec<(Seat, Vec<Receipt>)>, CloseFault)>
+    ) -> Result<ClosedNode, (LiveNode<C>, Vec<(Seat, Vec<Receipt>)>, CloseFault)>
         requires { HaveAllReceipts ends.items }
         ensures legal { IfOk result IsLegal }
         ensures truth { IfOk result

@@ -6,14 +6,14 @@ use Rattle.std.specs.List.{All}
 use Rattle.std.specs.Prelude.{◌≡◌, ℕ, zero, suc, ◌<◌, List, [], ◌∷◌, ◌++◌, Some, length, replicate, slice_get, slice_set}
 use Rattle.node_state.specs.States.{State, join}
 use Rattle.states.proofs.LeaveLaws.{left_same}
-use Rattle.books.specs.Histories.{Node, after, replay, replay_from}
-use Rattle.books.specs.Updates.{state_of}
-use Rattle.books.specs.declared.event.Event.{Event}
-use Rattle.books.specs.declared.event.Event.TheVariants.{Lent, Took, Kept, Restarted}
+use Rattle.live_nodes.specs.Histories.{Node, node_after, replay, replay_from}
+use Rattle.live_nodes.specs.Updates.{state_of}
+use Rattle.live_nodes.specs.declared.event.Event.{Event}
+use Rattle.live_nodes.specs.declared.event.Event.TheVariants.{Lent, Took, Kept, Restarted}
 use Rattle.gossip_core.proofs.Following.{Follows, follows_start, follows_step, taken_grown}
 use Rattle.gossip_core.proofs.StateLaws.{states_start}
 use Rattle.gossip_core.specs.Networks.{Network, NodeStates, Sent}
-use Rattle.gossip_core.specs.Steps.{Work, held, kept, no_states, states_at, with_held}
+use Rattle.gossip_core.specs.Steps.{WorldWork, held, kept, no_states, states_at, with_held}
 use Rattle.gossip_core.proofs.TakingLaws.{kept_grown, kept_ungrown}
 use Rattle.gossip_core.specs.Taking.{CameAtKeep, IsTaken, IsTakenAtKeep}
 use Rattle.gossip_events.specs.declared.event.Event.{Event as Step}
@@ -63,7 +63,7 @@ kept_length w n a within = let same = set_length w.nodes n (record { held = a.he
 
 -- ---- one event after another
 
-module _ (u : Work) (n : ℕ) where
+module _ (u : WorldWork) (n : ℕ) where
   has_node : (w : Network) → n < length w.nodes → All (λ m. m < length w.nodes) (n ∷ [])
   has_node w within = All-cons (λ m. m < length w.nodes) n [] within (All-nil (λ m. m < length w.nodes))
 
@@ -79,7 +79,7 @@ module _ (u : Work) (n : ℕ) where
   runs w [] events within plays = subst (λ (es : List Step). Runs u w es (with_node w n (node_in w n))) (sym plays) (own_node w n within)
   runs w (Lent keys retired ∷ h) events within plays = runs w h events within plays
   runs w (Took us ∷ h) events within (k, rest, same, brings, plays) =
-      let node = after (node_in w n) (Took us) in
+      let node = node_after (node_in w n) (Took us) in
       subst (λ (es : List Step). Runs u w es (with_node w n (replay_from node h))) (sym same) (
         with_node w n node,
         (has_node w within, (record { to = n; state = state_of us }, brings, refl, refl)),
@@ -87,7 +87,7 @@ module _ (u : Work) (n : ℕ) where
             (runs (with_node w n node) h rest (kept_length w n node within) plays),
       )
   runs w (Kept ∷ h) events within (rest, same, plays) =
-      let node = after (node_in w n) Kept in
+      let node = node_after (node_in w n) Kept in
       subst (λ (es : List Step). Runs u w es (with_node w n (replay_from node h))) (sym same) (
         with_node w n node,
         (has_node w within, refl),
@@ -95,7 +95,7 @@ module _ (u : Work) (n : ℕ) where
             (runs (with_node w n node) h rest (kept_length w n node within) plays),
       )
   runs w (Restarted ∷ h) events within (rest, same, plays) =
-      let node = after (node_in w n) Restarted in
+      let node = node_after (node_in w n) Restarted in
       subst (λ (es : List Step). Runs u w es (with_node w n (replay_from node h))) (sym same) (
         with_node w n node,
         (has_node w within, refl),
@@ -113,19 +113,19 @@ module _ (u : Work) (n : ℕ) where
       let there : new ≡ w = subst (λ (es : List Step). Runs u w es new) plays run in there ∙ sym (own_node w n within)
   only w new (Lent keys retired ∷ h) events within plays run = only w new h events within plays run
   only w new (Took us ∷ h) events within (k, rest, same, brings, plays) run =
-      let node = after (node_in w n) (Took us) in
+      let node = node_after (node_in w n) (Took us) in
       let one = subst (λ (es : List Step). Runs u w es new) same run in
       let is = same_message w.messages k _ _ one.1.1.1 brings in
       let next : one.0 ≡ with_node w n node = one.1.1.3 ∙ ap (λ (m : Sent). with_held w n (join (held w n) m.state)) is in
       only (with_node w n node) new h rest (kept_length w n node within) plays (subst (λ (x : Network). Runs u x rest new) next one.2)
       ∙ settled w node h within
   only w new (Kept ∷ h) events within (rest, same, plays) run =
-      let node = after (node_in w n) Kept in
+      let node = node_after (node_in w n) Kept in
       let one = subst (λ (es : List Step). Runs u w es new) same run in
       only (with_node w n node) new h rest (kept_length w n node within) plays (subst (λ (x : Network). Runs u x rest new) one.1.1 one.2)
       ∙ settled w node h within
   only w new (Restarted ∷ h) events within (rest, same, plays) run =
-      let node = after (node_in w n) Restarted in
+      let node = node_after (node_in w n) Restarted in
       let one = subst (λ (es : List Step). Runs u w es new) same run in
       only (with_node w n node) new h rest (kept_length w n node within) plays (subst (λ (x : Network). Runs u x rest new) one.1.1 one.2)
       ∙ settled w node h within
@@ -152,7 +152,7 @@ each n h = each_from n [] h
 
 -- ---- what the node took
 
-abbrev no_work : Work
+abbrev no_work : WorldWork
 no_work = record { jobs = []; schedules = [] }
 
 -- so many nodes that hold nothing, beside messages from anybody
@@ -186,7 +186,7 @@ follows_none ms size =
       sent = tt;
     }
 
-follows_runs : (u : Work) (w new : Network) (events before : List Step) → Follows before w → Runs u w events new
+follows_runs : (u : WorldWork) (w new : Network) (events before : List Step) → Follows before w → Runs u w events new
     → Follows (newest_first events before) new
 follows_runs u w new [] before is run = subst (Follows before) (sym run) is
 follows_runs u w new (e ∷ events) before is (next, accepts, run) =

@@ -1,11 +1,11 @@
 -- Events of a world that do to one of its nodes what a history did to a node.
 use Rattle.std.specs.Prelude.{◌≡◌, ℕ, List, [], ◌∷◌, Some, slice_get, slice_set}
-use Rattle.books.specs.Histories.{Node}
-use Rattle.books.specs.Updates.{state_of}
-use Rattle.books.specs.declared.event.Event.{Event}
-use Rattle.books.specs.declared.event.Event.TheVariants.{Lent, Took, Kept, Restarted}
+use Rattle.live_nodes.specs.Histories.{Node}
+use Rattle.live_nodes.specs.Updates.{state_of}
+use Rattle.live_nodes.specs.declared.event.Event.{Event}
+use Rattle.live_nodes.specs.declared.event.Event.TheVariants.{Lent, Took, Kept, Restarted}
 use Rattle.gossip_core.specs.Networks.{Network, Sent}
-use Rattle.gossip_core.specs.Steps.{Accepts, Work, held, kept}
+use Rattle.gossip_core.specs.Steps.{Accepts, WorldWork, held, kept}
 use Rattle.gossip_events.specs.declared.event.Event.{Event as Step}
 use Rattle.gossip_events.specs.declared.event.Event.TheVariants.{Deliver, Keep, Restart}
 use Rattle.tile_fact.specs.declared.update.Update.{Update}
@@ -19,7 +19,7 @@ abbrev pub with_node : Network → ℕ → Node → Network
 with_node w n node = record w { nodes = slice_set w.nodes n (record { held = node.held; kept = node.kept }) }
 
 -- the events, the oldest first, lead from one world to another, and none of them is refused
-abbrev pub Runs : Work → Network → List Step → Network → Type 0
+abbrev pub Runs : WorldWork → Network → List Step → Network → Type 0
 Runs u w [] new = new ≡ w
 Runs u w (e ∷ events) new = (next : Network) × Accepts u w e next × Runs u next events new
 

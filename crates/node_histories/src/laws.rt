@@ -1,9 +1,9 @@
 //! Laws of the definitions. A law is a function whose clauses are the law.
 
-ghost use Rattle.books.specs.Histories.{replay, replay_from};
-ghost use Rattle.books.specs.declared.event.Event.{Event};
+ghost use Rattle.live_nodes.specs.Histories.{replay, replay_from};
+ghost use Rattle.live_nodes.specs.declared.event.Event.{Event};
 ghost use Rattle.gossip_core.specs.Networks.{Network, Sent};
-ghost use Rattle.gossip_core.specs.Steps.{Work};
+ghost use Rattle.gossip_core.specs.Steps.{WorldWork};
 ghost use Rattle.gossip_core.specs.Taking.{IsTaken, IsTakenAtKeep};
 ghost use Rattle.gossip_events.specs.declared.event.Event.{Event as Step};
 ghost use Rattle.node_histories.specs.Playing.{Plays, Runs, newest_first, node_in, with_node};
@@ -13,10 +13,10 @@ ghost use Rattle.std.specs.Prelude.{◌≡◌, ◌<◌, ℕ, [], List, length};
 /// They leave the node as the replay does, and change nothing else. For each history there are messages and events that do the
 /// same to a node.
 pub fn histories_replay_in_worlds()
-    ensures runs { (u : Work) (w : Network) (n : ℕ) (h : List Event) (events : List Step)
+    ensures runs { (u : WorldWork) (w : Network) (n : ℕ) (h : List Event) (events : List Step)
         → n < length w.nodes → Plays w.messages n h events
         → Runs u w events (with_node w n (replay_from (node_in w n) h)) }
-    ensures only { (u : Work) (w new : Network) (n : ℕ) (h : List Event) (events : List Step)
+    ensures only { (u : WorldWork) (w new : Network) (n : ℕ) (h : List Event) (events : List Step)
         → n < length w.nodes → Plays w.messages n h events → Runs u w events new
         → new ≡ with_node w n (replay_from (node_in w n) h) }
     ensures each { (n : ℕ) (h : List Event)

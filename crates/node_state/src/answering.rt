@@ -47,7 +47,7 @@ impl<S: FactStore> NodeState<S> {
         ensures fault { IfErr result
             (IsAnswerFault self.now (program_id_in job.now) (pipeline_in job.now)) }
     {
-        if self.retires(&ids_of(job)) {
+        if self.has_retired(&ids_of(job)) {
             return Err(AnswerFault::Retired);
         }
         self.held.answer(job)

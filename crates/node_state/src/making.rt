@@ -11,7 +11,7 @@ ghost use Rattle.std.specs.Prelude.{◌≡◌, ◌↔◌, Bool, IfErr, IfOk, IsT
 
 use crate::state::NodeState;
 use catalog::Catalog;
-use fact_audit::job_of;
+use fact_audit::find_job_of_key;
 use fact_store::FactStore;
 use grouping::Schedule;
 use held_facts::MakeFault;
@@ -35,27 +35,27 @@ impl<S: FactStore> NodeState<S> {
         ensures fault { IfErr result
             (IsMakeFault catalog.now self.now schedule.now.inlining key.now) }
     {
-        if self.retires(&Ids::of_key(key)) {
-            return Err(self.fault_of_retired(catalog, key));
+        if self.has_retired(&Ids::of_key(key)) {
+            return Err(self.find_retired_fault(catalog, key));
         }
         self.held.make(catalog, schedule, key)
     }
 
     // Why a tile of a retired job is not made.
-    fn fault_of_retired(&self, catalog: &Catalog, key: &Key) -> MakeFault
+    fn find_retired_fault(&self, catalog: &Catalog, key: &Key) -> MakeFault
         requires { retires self.now (ids_in key.now) ≡ true }
         ensures { (inlining : List Bool) → IsMakeFault catalog.now self.now inlining key.now result }
     {
-        match job_of(catalog, key) {
+        match find_job_of_key(catalog, key) {
             None => MakeFault::Foreign,
-            Some(job) if has_tile(job, key) => MakeFault::Retired,
+            Some(job) if has_tile_of_key(job, key) => MakeFault::Retired,
             Some(_) => MakeFault::NoSuchTile,
         }
     }
 }
 
 // Whether the job has the function or accumulator and the tile of it that the key names.
-fn has_tile(job: &Job, key: &Key) -> bool
+fn has_tile_of_key(job: &Job, key: &Key) -> bool
     ensures { IsTrue result ↔ HasTileAt (pipeline_in job.now) key.now.stage key.now.row key.now.col }
 {
     match job.grid(usize::from(key.stage)) {

@@ -77,11 +77,11 @@ impl<S: FactStore> NodeState<S> {
     }
 
     /// Whether the job of these identities is retired.
-    pub fn retires(&self, ids: &Ids) -> bool
+    pub fn has_retired(&self, ids: &Ids) -> bool
         ensures retired { result ≡ retires self.now ids.now }
         ensures state { IsState self.now }
     {
-        self.retired.has(ids)
+        self.retired.has_ids(ids)
     }
 
     /// Adds a fact, unless its job is retired, and reports whether it was new. Where memory runs out for a new fact it is handed
@@ -94,7 +94,7 @@ impl<S: FactStore> NodeState<S> {
         ensures only_live { IfErr result (λ _. retires self.old (ids_in fact.key) ≡ false) }
         ensures unchanged { OnErr result (self.new ≡ self.old) }
     {
-        if self.retires(&Ids::of_key(fact.key())) {
+        if self.has_retired(&Ids::of_key(fact.key())) {
             return Ok(Taken::Retired);
         }
         self.held.take(fact)
@@ -108,11 +108,11 @@ impl<S: FactStore> NodeState<S> {
         ensures only_new { IfErr result (λ _. retires self.old ids.now ≡ false) }
         ensures unchanged { OnErr result (self.new ≡ self.old) }
     {
-        if self.retires(ids) {
+        if self.has_retired(ids) {
             return Ok(Taken::Already);
         }
-        self.retired.add(ids)?;
-        self.held.remove(&[*ids]);
+        self.retired.add_ids(ids)?;
+        self.held.remove_facts_of_jobs(&[*ids]);
         Ok(Taken::New)
     }
 
@@ -123,11 +123,11 @@ impl<S: FactStore> NodeState<S> {
         ensures new { IfOk result (λ count. count ≡ count_lacked self.old self.new) }
         ensures unchanged { OnErr result (self.new ≡ self.old) }
     {
-        let retired = self.retired.union(self.alloc, &other.retired)?;
-        let again = other.held.count_of(self.retired.as_slice())?;
-        let more = self.retired.count_lacked(&retired);
+        let retired = self.retired.unite(self.alloc, &other.retired)?;
+        let again = other.held.count_facts_of_jobs(self.retired.as_slice())?;
+        let more = self.retired.count_lacked_ids(&retired);
         let new = self.held.merge(&other.held)?;
-        self.held.remove(retired.as_slice());
+        self.held.remove_facts_of_jobs(retired.as_slice());
         self.retired = retired;
         Ok(new - again + more)
     }
@@ -136,7 +136,7 @@ impl<S: FactStore> NodeState<S> {
     pub fn knows(&self, key: &Key) -> Known
         ensures { result ≡ known_of self.now key.now }
     {
-        if self.retires(&Ids::of_key(key)) {
+        if self.has_retired(&Ids::of_key(key)) {
             Known::Retired
         } else {
             self.held.knows(key)
@@ -151,7 +151,7 @@ impl<S: FactStore> NodeState<S> {
         ensures count { IfOk result (λ _. length (facts_in self.now) < 2 ^ 32) }
         ensures retired { IfOk result (λ _. length (retired_in self.now) < 2 ^ 32) }
     {
-        let facts = self.held.facts()?;
+        let facts = self.held.list_facts()?;
         let retired = self.retired();
         if facts.len() > u32::MAX as usize || retired.len() > u32::MAX as usize {
             return Err(AllocError);

@@ -4,17 +4,17 @@
 ghost use Rattle.std.specs.Prelude.{◌≡◌, ◌≤◌, ◌++◌, ◌∷◌, [], ℤ, List, length, IfOk};
 ghost use Rattle.std.specs.Global.{Vec};
 
-use crate::tile_rows::{TileRow, Tiles};
+use crate::tile_rows::{StageTiles, TileRow};
 use std::alloc::{AllocError, Global};
 use std::mem;
-use tile_sources::WidePlanes;
+use tile_sources::PlaneBuffers;
 
 /// Buffers in which tiles are computed, one after another: for boxes of inlined functions, samples of planes and operands. Also
 /// the recycled vectors of earlier tiles. Their content is unspecified between calls.
 #[derive(Drop)]
-pub struct Scratch {
+pub struct TileScratch {
     pub(crate) boxes: scratch::Scratch,
-    pub(crate) planes: WidePlanes,
+    pub(crate) planes: PlaneBuffers,
     pub(crate) tiles: Vec<Vec<i32>>,
     pub(crate) operands: Vec<i32>,
     pub(crate) operands_of_steps: Vec<i32>,
@@ -25,7 +25,7 @@ pub struct Scratch {
 /// # Errors
 ///
 /// Fails only where memory is refused.
-pub(crate) fn grown_out_of(
+pub(crate) fn detach_grown_vector(
     alloc: Global,
     kept: &mut Vec<i32>,
     size: usize,
@@ -39,12 +39,12 @@ pub(crate) fn grown_out_of(
     Ok(taken)
 }
 
-impl Scratch {
+impl TileScratch {
     /// No memory yet.
-    pub fn new(alloc: Global) -> Scratch {
-        Scratch {
+    pub fn new(alloc: Global) -> TileScratch {
+        TileScratch {
             boxes: scratch::Scratch::new(alloc),
-            planes: WidePlanes::none(alloc),
+            planes: PlaneBuffers::new(alloc),
             tiles: Vec::new(alloc),
             operands: Vec::new(alloc),
             operands_of_steps: Vec::new(alloc),
@@ -52,7 +52,7 @@ impl Scratch {
     }
 
     /// The vector of an earlier tile, if one was recycled, or else a new one. Its content is unspecified.
-    pub(crate) fn tile_room(&mut self, alloc: Global) -> Vec<i32>
+    pub(crate) fn reuse_tile_vector(&mut self, alloc: Global) -> Vec<i32>
         ensures none { self.old.tiles.items ≡ [] → result.items ≡ [] }
         ensures last { (before : List (Vec ℤ)) (last : Vec ℤ)
             → self.old.tiles.items ≡ before ++ last ∷ [] → result ≡ last }
@@ -68,30 +68,30 @@ impl Scratch {
     /// # Errors
     ///
     /// Fails only where memory is refused.
-    pub fn room_for_row(&mut self, alloc: Global, count: u32) -> Result<TileRow, AllocError> {
+    pub fn reuse_row_vectors(&mut self, alloc: Global, count: u32) -> Result<TileRow, AllocError> {
         let mut tiles = Vec::new(alloc);
         for _ in 0..count {
-            tiles.push(self.tile_room(alloc))?;
+            tiles.push(self.reuse_tile_vector(alloc))?;
         }
         Ok(TileRow { tiles })
     }
 
     /// Recycles the vectors of tiles that are no longer needed, instead of those that were recycled before.
-    pub fn take_back(&mut self, row: TileRow)
+    pub fn replace_recycled_vectors(&mut self, row: TileRow)
         ensures { self.new.tiles.items ≡ row.tiles.items }
     {
         self.tiles = row.tiles;
     }
 
     /// Recycles those of one more row of tiles, as far as there is memory to list them.
-    pub fn take_back_too(&mut self, row: TileRow) {
+    pub fn recycle_row(&mut self, row: TileRow) {
         let mut vectors = row.tiles;
         // (where they can't be listed, they are freed)
         let _ = self.tiles.append(&mut vectors);
     }
 
     /// Recycles those of all tiles of a stage as well, as far as there is memory to list them.
-    pub fn take_stage_back(&mut self, tiles: Tiles) {
+    pub fn recycle_stage(&mut self, tiles: StageTiles) {
         let mut rows = tiles.rows;
         while let Some(row) = rows.pop() {
             let mut vectors = row.tiles;

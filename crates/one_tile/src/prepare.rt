@@ -8,26 +8,26 @@ ghost use Rattle.one_tile.specs.Prepared.{IsPreparedOn};
 ghost use Rattle.one_tile.specs.Runs.{NeedsGiven, IsSomeLayout};
 ghost use Rattle.tile_sources.specs.Wide.{AreWide};
 
-use crate::boxes::Boxes;
-use crate::memory::{Scratch, grown_out_of};
-use crate::operands::steps_room;
+use crate::memory::{TileScratch, detach_grown_vector};
+use crate::operands::count_operands_of_steps;
+use crate::scratch_view::ScratchView;
 use crate::tile_job::TileJob;
 use std::alloc::{AllocError, Global};
 use std::mem;
-use tile_sources::{Known, WidePlanes, plane_areas};
+use tile_sources::{PlaneBuffers, TileSource, find_plane_areas};
 
-impl<K: Known> TileJob<'_, K> {
+impl<K: TileSource> TileJob<'_, K> {
     /// Computes the boxes of the inlined functions that the tile's layout names, so that all reads of the tile are available.
     /// Samples that are read often are converted to int32 first. All buffers are grown before the first value is computed.
     ///
     /// # Errors
     ///
     /// Fails only where memory is refused.
-    pub fn prepare<'s>(
+    pub fn compute_inlined_boxes<'s>(
         &self,
         alloc: Global,
-        scratch: &'s mut Scratch,
-    ) -> Result<Boxes<'s>, AllocError>
+        scratch: &'s mut TileScratch,
+    ) -> Result<ScratchView<'s>, AllocError>
         requires layout { IsSomeLayout (pipeline_in self.now.job.now) self.now.layout.now }
         requires needs { NeedsGiven (K.given self.now.known.now) self.now.layout.now.needs }
         ensures prepared { IfOk result (λ boxes. (g i j : ℕ)
@@ -38,17 +38,17 @@ impl<K: Known> TileJob<'_, K> {
         ensures wide { IfOk result
             (λ boxes. AreWide (pipeline_in self.now.job.now).picture boxes.planes.now) }
     {
-        let room = steps_room(self.job, self.layout.steps()).ok_or(AllocError)?;
-        let areas = plane_areas(self.job, self.layout.steps());
-        let mut operands = grown_out_of(alloc, &mut scratch.operands_of_steps, room)?;
+        let room = count_operands_of_steps(self.job, self.layout.steps()).ok_or(AllocError)?;
+        let areas = find_plane_areas(self.job, self.layout.steps());
+        let mut operands = detach_grown_vector(alloc, &mut scratch.operands_of_steps, room)?;
         scratch.boxes.grow(self.layout.scratch())?;
         scratch.planes.grow(&areas)?;
-        scratch.planes.take(self.job.picture(), &areas);
+        scratch.planes.convert_planes(self.job.picture(), &areas);
         // the converted planes are read while the memory of the boxes is written
-        let planes = mem::replace(&mut scratch.planes, WidePlanes::none(alloc));
-        self.run_steps(&planes, &mut scratch.boxes, &mut operands[..room]);
+        let planes = mem::replace(&mut scratch.planes, PlaneBuffers::new(alloc));
+        self.run_inner_steps(&planes, &mut scratch.boxes, &mut operands[..room]);
         scratch.planes = planes;
         scratch.operands_of_steps = operands;
-        Ok(Boxes::all(scratch.boxes.whole(), &scratch.planes))
+        Ok(ScratchView::from_numbers(scratch.boxes.whole(), &scratch.planes))
     }
 }

@@ -15,8 +15,8 @@ ghost use Rattle.one_tile.specs.Runs.{is_missing, first_missing, AreLocalOn, Are
 ghost use Rattle.one_tile.specs.Layouts.{IsFunctionLayout};
 ghost use Rattle.one_tile.specs.inside.Steps.{IsFunctionAt};
 
-use crate::memory::{Scratch, grown_out_of};
-use crate::steps::function_of;
+use crate::memory::{TileScratch, detach_grown_vector};
+use crate::steps::find_function;
 use crate::tile_fault::EvalFault;
 use crate::tile_inputs::TileInputs;
 use crate::tile_job::TileJob;
@@ -25,25 +25,25 @@ use job::{Function, Job};
 use overlap_tiles::{Step, TilePlan};
 use std::alloc::{AllocError, Global};
 use tile_eval::function_room;
-use tile_sources::Known;
+use tile_sources::TileSource;
 
-fn is_missing<K: Known>(known: &K, key: &Key) -> bool
+fn is_missing<K: TileSource>(known: &K, key: &Key) -> bool
     ensures { result ≡ is_missing (K.given known.now) key.now }
 {
     known
-        .tile(usize::from(key.stage), key.row, key.col)
+        .borrow_tile(usize::from(key.stage), key.row, key.col)
         .is_none()
 }
 
 /// The first of these keys whose tile is not supplied.
-pub fn first_missing<K: Known>(needs: &[Key], known: &K) -> Option<Key>
+pub fn find_first_missing_key<K: TileSource>(needs: &[Key], known: &K) -> Option<Key>
     ensures { result ≡ first_missing (K.given known.now) needs.now }
 {
     needs.iter().copied().find(|key| is_missing(known, key))
 }
 
 // The last step.
-fn last_of(steps: &[Step]) -> Option<&Step>
+fn find_last_step(steps: &[Step]) -> Option<&Step>
     ensures some { IfSome result (λ step. (inner : List (ℕ × Area)) (last : ℕ × Area)
         → map step_view steps.now ≡ inner ++ last ∷ [] → step_view step.now ≡ last) }
     ensures none { IfNone result (steps.now ≡ []) }
@@ -54,14 +54,14 @@ fn last_of(steps: &[Step]) -> Option<&Step>
     }
 }
 
-impl<K: Known> TileJob<'_, K> {
+impl<K: TileSource> TileJob<'_, K> {
     // The values of a function over the last step's area. All buffers are grown before the first value is computed.
-    fn target(
+    fn compute_function_values(
         &self,
         alloc: Global,
         step: &Step,
         function: &Function,
-        scratch: &mut Scratch,
+        scratch: &mut TileScratch,
     ) -> Result<Vec<i32>, AllocError>
         requires layout { IsFunctionLayout (pipeline_in self.now.job.now) self.now.layout.now }
         requires needs { NeedsGiven (K.given self.now.known.now) self.now.layout.now.needs }
@@ -76,13 +76,13 @@ impl<K: Known> TileJob<'_, K> {
     {
         let area = &step.area;
         let room = function_room(function, area.cols.len() as usize).ok_or(AllocError)?;
-        let mut operands = grown_out_of(alloc, &mut scratch.operands, room)?;
-        let mut values = scratch.tile_room(alloc);
+        let mut operands = detach_grown_vector(alloc, &mut scratch.operands, room)?;
+        let mut values = scratch.reuse_tile_vector(alloc);
         values.resize(area.points() as usize, 0)?;
-        let boxes = self.prepare(alloc, scratch)?;
+        let boxes = self.compute_inlined_boxes(alloc, scratch)?;
         let tile = *self;
         let inputs = TileInputs { tile, boxes };
-        inputs.values(
+        inputs.write_function_values(
             step.stage,
             function,
             area,
@@ -98,7 +98,11 @@ impl<K: Known> TileJob<'_, K> {
     /// # Errors
     ///
     /// Fails only where memory is refused.
-    pub fn run(&self, alloc: Global, scratch: &mut Scratch) -> Result<Vec<i32>, AllocError>
+    pub fn compute_values(
+        &self,
+        alloc: Global,
+        scratch: &mut TileScratch,
+    ) -> Result<Vec<i32>, AllocError>
         requires layout { IsFunctionLayout (pipeline_in self.now.job.now) self.now.layout.now }
         requires needs { NeedsGiven (K.given self.now.known.now) self.now.layout.now.needs }
         ensures { IfOk result (λ values. (inlining : List Bool) (g i j : ℕ)
@@ -106,11 +110,11 @@ impl<K: Known> TileJob<'_, K> {
             → AreLocalOn (pipeline_in self.now.job.now) inlining (K.given self.now.known.now) g i j
             values.items) }
     {
-        let Some(last) = last_of(self.layout.steps()) else {
+        let Some(last) = find_last_step(self.layout.steps()) else {
             return Ok(Vec::new(alloc));
         };
-        match function_of(self.job, last.stage) {
-            Some(function) => self.target(alloc, last, function, scratch),
+        match find_function(self.job, last.stage) {
+            Some(function) => self.compute_function_values(alloc, last, function, scratch),
             None => Ok(Vec::new(alloc)),
         }
     }
@@ -123,11 +127,11 @@ impl<K: Known> TileJob<'_, K> {
 ///
 /// Fails with the least tile that the plan needs and that is not supplied, before memory is allocated; and where memory is
 /// refused.
-pub fn run_tile<K: Known>(
+pub fn run_tile<K: TileSource>(
     alloc: Global,
     job: &Job,
     plan: &TilePlan<'_>,
-    scratch: &mut Scratch,
+    scratch: &mut TileScratch,
     known: &K,
 ) -> Result<Vec<i32>, EvalFault>
     requires whole { AreWhole (pipeline_in job.now) (K.given known.now) }
@@ -143,7 +147,7 @@ pub fn run_tile<K: Known>(
         (λ values. first_missing (K.given known.now) plan.now.needs ≡ None) }
     ensures fault { IfErr result (IsEvalFault (K.given known.now) plan.now.needs) }
 {
-    if let Some(key) = first_missing(plan.needs(), known) {
+    if let Some(key) = find_first_missing_key(plan.needs(), known) {
         return Err(EvalFault::Missing(key));
     }
     let tile = TileJob {
@@ -151,6 +155,6 @@ pub fn run_tile<K: Known>(
         layout: plan.layout(),
         known,
     };
-    let values = tile.run(alloc, scratch)?;
+    let values = tile.compute_values(alloc, scratch)?;
     Ok(values)
 }

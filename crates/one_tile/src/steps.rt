@@ -17,16 +17,16 @@ ghost use Rattle.one_tile.specs.Runs.{NeedsGiven, IsSomeLayout};
 ghost use Rattle.tile_sources.specs.Wide.{AreWide};
 ghost use Rattle.one_tile.specs.inside.Steps.{IsFunctionAt, AreComputed, HasStepsRoom, IsPreparedBeside};
 
-use crate::boxes::Boxes;
+use crate::scratch_view::ScratchView;
 use crate::tile_inputs::TileInputs;
 use crate::tile_job::TileJob;
 use job::{Body, Function, Job};
 use overlap_tiles::Step;
 use scratch::Scratch;
-use tile_sources::{Known, WidePlanes};
+use tile_sources::{PlaneBuffers, TileSource};
 
 /// The function of this number.
-pub(crate) fn function_of(job: &Job, number: usize) -> Option<&Function>
+pub(crate) fn find_function(job: &Job, number: usize) -> Option<&Function>
     ensures some { IfSome result (λ function. IsFunctionAt (pipeline_in job.now) number
         (map case_view function.now.cases.items) (option_map formula_view function.now.otherwise)) }
     ensures none { IfNone result (is_function (pipeline_in job.now) number ≡ false) }
@@ -37,12 +37,12 @@ pub(crate) fn function_of(job: &Job, number: usize) -> Option<&Function>
     }
 }
 
-impl<K: Known> TileJob<'_, K> {
+impl<K: TileSource> TileJob<'_, K> {
     // Writes the values of a function over its box into the box's range, which starts at `start`. The memory before and after the
     // range is borrowed meanwhile.
     fn write_box(
         &self,
-        planes: &WidePlanes,
+        planes: &PlaneBuffers,
         step: &Step,
         function: &Function,
         start: usize,
@@ -67,7 +67,7 @@ impl<K: Known> TileJob<'_, K> {
     {
         let end = start + step.area.points() as usize;
         let (before, part, behind) = scratch.parts(start..end);
-        let boxes = Boxes {
+        let boxes = ScratchView {
             before,
             behind,
             end,
@@ -75,11 +75,17 @@ impl<K: Known> TileJob<'_, K> {
         };
         let tile = *self;
         let inputs = TileInputs { tile, boxes };
-        inputs.values(step.stage, function, &step.area, part, temps);
+        inputs.write_function_values(step.stage, function, &step.area, part, temps);
     }
 
     // Computes the step at this place into its range. Those steps before it that are still read are already computed.
-    fn run_step(&self, place: usize, planes: &WidePlanes, scratch: &mut Scratch, temps: &mut [i32])
+    fn run_step(
+        &self,
+        place: usize,
+        planes: &PlaneBuffers,
+        scratch: &mut Scratch,
+        temps: &mut [i32],
+    )
         requires layout { IsSomeLayout (pipeline_in self.now.job.now) self.now.layout.now }
         requires needs { NeedsGiven (K.given self.now.known.now) self.now.layout.now.needs }
         requires there { suc place < length self.now.layout.now.steps }
@@ -95,13 +101,18 @@ impl<K: Known> TileJob<'_, K> {
     {
         let step = self.layout.steps()[place];
         let (start, _) = self.layout.ranges()[place];
-        if let Some(function) = function_of(self.job, step.stage) {
+        if let Some(function) = find_function(self.job, step.stage) {
             self.write_box(planes, &step, function, start, scratch, temps);
         }
     }
 
     /// Computes each step before the last.
-    pub(crate) fn run_steps(&self, planes: &WidePlanes, scratch: &mut Scratch, temps: &mut [i32])
+    pub(crate) fn run_inner_steps(
+        &self,
+        planes: &PlaneBuffers,
+        scratch: &mut Scratch,
+        temps: &mut [i32],
+    )
         requires layout { IsSomeLayout (pipeline_in self.now.job.now) self.now.layout.now }
         requires needs { NeedsGiven (K.given self.now.known.now) self.now.layout.now.needs }
         requires size { self.now.layout.now.scratch ≤ length (numbers_of scratch.old) }

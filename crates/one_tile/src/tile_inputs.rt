@@ -8,37 +8,37 @@ ghost use Rattle.overlap_tiles.specs.Views.{step_view};
 ghost use Rattle.one_tile.specs.Prepared.{IsInputAt, input_at};
 ghost use Rattle.tile_sources.specs.Wide.{AreWide};
 
-use crate::boxes::Boxes;
+use crate::scratch_view::ScratchView;
 use crate::tile_job::TileJob;
 use domains::{Area, Index};
 use job::{Body, Function};
 use overlap_tiles::Step;
 use tile_eval::{BufferView, RowSource, RowSpan, area_onto};
-use tile_sources::{Known, plane_gather, plane_row, plane_sample};
+use tile_sources::{TileSource, gather_plane_row, read_plane_row, read_plane_sample};
 
 /// What a tile reads: planes of its job, supplied tiles of stored functions, and boxes of inlined functions.
 #[derive(Drop)]
-pub struct TileInputs<'a, 'b, K: Known> {
+pub struct TileInputs<'a, 'b, K: TileSource> {
     pub tile: TileJob<'a, K>,
-    pub boxes: Boxes<'b>,
+    pub boxes: ScratchView<'b>,
     ghost wide: { AreWide (pipeline_in tile.job.now).picture boxes.planes.now },
 }
 
 // The area of the step at a place.
-fn area_at(steps: &[Step], place: usize) -> Option<Area>
+fn find_step_area(steps: &[Step], place: usize) -> Option<Area>
     ensures { result ≡ option_map (λ s. s.1) (slice_get (map step_view steps.now) place) }
 {
     Some(steps.get(place)?.area)
 }
 
 // Where the range at a place starts.
-fn start_at(ranges: &[(usize, usize)], place: usize) -> Option<usize>
+fn find_range_start(ranges: &[(usize, usize)], place: usize) -> Option<usize>
     ensures { result ≡ option_map (λ r. r.0) (slice_get ranges.now place) }
 {
     Some(ranges.get(place)?.0)
 }
 
-impl<K: Known> TileInputs<'_, '_, K> {
+impl<K: TileSource> TileInputs<'_, '_, K> {
     ghost use Rattle.std.specs.Prelude.{ℤ, ◌<◌, ◌+ℤ◌, pos, length, IfSome, IfNone};
     ghost use Rattle.domains.specs.Area.{HoldsPoint, IsArea, point_count};
     ghost use Rattle.domains.specs.Span.{len_of};
@@ -53,7 +53,7 @@ impl<K: Known> TileInputs<'_, '_, K> {
     ghost use Rattle.one_tile.specs.inside.Steps.{IsFunctionAt};
 
     // The box of an inlined function, if it is borrowed.
-    fn boxed(&self, stage: usize) -> Option<BufferView<'_>>
+    fn view_box(&self, stage: usize) -> Option<BufferView<'_>>
         ensures some { IfSome result (λ view. (r c : ℤ)
             → IsBoxed (pipeline_in self.now.tile.job.now) self.now.tile.layout.now
             (K.given self.now.tile.known.now) self.now.boxes stage r c
@@ -66,14 +66,14 @@ impl<K: Known> TileInputs<'_, '_, K> {
     {
         let layout = self.tile.layout;
         let place = layout.place(stage)?;
-        let area = area_at(layout.steps(), place)?;
-        let start = start_at(layout.ranges(), place)?;
-        let numbers = self.boxes.lent(start, area.points() as usize)?;
+        let area = find_step_area(layout.steps(), place)?;
+        let start = find_range_start(layout.ranges(), place)?;
+        let numbers = self.boxes.borrow_range(start, area.points() as usize)?;
         Some(BufferView::new(area, numbers))
     }
 
     // Writes the samples of a plane along a row, from a column on.
-    fn read_plane(&self, plane: usize, row: i32, first: i32, out: &mut [i32])
+    fn copy_plane_row(&self, plane: usize, row: i32, first: i32, out: &mut [i32])
         requires plane { plane < length (pipeline_in self.now.tile.job.now).picture.planes }
         requires there { EachPlace (length out.old)
             (λ k. HoldsPoint (picture_area (pipeline_in self.now.tile.job.now).picture) row
@@ -81,15 +81,19 @@ impl<K: Known> TileInputs<'_, '_, K> {
         ensures { EachPlace (length out.old) (λ k. at out.new k
             ≡ sample_at (pipeline_in self.now.tile.job.now).picture plane row (first +ℤ pos k)) }
     {
-        match self.boxes.planes.row(plane, row, first, out.len()) {
+        match self
+            .boxes
+            .planes
+            .borrow_plane_row(plane, row, first, out.len())
+        {
             Some(line) => out.copy_from_slice(line),
-            None => plane_row(self.tile.job.picture(), plane, row, first, out),
+            None => read_plane_row(self.tile.job.picture(), plane, row, first, out),
         }
     }
 
     /// Writes the values of a function over an area of its domain, row by row, where all its reads are available. The content of
     /// the operand buffer is unspecified.
-    pub(crate) fn values(
+    pub(crate) fn write_function_values(
         &self,
         number: usize,
         function: &Function,
@@ -115,7 +119,7 @@ impl<K: Known> TileInputs<'_, '_, K> {
     }
 }
 
-impl<K: Known> RowSource for TileInputs<'_, '_, K> {
+impl<K: TileSource> RowSource for TileInputs<'_, '_, K> {
     ghost has = { λ inputs g r c. IsInputAt (pipeline_in inputs.tile.job.now) inputs.tile.layout.now
         (K.given inputs.tile.known.now) inputs.boxes g r c };
 
@@ -127,13 +131,16 @@ impl<K: Known> RowSource for TileInputs<'_, '_, K> {
             return;
         };
         match found.body() {
-            Body::Plane(plane) => self.read_plane(*plane, row, first, out),
+            Body::Plane(plane) => self.copy_plane_row(*plane, row, first, out),
             Body::Function(_) if self.tile.layout.inlined(stage) => {
-                if let Some(view) = self.boxed(stage) {
+                if let Some(view) = self.view_box(stage) {
                     view.read_row(row, first, out);
                 }
             }
-            Body::Function(_) => self.tile.given(stage, found).read_row(row, first, out),
+            Body::Function(_) => self
+                .tile
+                .view_supplied_tiles(stage, found)
+                .read_row(row, first, out),
             Body::Accumulator(_) => {}
         }
     }
@@ -142,13 +149,19 @@ impl<K: Known> RowSource for TileInputs<'_, '_, K> {
         let found = self.tile.job.stage(stage)?;
         match found.body() {
             Body::Function(_) if self.tile.layout.inlined(stage) => {
-                match self.boxed(stage) {
+                match self.view_box(stage) {
                     Some(view) => Some(view.slice(row, first, count)),
                     None => None,
                 }
             }
-            Body::Function(_) => self.tile.given(stage, found).borrow_row(row, first, count),
-            Body::Plane(plane) => self.boxes.planes.row(*plane, row, first, count),
+            Body::Function(_) => self
+                .tile
+                .view_supplied_tiles(stage, found)
+                .borrow_row(row, first, count),
+            Body::Plane(plane) => self
+                .boxes
+                .planes
+                .borrow_plane_row(*plane, row, first, count),
             Body::Accumulator(_) => None,
         }
     }
@@ -158,7 +171,7 @@ impl<K: Known> RowSource for TileInputs<'_, '_, K> {
             return;
         };
         match found.body() {
-            Body::Plane(plane) => plane_gather(
+            Body::Plane(plane) => gather_plane_row(
                 self.tile.job.picture(),
                 *plane,
                 row,
@@ -167,11 +180,14 @@ impl<K: Known> RowSource for TileInputs<'_, '_, K> {
                 out,
             ),
             Body::Function(_) if self.tile.layout.inlined(stage) => {
-                if let Some(view) = self.boxed(stage) {
+                if let Some(view) = self.view_box(stage) {
                     view.gather(row, col, points, out);
                 }
             }
-            Body::Function(_) => self.tile.given(stage, found).gather(row, col, points, out),
+            Body::Function(_) => self
+                .tile
+                .view_supplied_tiles(stage, found)
+                .gather(row, col, points, out),
             Body::Accumulator(_) => {}
         }
     }
@@ -181,12 +197,15 @@ impl<K: Known> RowSource for TileInputs<'_, '_, K> {
             return 0;
         };
         match found.body() {
-            Body::Plane(plane) => plane_sample(self.tile.job.picture(), *plane, row, col),
-            Body::Function(_) if self.tile.layout.inlined(stage) => match self.boxed(stage) {
+            Body::Plane(plane) => read_plane_sample(self.tile.job.picture(), *plane, row, col),
+            Body::Function(_) if self.tile.layout.inlined(stage) => match self.view_box(stage) {
                 Some(view) => view.sample(row, col),
                 None => 0,
             },
-            Body::Function(_) => self.tile.given(stage, found).sample(row, col),
+            Body::Function(_) => self
+                .tile
+                .view_supplied_tiles(stage, found)
+                .read_number(row, col),
             Body::Accumulator(_) => 0,
         }
     }

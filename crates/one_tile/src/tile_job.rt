@@ -11,34 +11,34 @@ use domains::Grid;
 use job::{Job, Stage};
 use overlap_tiles::Layout;
 use std::alloc::AllocError;
-use tile_sources::{Known, TilesOfStage};
+use tile_sources::{SuppliedTiles, TileSource};
 
 /// A tile of a job that is to be computed: its layout, and the supplier of the tiles that it needs.
-pub struct TileJob<'a, K: Known> {
+pub struct TileJob<'a, K: TileSource> {
     pub job: &'a Job,
     pub layout: &'a Layout<'a>,
     pub known: &'a K,
     ghost whole: { AreWhole (pipeline_in job.now) (K.given known.now) },
 }
 
-impl<'a, K: Known> Clone for TileJob<'a, K> {
+impl<'a, K: TileSource> Clone for TileJob<'a, K> {
     fn clone(&self) -> Result<TileJob<'a, K>, AllocError> {
         Ok(*self)
     }
 }
 
-impl<'a, K: Known> Copy for TileJob<'a, K> {}
+impl<'a, K: TileSource> Copy for TileJob<'a, K> {}
 
-impl<'a, K: Known> TileJob<'a, K> {
+impl<'a, K: TileSource> TileJob<'a, K> {
     // The tiles of a stored stage.
-    pub(crate) fn given(&self, number: usize, stage: &Stage) -> TilesOfStage<'a, K>
+    pub(crate) fn view_supplied_tiles(&self, number: usize, stage: &Stage) -> SuppliedTiles<'a, K>
         requires { slice_get (pipeline_in self.now.job.now).stages number
             ≡ Some (stage_view stage.now) }
         ensures known { result.known.now ≡ self.now.known.now }
         ensures stage { result.stage ≡ number }
         ensures grid { result.grid ≡ grid_of (pipeline_in self.now.job.now) (stage_view stage.now) }
     {
-        TilesOfStage {
+        SuppliedTiles {
             known: self.known,
             stage: number,
             grid: Grid::new(*stage.domain(), self.job.sides()),

@@ -8,6 +8,6 @@ pub struct TileRow {
 
 /// The tiles of one stage.
 #[derive(Drop)]
-pub struct Tiles {
+pub struct StageTiles {
     pub rows: Vec<TileRow>,
 }

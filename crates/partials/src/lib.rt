@@ -3,4 +3,4 @@
 
 mod partials;
 
-pub use partials::{partial, tile_onto};
+pub use partials::{accumulate_tile, partial};

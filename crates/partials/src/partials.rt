@@ -15,21 +15,21 @@ ghost use Rattle.partials.specs.inside.LastSteps.{IsLastStep};
 ghost use Rattle.partials.specs.Partials.{local_totals, AreLocalTotals, AreTotalsOn, IsAccumulatorPlan};
 
 use job::{Accumulator, Body, Job};
-use one_tile::{EvalFault, Scratch, TileInputs, TileJob, first_missing};
+use one_tile::{EvalFault, TileInputs, TileJob, TileScratch, find_first_missing_key};
 use overlap_tiles::{Step, TilePlan};
-use reductions::{RowsRoom, starts};
+use reductions::{RowBuffers, create_start_bins};
 use std::alloc::{AllocError, Global};
-use tile_sources::Known;
+use tile_sources::TileSource;
 
 // Joins to each bin what an accumulator accumulates in it over the last step's area. All buffers are grown before the first value
 // is computed.
-fn gather_onto<K: Known>(
+fn accumulate_step<K: TileSource>(
     alloc: Global,
     tile: &TileJob<'_, K>,
     step: &Step,
     accumulator: &Accumulator,
-    scratch: &mut Scratch,
-    rows: &mut RowsRoom,
+    scratch: &mut TileScratch,
+    rows: &mut RowBuffers,
     bins: &mut [i64],
 ) -> Result<(), AllocError>
     requires layout { IsSomeLayout (pipeline_in tile.now.job.now) tile.now.layout.now }
@@ -43,11 +43,11 @@ fn gather_onto<K: Known>(
         tile.now.layout.now.inlining (K.given tile.now.known.now) step.now.area step.now.stage)) }
     ensures err { OnErr result (bins.new ≡ bins.old) }
 {
-    rows.reach(accumulator, &step.area)?;
-    let boxes = tile.prepare(alloc, scratch)?;
+    rows.grow_for_area(accumulator, &step.area)?;
+    let boxes = tile.compute_inlined_boxes(alloc, scratch)?;
     let tile = *tile;
     let inputs = TileInputs { tile, boxes };
-    rows.gather_onto(&inputs, accumulator, &step.area, bins);
+    rows.accumulate_area(&inputs, accumulator, &step.area, bins);
     Ok(())
 }
 
@@ -56,12 +56,12 @@ fn gather_onto<K: Known>(
 /// # Errors
 ///
 /// Fails only where memory is refused; then the bins are unchanged.
-pub fn tile_onto<K: Known>(
+pub fn accumulate_tile<K: TileSource>(
     alloc: Global,
     tile: &TileJob<'_, K>,
     accumulator: &Accumulator,
-    scratch: &mut Scratch,
-    rows: &mut RowsRoom,
+    scratch: &mut TileScratch,
+    rows: &mut RowBuffers,
     bins: &mut [i64],
 ) -> Result<(), AllocError>
     requires layout { IsSomeLayout (pipeline_in tile.now.job.now) tile.now.layout.now }
@@ -79,16 +79,16 @@ pub fn tile_onto<K: Known>(
     let Some(step) = tile.layout.steps().last() else {
         unreachable!()
     };
-    gather_onto(alloc, tile, step, accumulator, scratch, rows, bins)
+    accumulate_step(alloc, tile, step, accumulator, scratch, rows, bins)
 }
 
 // What an accumulator accumulates over the last step's area.
-fn gather_tile<K: Known>(
+fn compute_accumulator_totals<K: TileSource>(
     alloc: Global,
     tile: &TileJob<'_, K>,
     step: &Step,
     accumulator: &Accumulator,
-    scratch: &mut Scratch,
+    scratch: &mut TileScratch,
 ) -> Result<Vec<i64>, AllocError>
     requires layout { IsSomeLayout (pipeline_in tile.now.job.now) tile.now.layout.now }
     requires needs { NeedsGiven (K.given tile.now.known.now) tile.now.layout.now.needs }
@@ -99,9 +99,9 @@ fn gather_tile<K: Known>(
         ≡ local_totals (pipeline_in tile.now.job.now) tile.now.layout.now.inlining
         (K.given tile.now.known.now) step.now.area step.now.stage) }
 {
-    let mut bins = starts(alloc, accumulator.fold(), accumulator.bins())?;
-    let mut rows = RowsRoom::new(alloc);
-    gather_onto(
+    let mut bins = create_start_bins(alloc, accumulator.fold(), accumulator.bins())?;
+    let mut rows = RowBuffers::new(alloc);
+    accumulate_step(
         alloc,
         tile,
         step,
@@ -114,11 +114,11 @@ fn gather_tile<K: Known>(
 }
 
 // What the last step's stage accumulates over its area; nothing if it is no accumulator.
-fn gather_step<K: Known>(
+fn compute_step_totals<K: TileSource>(
     alloc: Global,
     tile: &TileJob<'_, K>,
     step: &Step,
-    scratch: &mut Scratch,
+    scratch: &mut TileScratch,
 ) -> Result<Vec<i64>, AllocError>
     requires layout { IsSomeLayout (pipeline_in tile.now.job.now) tile.now.layout.now }
     requires needs { NeedsGiven (K.given tile.now.known.now) tile.now.layout.now.needs }
@@ -131,7 +131,13 @@ fn gather_step<K: Known>(
         return Ok(Vec::new(alloc));
     };
     match found.body() {
-        Body::Accumulator(accumulator) => gather_tile(alloc, tile, step, accumulator, scratch),
+        Body::Accumulator(accumulator) => compute_accumulator_totals(
+            alloc,
+            tile,
+            step,
+            accumulator,
+            scratch,
+        ),
         Body::Plane(_) | Body::Function(_) => Ok(Vec::new(alloc)),
     }
 }
@@ -141,10 +147,10 @@ fn gather_step<K: Known>(
 /// # Errors
 ///
 /// Fails only where memory is refused.
-pub(crate) fn tile_totals<K: Known>(
+pub(crate) fn compute_tile_totals<K: TileSource>(
     alloc: Global,
     tile: &TileJob<'_, K>,
-    scratch: &mut Scratch,
+    scratch: &mut TileScratch,
 ) -> Result<Vec<i64>, AllocError>
     requires layout { IsSomeLayout (pipeline_in tile.now.job.now) tile.now.layout.now }
     requires needs { NeedsGiven (K.given tile.now.known.now) tile.now.layout.now.needs }
@@ -156,7 +162,7 @@ pub(crate) fn tile_totals<K: Known>(
     let Some(step) = tile.layout.steps().last() else {
         return Ok(Vec::new(alloc));
     };
-    gather_step(alloc, tile, step, scratch)
+    compute_step_totals(alloc, tile, step, scratch)
 }
 
 /// What an accumulator accumulates in its bins over a tile, rising, by the tile's plan and from whatever is supplied. If all that
@@ -166,11 +172,11 @@ pub(crate) fn tile_totals<K: Known>(
 ///
 /// Fails with the least tile that the plan needs and that is not supplied, before memory is allocated; and where memory is
 /// refused.
-pub fn partial<K: Known>(
+pub fn partial<K: TileSource>(
     alloc: Global,
     job: &Job,
     plan: &TilePlan<'_>,
-    scratch: &mut Scratch,
+    scratch: &mut TileScratch,
     known: &K,
 ) -> Result<Vec<i64>, EvalFault>
     requires whole { AreWhole (pipeline_in job.now) (K.given known.now) }
@@ -185,7 +191,7 @@ pub fn partial<K: Known>(
     ensures given { IfOk result (λ bins. first_missing (K.given known.now) plan.now.needs ≡ None) }
     ensures fault { IfErr result (IsEvalFault (K.given known.now) plan.now.needs) }
 {
-    if let Some(key) = first_missing(plan.needs(), known) {
+    if let Some(key) = find_first_missing_key(plan.needs(), known) {
         return Err(EvalFault::Missing(key));
     }
     let tile = TileJob {
@@ -193,6 +199,6 @@ pub fn partial<K: Known>(
         layout: plan.layout(),
         known,
     };
-    let bins = tile_totals(alloc, &tile, scratch)?;
+    let bins = compute_tile_totals(alloc, &tile, scratch)?;
     Ok(bins)
 }

@@ -7,7 +7,7 @@ mod sheet;
 mod streamed;
 mod strip;
 
-pub use parting::is_for_one;
-pub use picture::{KnownTiles, image_of, picture_with};
+pub use parting::is_one_thread_enough;
+pub use picture::{SuppliedJob, assemble_image, build_picture};
 pub use sheet::{OpenPlane, Sheet};
-pub use streamed::{Streamed, area_of_row};
+pub use streamed::{StreamedOutput, compute_row_area};

@@ -22,14 +22,14 @@ use netpbm::{Picture, Plane};
 use row_kernels::number_after;
 use std::alloc::{AllocError, Global};
 use tile_eval::number_at;
-use tile_run::{Known, lend_given_row};
+use tile_run::{TileSource, borrow_supplied_row_part};
 
 // The number of values that are clamped before their samples are added.
 const PIECE: usize = 512;
 
 /// A job with a source of the tiles of its functions.
 #[derive(Drop)]
-pub struct KnownTiles<'a, K: Known> {
+pub struct SuppliedJob<'a, K: TileSource> {
     pub job: &'a Job,
     pub known: &'a K,
 }
@@ -40,7 +40,7 @@ pub struct KnownTiles<'a, K: Known> {
 /// # Errors
 ///
 /// Fails only where memory is refused.
-pub fn image_of<K: Known>(
+pub fn assemble_image<K: TileSource>(
     alloc: Global,
     job: &Job,
     known: &K,
@@ -50,25 +50,25 @@ pub fn image_of<K: Known>(
         (λ picture. picture ≡ given_image (pipeline_in job.now) (K.given known.now)) }
     ensures image { IfOk result (λ picture. ForSome picture IsImage) }
 {
-    KnownTiles { job, known }.image(alloc)
+    SuppliedJob { job, known }.assemble_output(alloc)
 }
 
-impl<K: Known> KnownTiles<'_, K> {
+impl<K: TileSource> SuppliedJob<'_, K> {
     // The picture of a job that has an output.
-    fn image(&self, alloc: Global) -> Result<Option<Picture>, AllocError>
+    fn assemble_output(&self, alloc: Global) -> Result<Option<Picture>, AllocError>
         requires { GivesOutputs (pipeline_in self.now.job.now) (K.given self.now.known.now) }
         ensures answer { IfOk result (λ picture. picture
             ≡ given_image (pipeline_in self.now.job.now) (K.given self.now.known.now)) }
         ensures image { IfOk result (λ picture. ForSome picture IsImage) }
     {
         match self.job.output() {
-            Some(output) => Ok(Some(self.picture(alloc, output)?)),
+            Some(output) => Ok(Some(self.assemble_picture(alloc, output)?)),
             None => Ok(None),
         }
     }
 
     // The output's functions as planes.
-    fn picture(&self, alloc: Global, output: &Output) -> Result<Picture, AllocError>
+    fn assemble_picture(&self, alloc: Global, output: &Output) -> Result<Picture, AllocError>
         requires output { IsOutput (pipeline_in self.now.job.now) (output_view output.now) }
         requires stored { All
             (IsLentStage (pipeline_in self.now.job.now) (K.given self.now.known.now))
@@ -79,12 +79,17 @@ impl<K: Known> KnownTiles<'_, K> {
             (output_view output.now)) }
         ensures image { IfOk result IsImage }
     {
-        let planes = self.planes(alloc, output.stages(), output.max() as u16)?;
-        Ok(picture_with(self.job, output, planes))
+        let planes = self.assemble_planes(alloc, output.stages(), output.max() as u16)?;
+        Ok(build_picture(self.job, output, planes))
     }
 
     // The planes of functions.
-    fn planes(&self, alloc: Global, stages: &[usize], max: u16) -> Result<Vec<Plane>, AllocError>
+    fn assemble_planes(
+        &self,
+        alloc: Global,
+        stages: &[usize],
+        max: u16,
+    ) -> Result<Vec<Plane>, AllocError>
         requires stored { All
             (IsLentStage (pipeline_in self.now.job.now) (K.given self.now.known.now)) stages.now }
         ensures { IfOk result (λ planes. made_samples planes.items
@@ -94,7 +99,7 @@ impl<K: Known> KnownTiles<'_, K> {
     {
         let mut planes = Vec::with_capacity(alloc, stages.len())?;
         for stage in stages {
-            planes.push(self.plane(alloc, *stage, max)?)?;
+            planes.push(self.assemble_plane(alloc, *stage, max)?)?;
         }
         Ok(planes)
     }
@@ -104,7 +109,7 @@ impl<K: Known> KnownTiles<'_, K> {
     /// # Errors
     ///
     /// Fails only where memory is refused.
-    pub fn plane(&self, alloc: Global, stage: usize, max: u16) -> Result<Plane, AllocError>
+    pub fn assemble_plane(&self, alloc: Global, stage: usize, max: u16) -> Result<Plane, AllocError>
         requires stored { IsLentStage (pipeline_in self.now.job.now) (K.given self.now.known.now)
             stage }
         ensures { IfOk result (λ plane. plane
@@ -112,13 +117,13 @@ impl<K: Known> KnownTiles<'_, K> {
             (given_at (pipeline_in self.now.job.now) (K.given self.now.known.now)) max stage)) }
     {
         match self.job.domain(stage) {
-            Some(domain) => self.plane_over(alloc, stage, &domain, max),
+            Some(domain) => self.assemble_plane_over(alloc, stage, &domain, max),
             None => unreachable!(),
         }
     }
 
     // The plane of a function over its domain.
-    fn plane_over(
+    fn assemble_plane_over(
         &self,
         alloc: Global,
         stage: usize,
@@ -187,8 +192,15 @@ impl<K: Known> KnownTiles<'_, K> {
         let mut done = 0;
         while done < count {
             let from = number_after(first, done);
-            let part = lend_given_row(self.known, self.job, stage, row, from, count - done);
-            push_cut(sheet, part)?;
+            let part = borrow_supplied_row_part(
+                self.known,
+                self.job,
+                stage,
+                row,
+                from,
+                count - done,
+            );
+            push_clamped_values(sheet, part)?;
             done += part.len();
         }
         Ok(())
@@ -196,7 +208,7 @@ impl<K: Known> KnownTiles<'_, K> {
 }
 
 /// The picture of an output, with these planes.
-pub fn picture_with(job: &Job, output: &Output, planes: Vec<Plane>) -> Picture
+pub fn build_picture(job: &Job, output: &Output, planes: Vec<Plane>) -> Picture
     requires output { IsOutput (pipeline_in job.now) (output_view output.now) }
     requires image { IsImage (picture_with (pipeline_in job.now) (output_view output.now)
         (made_samples planes.items)) }
@@ -205,8 +217,8 @@ pub fn picture_with(job: &Job, output: &Output, planes: Vec<Plane>) -> Picture
     ensures image { IsImage result }
 {
     let first = output.stages()[0];
-    let rows = height_of(job, first);
-    let cols = width_of(job, first);
+    let rows = count_domain_rows(job, first);
+    let cols = count_domain_columns(job, first);
     match Picture::of_planes(rows, cols, output.max() as u16, planes) {
         Ok(picture) => picture,
         Err(_) => unreachable!(),
@@ -214,43 +226,43 @@ pub fn picture_with(job: &Job, output: &Output, planes: Vec<Plane>) -> Picture
 }
 
 // Adds values to a sheet, clamped to 0 and its greatest sample, `PIECE` of them at a time.
-fn push_cut<S: Sheet>(sheet: &mut S, values: &[i32]) -> Result<(), AllocError>
+fn push_clamped_values<S: Sheet>(sheet: &mut S, values: &[i32]) -> Result<(), AllocError>
     ensures max { S.greatest_of sheet.new ≡ S.greatest_of sheet.old }
     ensures samples { OnOk result (S.samples sheet.new
         ≡ S.samples sheet.old ++ map (sample_of (S.greatest_of sheet.old)) values.now) }
 {
-    let max = sheet.greatest();
+    let max = sheet.greatest_sample();
     let mut room = [0; PIECE];
     let mut rest = values;
     while !rest.is_empty() {
         let (piece, behind) = rest.split_at(rest.len().min(PIECE));
         let cuts = &mut room[..piece.len()];
-        cut_into(cuts, piece, max);
-        sheet.add(cuts)?;
+        clamp_values(cuts, piece, max);
+        sheet.add_samples(cuts)?;
         rest = behind;
     }
     Ok(())
 }
 
 // Each value, clamped to 0 and the greatest sample.
-fn cut_into(cuts: &mut [u16], values: &[i32], max: u16)
+fn clamp_values(cuts: &mut [u16], values: &[i32], max: u16)
     requires { length cuts.old ≡ length values.now }
     ensures { cuts.new ≡ map (sample_of max) values.now }
 {
     for k in 0..values.len() {
-        cuts[k] = cut(values[k], max);
+        cuts[k] = clamp_value(values[k], max);
     }
 }
 
 // The value clamped to 0 and the greatest sample.
-fn cut(value: i32, max: u16) -> u16
+fn clamp_value(value: i32, max: u16) -> u16
     ensures { result ≡ sample_of max value }
 {
     value.max(0).min(i32::from(max)) as u16
 }
 
 // The number of rows of the domain of a stage.
-fn height_of(job: &Job, stage: usize) -> u32
+fn count_domain_rows(job: &Job, stage: usize) -> u32
     ensures { result ≡ height_of (pipeline_in job.now) stage }
 {
     match job.domain(stage) {
@@ -260,7 +272,7 @@ fn height_of(job: &Job, stage: usize) -> u32
 }
 
 // The number of columns of the domain of a stage.
-fn width_of(job: &Job, stage: usize) -> u32
+fn count_domain_columns(job: &Job, stage: usize) -> u32
     ensures { result ≡ width_of (pipeline_in job.now) stage }
 {
     match job.domain(stage) {

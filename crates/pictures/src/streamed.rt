@@ -12,25 +12,25 @@ ghost use Rattle.tile_run.specs.Stored.{stored_tiles};
 ghost use Rattle.pictures.specs.RowAreas.{row_area};
 ghost use Rattle.pictures.specs.inside.Strips.{IsStripOf};
 
-use crate::parting::is_for_one;
-use crate::picture::KnownTiles;
+use crate::parting::is_one_thread_enough;
+use crate::picture::SuppliedJob;
 use crate::sheet::{OpenPlane, Sheet};
-use crate::strip::{Strip, add_strips};
+use crate::strip::{PlaneStrip, append_strips};
 use domains::{Area, Grid};
 use netpbm::Plane;
 use rayon::prelude::*;
 use std::alloc::{AllocError, Global};
 use std::thread::Threads;
-use tile_run::{LentRow, Scratch, StageRun, least_rows};
+use tile_run::{StageRun, SuppliedRow, TileScratch, estimate_rows_per_thread};
 
 /// An output of a job. Each thread has one row of its tiles in memory at a time.
 #[derive(Clone, Copy)]
-pub struct Streamed<'a> {
+pub struct StreamedOutput<'a> {
     pub run: StageRun<'a>,
 }
 
 /// The points of a row of tiles.
-pub fn area_of_row(grid: &Grid, row: u32) -> Area
+pub fn compute_row_area(grid: &Grid, row: u32) -> Area
     requires parted { IsGrid grid.now }
     requires row { row < tile_rows grid.now }
     ensures { result ≡ row_area grid.now row }
@@ -44,13 +44,13 @@ pub fn area_of_row(grid: &Grid, row: u32) -> Area
     }
 }
 
-impl Streamed<'_> {
+impl StreamedOutput<'_> {
     /// The values of the output, row by row, clamped to 0 and the greatest sample.
     ///
     /// # Errors
     ///
     /// Fails only where memory is refused.
-    pub fn plane(
+    pub fn compute_plane(
         &self,
         rt: &(impl Threads + Sync),
         alloc: Global,
@@ -63,15 +63,15 @@ impl Streamed<'_> {
             ≡ made max (samples (pipeline_in self.now.run.job.now) max self.now.run.stage)) }
     {
         let run = &self.run;
-        let least = least_rows(run.job, run.schedule, run.stage);
-        if is_for_one(rt, run.grid.tile_rows(), least) {
-            return self.plane_in_turn(alloc, max);
+        let least = estimate_rows_per_thread(run.job, run.schedule, run.stage);
+        if is_one_thread_enough(rt, run.grid.tile_rows(), least) {
+            return self.compute_plane_in_turn(alloc, max);
         }
-        self.plane_of_strips(rt, alloc, max, least)
+        self.compute_plane_in_parallel(rt, alloc, max, least)
     }
 
     // The same by this thread alone, one row of tiles after the other.
-    fn plane_in_turn(&self, alloc: Global, max: u16) -> Result<Plane, AllocError>
+    fn compute_plane_in_turn(&self, alloc: Global, max: u16) -> Result<Plane, AllocError>
         requires ready { IsStageReady (pipeline_in self.now.run.job.now)
             self.now.run.schedule.now.inlining (stored_tiles self.now.run.stored.now.stages.items)
             self.now.run.stage self.now.run.grid }
@@ -79,16 +79,16 @@ impl Streamed<'_> {
             ≡ made max (samples (pipeline_in self.now.run.job.now) max self.now.run.stage)) }
     {
         let grid = &self.run.grid;
-        let mut scratch = Scratch::new(alloc);
+        let mut scratch = TileScratch::new(alloc);
         let mut sheet = OpenPlane::with_capacity(alloc, max, grid.area.points() as usize)?;
         for row in 0..grid.tile_rows() {
-            self.push_row(alloc, &mut sheet, &mut scratch, row)?;
+            self.push_tile_row(alloc, &mut sheet, &mut scratch, row)?;
         }
         Ok(sheet.into_plane())
     }
 
     // The same by several threads.
-    fn plane_of_strips(
+    fn compute_plane_in_parallel(
         &self,
         rt: &(impl Threads + Sync),
         alloc: Global,
@@ -101,20 +101,20 @@ impl Streamed<'_> {
         ensures { IfOk result (λ plane. plane
             ≡ made max (samples (pipeline_in self.now.run.job.now) max self.now.run.stage)) }
     {
-        let strips = self.strips(rt, alloc, max, least)?;
+        let strips = self.compute_strips(rt, alloc, max, least)?;
         let mut plane = Plane::with_capacity(alloc, max, self.run.grid.area.points() as usize)?;
-        add_strips(&mut plane, &strips)?;
+        append_strips(&mut plane, &strips)?;
         Ok(plane)
     }
 
     // A strip for each row of tiles. Each thread gets at least `least` rows.
-    fn strips(
+    fn compute_strips(
         &self,
         rt: &(impl Threads + Sync),
         alloc: Global,
         max: u16,
         least: usize,
-    ) -> Result<Vec<Strip>, AllocError>
+    ) -> Result<Vec<PlaneStrip>, AllocError>
         requires ready { IsStageReady (pipeline_in self.now.run.job.now)
             self.now.run.schedule.now.inlining (stored_tiles self.now.run.stored.now.stages.items)
             self.now.run.stage self.now.run.grid }
@@ -126,43 +126,43 @@ impl Streamed<'_> {
             .into_par_iter()
             .with_min_len(least)
             .map_init(
-                || Scratch::new(alloc),
-                |scratch: &mut Scratch, row: u32| -> Result<Strip, AllocError>
+                || TileScratch::new(alloc),
+                |scratch: &mut TileScratch, row: u32| -> Result<PlaneStrip, AllocError>
                     requires { IsStageReady (pipeline_in self.now.run.job.now)
                         self.now.run.schedule.now.inlining (stored_tiles self.now.run.stored.now.stages.items)
                         self.now.run.stage self.now.run.grid × (row < tile_rows self.now.run.grid) }
                     ensures { IfOk result (IsStripOf self.entry.now max row) }
-                { self.strip(alloc, scratch, row, max) },
+                { self.compute_strip(alloc, scratch, row, max) },
             )
             .collect::<Result<Vec<_>, AllocError>>(rt, alloc)?
     }
 
     // The samples of one row of tiles.
-    fn strip(
+    fn compute_strip(
         &self,
         alloc: Global,
-        scratch: &mut Scratch,
+        scratch: &mut TileScratch,
         row: u32,
         max: u16,
-    ) -> Result<Strip, AllocError>
+    ) -> Result<PlaneStrip, AllocError>
         requires ready { IsStageReady (pipeline_in self.now.run.job.now)
             self.now.run.schedule.now.inlining (stored_tiles self.now.run.stored.now.stages.items)
             self.now.run.stage self.now.run.grid }
         requires row { row < tile_rows self.now.run.grid }
         ensures { IfOk result (IsStripOf self.now max row) }
     {
-        let area = area_of_row(&self.run.grid, row);
-        let mut strip = Strip::with_capacity(alloc, max, area.points() as usize)?;
-        self.push_row(alloc, &mut strip, scratch, row)?;
+        let area = compute_row_area(&self.run.grid, row);
+        let mut strip = PlaneStrip::with_capacity(alloc, max, area.points() as usize)?;
+        self.push_tile_row(alloc, &mut strip, scratch, row)?;
         Ok(strip)
     }
 
     // Adds the samples of one row of tiles to a sheet.
-    fn push_row<S: Sheet>(
+    fn push_tile_row<S: Sheet>(
         &self,
         alloc: Global,
         sheet: &mut S,
-        scratch: &mut Scratch,
+        scratch: &mut TileScratch,
         row: u32,
     ) -> Result<(), AllocError>
         requires ready { IsStageReady (pipeline_in self.now.run.job.now)
@@ -175,19 +175,19 @@ impl Streamed<'_> {
             ++ samples_over (pipeline_in self.now.run.job.now) (S.greatest_of sheet.old)
             self.now.run.stage (row_area self.now.run.grid row)) }
     {
-        let area = area_of_row(&self.run.grid, row);
-        let tiles = self.run.row(alloc, row, scratch)?;
-        let lent = LentRow {
+        let area = compute_row_area(&self.run.grid, row);
+        let tiles = self.run.compute_row(alloc, row, scratch)?;
+        let lent = SuppliedRow {
             stage: self.run.stage,
             row,
             tiles: &tiles,
         };
-        let known = KnownTiles {
+        let known = SuppliedJob {
             job: self.run.job,
             known: &lent,
         };
         known.push_area(sheet, self.run.stage, &area)?;
-        scratch.take_back(tiles);
+        scratch.replace_recycled_vectors(tiles);
         Ok(())
     }
 }

@@ -10,36 +10,40 @@ use std::alloc::{AllocError, Global};
 
 /// The samples of some rows of a plane, which are kept until those of the rows before are available.
 #[derive(Drop)]
-pub(crate) struct Strip {
+pub(crate) struct PlaneStrip {
     max: u16,
     samples: Vec<u16>,
 }
 
-impl Strip {
+impl PlaneStrip {
     /// No samples yet, and capacity for `count`.
     ///
     /// # Errors
     ///
     /// Fails only where memory is refused.
-    pub(crate) fn with_capacity(alloc: Global, max: u16, count: usize) -> Result<Strip, AllocError>
+    pub(crate) fn with_capacity(
+        alloc: Global,
+        max: u16,
+        count: usize,
+    ) -> Result<PlaneStrip, AllocError>
         ensures max { IfOk result (λ strip. strip.max ≡ max) }
         ensures samples { IfOk result (λ strip. strip.samples.items ≡ []) }
     {
         let samples = Vec::with_capacity(alloc, count)?;
-        Ok(Strip { max, samples })
+        Ok(PlaneStrip { max, samples })
     }
 }
 
-impl Sheet for Strip {
+impl Sheet for PlaneStrip {
     ghost greatest_of = { λ strip. strip.max };
 
     ghost samples = { λ strip. strip.samples.items };
 
-    fn greatest(&self) -> u16 {
+    fn greatest_sample(&self) -> u16 {
         self.max
     }
 
-    fn add(&mut self, more: &[u16]) -> Result<(), AllocError> {
+    fn add_samples(&mut self, more: &[u16]) -> Result<(), AllocError> {
         self.samples.extend_from_slice(more)
     }
 }
@@ -49,7 +53,7 @@ impl Sheet for Strip {
 /// # Errors
 ///
 /// Fails only where memory is refused.
-pub(crate) fn add_strips(plane: &mut Plane, strips: &[Strip]) -> Result<(), AllocError>
+pub(crate) fn append_strips(plane: &mut Plane, strips: &[PlaneStrip]) -> Result<(), AllocError>
     requires { All (λ strip. All (λ sample. sample ≤ plane.old.max) strip.samples.items) strips.now }
     ensures max { plane.new.max ≡ plane.old.max }
     ensures samples { OnOk result (plane.new.samples

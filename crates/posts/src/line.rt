@@ -19,12 +19,12 @@ pub struct Line<'a, C: NamedCatalog> {
 
 impl<'a, C: NamedCatalog> Line<'a, C> {
     /// A way to this mailbox, by a new pass. No memory is allocated.
-    pub fn to(post: &'a Post<C>) -> Line<'a, C>
+    pub fn new(post: &'a Post<C>) -> Line<'a, C>
         ensures { view result.pass.seat ≡ moves [] [] }
     {
         Line {
             post,
-            pass: post.pass(),
+            pass: post.open_pass(),
         }
     }
 

@@ -51,19 +51,19 @@ impl<C: NamedCatalog> Post<C> {
         let _ = catalog;
         let (queue, _) = Queue::<C>::ruled(alloc, capacity as usize)?;
         let post = Post { queue };
-        let passes = post.passes(alloc, passes)?;
+        let passes = post.open_passes(alloc, passes)?;
         Ok((post, passes))
     }
 
     // `count` more passes.
-    fn passes(&self, alloc: Global, count: u32) -> Result<Vec<Pass<C>>, AllocError>
+    fn open_passes(&self, alloc: Global, count: u32) -> Result<Vec<Pass<C>>, AllocError>
         ensures count { IfOk result (λ all. length all.items ≡ count) }
         ensures fresh { IfOk result (λ all. All
             (λ p. IsPassOf self.now.queue p.seat × (view p.seat ≡ moves [] [])) all.items) }
     {
         let mut all = Vec::new(alloc);
         for _ in 0..count {
-            let pass = self.pass();
+            let pass = self.open_pass();
             all.reserve(1)?;
             all.push_reserved(pass);
         }
@@ -71,7 +71,7 @@ impl<C: NamedCatalog> Post<C> {
     }
 
     /// One more pass, by which nothing was put or taken. No memory is allocated.
-    pub fn pass(&self) -> Pass<C>
+    pub fn open_pass(&self) -> Pass<C>
         ensures { IsPassOf self.now.queue result.seat × (view result.seat ≡ moves [] []) }
     {
         Pass {

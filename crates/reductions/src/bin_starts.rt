@@ -10,7 +10,7 @@ use operators::Fold;
 use std::alloc::{AllocError, Global};
 
 // The start value of a bin, which it keeps if no point has this bin.
-fn start_of(op: Fold) -> i64
+fn find_start_value(op: Fold) -> i64
     ensures { result ≡ start_by op }
 {
     match op {
@@ -25,8 +25,8 @@ fn start_of(op: Fold) -> i64
 /// # Errors
 ///
 /// Fails only where memory is refused.
-pub fn starts(alloc: Global, op: Fold, bins: &Span) -> Result<Vec<i64>, AllocError>
+pub fn create_start_bins(alloc: Global, op: Fold, bins: &Span) -> Result<Vec<i64>, AllocError>
     ensures { IfOk result (λ starts. starts.items ≡ starts_by op bins.now) }
 {
-    vec![in alloc; start_of(op); bins.len() as usize]
+    vec![in alloc; find_start_value(op); bins.len() as usize]
 }

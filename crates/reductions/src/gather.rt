@@ -12,11 +12,11 @@ ghost use Rattle.tile_eval.specs.Rows.{EachPlace};
 ghost use Rattle.reductions.specs.Accumulating.{HasFormulas, ReadsAt, HasRoomAlong, TookPoints};
 ghost use Rattle.reductions.specs.inside.Gathering.{points_along};
 
-use crate::bin_starts::starts;
-use crate::bins::{add_number, take_values};
-use crate::row_bins::place_along;
-use crate::rows_room::RowsRoom;
-use crate::side_by_side::{take_into_one, take_side_by_side};
+use crate::bin_starts::create_start_bins;
+use crate::bins::{accumulate_values, add_number_to_bins};
+use crate::row_bins::find_adjacent_bins;
+use crate::row_buffers::RowBuffers;
+use crate::side_by_side::{accumulate_in_adjacent_bins, accumulate_in_one_bin};
 use domains::Area;
 use job::Accumulator;
 use operators::Fold;
@@ -24,7 +24,7 @@ use std::alloc::{AllocError, Global};
 use tile_eval::{RowSource, RowSpan, SourceRow, line_along, number_along};
 
 // Accumulates a row of points in the bins.
-fn gather_row<S: RowSource>(
+fn accumulate_row<S: RowSource>(
     row: &SourceRow<'_, S>,
     accumulator: &Accumulator,
     bins: &mut [i64],
@@ -46,26 +46,26 @@ fn gather_row<S: RowSource>(
     let (source, points) = (row.source, &row.points);
     let (value, bin) = (accumulator.value(), accumulator.bin());
     let (op, lo) = (accumulator.fold(), accumulator.bins().lo());
-    if let Some(place) = place_along(bin, points, accumulator.bins()) {
+    if let Some(place) = find_adjacent_bins(bin, points, accumulator.bins()) {
         let line = line_along(source, points, value, values, temps);
-        return take_side_by_side(op, bins, place, line);
+        return accumulate_in_adjacent_bins(op, bins, place, line);
     }
     if let Some(one) = number_along(bin, points) {
         let line = line_along(source, points, value, values, temps);
-        return take_into_one(op, lo, bins, line, one);
+        return accumulate_in_one_bin(op, lo, bins, line, one);
     }
     let each = line_along(source, points, bin, bins_of, temps);
     match (op, number_along(value, points)) {
-        (Fold::Sum, Some(number)) => add_number(lo, bins, number, each),
+        (Fold::Sum, Some(number)) => add_number_to_bins(lo, bins, number, each),
         _ => {
             let line = line_along(source, points, value, values, temps);
-            take_values(op, lo, bins, line, each);
+            accumulate_values(op, lo, bins, line, each);
         }
     }
 }
 
 /// Accumulates the points of an area in the bins, row by row.
-pub(crate) fn gather_rows<S: RowSource>(
+pub(crate) fn accumulate_rows<S: RowSource>(
     source: &S,
     accumulator: &Accumulator,
     area: &Area,
@@ -89,7 +89,7 @@ pub(crate) fn gather_rows<S: RowSource>(
     for i in 0..area.rows.len() as usize {
         let points = RowSpan::at(area, i);
         let row = SourceRow { source, points };
-        gather_row(&row, accumulator, bins, values, bins_of, temps);
+        accumulate_row(&row, accumulator, bins, values, bins_of, temps);
     }
 }
 
@@ -98,7 +98,7 @@ pub(crate) fn gather_rows<S: RowSource>(
 /// # Errors
 ///
 /// Fails only where memory is refused.
-pub(crate) fn gather<S: RowSource>(
+pub(crate) fn compute_area_totals<S: RowSource>(
     alloc: Global,
     source: &S,
     accumulator: &Accumulator,
@@ -114,9 +114,9 @@ pub(crate) fn gather<S: RowSource>(
         accumulator.now.bins (formula_view accumulator.now.value)
         (formula_view accumulator.now.bin))) }
 {
-    let mut bins = starts(alloc, accumulator.fold(), accumulator.bins())?;
-    let mut rows = RowsRoom::new(alloc);
-    rows.reach(accumulator, area)?;
-    rows.gather_onto(source, accumulator, area, &mut bins);
+    let mut bins = create_start_bins(alloc, accumulator.fold(), accumulator.bins())?;
+    let mut rows = RowBuffers::new(alloc);
+    rows.grow_for_area(accumulator, area)?;
+    rows.accumulate_area(source, accumulator, area, &mut bins);
     Ok(bins)
 }

@@ -9,7 +9,7 @@ use operators::Fold;
 
 /// Joins two numbers of one bin: sums wrap at 64 bits.
 #[tactic(auto, using(std::proofs::lemmas::Int::wraps))]
-pub(crate) fn joined(op: Fold, first: i64, second: i64) -> i64
+pub(crate) fn join_numbers(op: Fold, first: i64, second: i64) -> i64
     ensures { result ≡ joined_of op first second }
 {
     match op {
@@ -21,12 +21,12 @@ pub(crate) fn joined(op: Fold, first: i64, second: i64) -> i64
 
 // Joins each bin with the other bin of its place by an operation.
 #[inline]
-fn join_all(op: Fold, bins: &mut [i64], others: &[i64])
+fn join_each_bin(op: Fold, bins: &mut [i64], others: &[i64])
     requires { length others.now ≡ length bins.old }
     ensures { bins.new ≡ joined_bins op bins.old others.now }
 {
     for k in 0..bins.len() {
-        bins[k] = joined(op, bins[k], others[k]);
+        bins[k] = join_numbers(op, bins[k], others[k]);
     }
 }
 
@@ -36,14 +36,14 @@ pub fn join_into(op: Fold, bins: &mut [i64], others: &[i64])
     ensures { bins.new ≡ joined_bins op bins.old others.now }
 {
     match op {
-        Fold::Sum => join_all(Fold::Sum, bins, others),
-        Fold::Min => join_all(Fold::Min, bins, others),
-        Fold::Max => join_all(Fold::Max, bins, others),
+        Fold::Sum => join_each_bin(Fold::Sum, bins, others),
+        Fold::Min => join_each_bin(Fold::Min, bins, others),
+        Fold::Max => join_each_bin(Fold::Max, bins, others),
     }
 }
 
 /// Joins each of these with the bins, one after the other.
-pub fn join_each(op: Fold, bins: &mut [i64], all: &[Vec<i64>])
+pub fn join_all_bins(op: Fold, bins: &mut [i64], all: &[Vec<i64>])
     requires { All (λ others. length others.items ≡ length bins.old) all.now }
     ensures { bins.new ≡ fold (joined_bins op) bins.old (map (λ others. others.items) all.now) }
 {

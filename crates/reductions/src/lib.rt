@@ -6,11 +6,11 @@ mod bins;
 mod gather;
 mod join;
 mod row_bins;
-mod rows_room;
+mod row_buffers;
 mod side_by_side;
 mod whole_totals;
 
-pub use bin_starts::starts;
-pub use join::{join_each, join_into};
-pub use rows_room::RowsRoom;
-pub use whole_totals::{accumulator_tile, partial_of, whole};
+pub use bin_starts::create_start_bins;
+pub use join::{join_all_bins, join_into};
+pub use row_buffers::RowBuffers;
+pub use whole_totals::{compute_true_partial, find_accumulator_tile, whole};

@@ -8,14 +8,14 @@ ghost use Rattle.job.specs.declared.formula.Formula.TheVariants.{Coordinate};
 ghost use Rattle.job.specs.Values.{Valuation, formula_value};
 ghost use Rattle.job.specs.Views.{formula_view};
 
-use crate::bins::place_in;
+use crate::bins::find_bin_place;
 use domains::{LIMIT, Span};
 use job::{Axis, Formula};
 use operators::BinaryOp;
 use tile_eval::{RowSpan, number_along};
 
 // The number, if it is in the range of the numbers of spans.
-fn within_limits(number: i32) -> Option<i32>
+fn check_span_limits(number: i32) -> Option<i32>
     ensures number { IfSome result (λ it. it ≡ number) }
     ensures least { IfSome result (λ it. negsuc 1048575 ≤ℤ it) }
     ensures most { IfSome result (λ it. it ≤ℤ pos 1048576) }
@@ -30,7 +30,7 @@ fn within_limits(number: i32) -> Option<i32>
 
 // The first number of a formula along a row of points, if it rises by one from each point to the next: the column, or the column
 // with a number added or subtracted.
-fn first_along(formula: &Formula, points: &RowSpan) -> Option<i32>
+fn find_first_rising_number(formula: &Formula, points: &RowSpan) -> Option<i32>
     ensures least { IfSome result (λ first. negsuc 1048575 ≤ℤ first) }
     ensures most { IfSome result (λ first. first ≤ℤ pos 1048576) }
     ensures values { IfSome result (λ first. (env : Valuation) (k : ℕ) → k < points.now.len
@@ -43,12 +43,12 @@ fn first_along(formula: &Formula, points: &RowSpan) -> Option<i32>
     match formula {
         Formula::Coordinate(Axis::Column) => Some(points.col),
         Formula::Binary(BinaryOp::Add, a, b) => {
-            let first = first_along(a, points)?;
-            within_limits(first.checked_add(number_along(b, points)?)?)
+            let first = find_first_rising_number(a, points)?;
+            check_span_limits(first.checked_add(number_along(b, points)?)?)
         }
         Formula::Binary(BinaryOp::Sub, a, b) => {
-            let first = first_along(a, points)?;
-            within_limits(first.checked_sub(number_along(b, points)?)?)
+            let first = find_first_rising_number(a, points)?;
+            check_span_limits(first.checked_sub(number_along(b, points)?)?)
         }
         _ => None,
     }
@@ -57,7 +57,7 @@ fn first_along(formula: &Formula, points: &RowSpan) -> Option<i32>
 /// The place of the first of the bins that a formula has along a row of points, if these are adjacent and each is one of `bins`.
 /// If the formula is the column and all columns are bins, the place is found.
 #[tactic(auto, using(std::proofs::lemmas::Int::ints))]
-pub(crate) fn place_along(formula: &Formula, points: &RowSpan, bins: &Span) -> Option<usize>
+pub(crate) fn find_adjacent_bins(formula: &Formula, points: &RowSpan, bins: &Span) -> Option<usize>
     ensures within { IfSome result (λ place. place + points.now.len ≤ len_of bins.now) }
     ensures values { IfSome result (λ place. (env : Valuation) (k : ℕ) → k < points.now.len
         → formula_value env (formula_view formula.now) points.now.row (points.now.col +ℤ pos k)
@@ -66,9 +66,9 @@ pub(crate) fn place_along(formula: &Formula, points: &RowSpan, bins: &Span) -> O
         → (place : ℕ) → bins.now.lo +ℤ pos place ≡ points.now.col
         → ¬ (place + points.now.len ≤ len_of bins.now)) }
 {
-    let first = first_along(formula, points)?;
+    let first = find_first_rising_number(formula, points)?;
     let count = bins.len() as usize;
-    let place = place_in(bins.lo(), count, first)?;
+    let place = find_bin_place(bins.lo(), count, first)?;
     if points.len <= count - place {
         Some(place)
     } else {

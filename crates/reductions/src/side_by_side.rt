@@ -6,26 +6,26 @@ ghost use Rattle.domains.specs.Span.{numbers_from};
 ghost use Rattle.tile_eval.specs.Rows.{EachPlace, at};
 ghost use Rattle.reductions.specs.inside.Gathering.{after_values, values_of_bin};
 
-use crate::bins::{place_in, take_at};
-use crate::join::joined;
+use crate::bins::{accumulate_at_place, find_bin_place};
+use crate::join::join_numbers;
 use operators::Fold;
 
 // Accumulates a row of values by an operation, each in the bin after that of the one before.
 #[inline]
-fn take_each(op: Fold, bins: &mut [i64], place: usize, values: &[i32])
+fn accumulate_adjacent_values(op: Fold, bins: &mut [i64], place: usize, values: &[i32])
     requires { place + length values.now ≤ length bins.old }
     ensures { (lo : ℤ) → EachPlace (length bins.old) (λ j. at bins.new j
         ≡ after_values op (at bins.old j) (values_of_bin values.now
         (numbers_from (lo +ℤ pos place) (length values.now)) (lo +ℤ pos j))) }
 {
     for k in 0..values.len() {
-        take_at(op, bins, place + k, values[k]);
+        accumulate_at_place(op, bins, place + k, values[k]);
     }
 }
 
 /// Accumulates a row of values in the bins from a place on, whatever the first bin is: each in the bin after that of the one
 /// before.
-pub(crate) fn take_side_by_side(op: Fold, bins: &mut [i64], place: usize, values: &[i32])
+pub(crate) fn accumulate_in_adjacent_bins(op: Fold, bins: &mut [i64], place: usize, values: &[i32])
     requires { place + length values.now ≤ length bins.old }
     ensures { (lo : ℤ) → EachPlace (length bins.old) (λ j. at bins.new j
         ≡ after_values op (at bins.old j) (values_of_bin values.now
@@ -33,42 +33,42 @@ pub(crate) fn take_side_by_side(op: Fold, bins: &mut [i64], place: usize, values
 {
     // each operation has a loop of its own, over adjacent numbers
     match op {
-        Fold::Sum => take_each(Fold::Sum, bins, place, values),
-        Fold::Min => take_each(Fold::Min, bins, place, values),
-        Fold::Max => take_each(Fold::Max, bins, place, values),
+        Fold::Sum => accumulate_adjacent_values(Fold::Sum, bins, place, values),
+        Fold::Min => accumulate_adjacent_values(Fold::Min, bins, place, values),
+        Fold::Max => accumulate_adjacent_values(Fold::Max, bins, place, values),
     }
 }
 
 // The content of a bin after it accumulated a row of values by an operation.
 #[inline]
-fn joined_all(op: Fold, total: i64, values: &[i32]) -> i64
+fn reduce_each_value(op: Fold, total: i64, values: &[i32]) -> i64
     ensures { result ≡ after_values op total values.now }
 {
     let mut so_far = total;
     for k in 0..values.len() {
-        so_far = joined(op, so_far, i64::from(values[k]));
+        so_far = join_numbers(op, so_far, i64::from(values[k]));
     }
     so_far
 }
 
 // The content of a bin after it accumulated a row of values.
-fn with_row(op: Fold, total: i64, values: &[i32]) -> i64
+fn reduce_row(op: Fold, total: i64, values: &[i32]) -> i64
     ensures { result ≡ after_values op total values.now }
 {
     match op {
-        Fold::Sum => joined_all(Fold::Sum, total, values),
-        Fold::Min => joined_all(Fold::Min, total, values),
-        Fold::Max => joined_all(Fold::Max, total, values),
+        Fold::Sum => reduce_each_value(Fold::Sum, total, values),
+        Fold::Min => reduce_each_value(Fold::Min, total, values),
+        Fold::Max => reduce_each_value(Fold::Max, total, values),
     }
 }
 
 /// Accumulates a row of values in one bin, if it is one of these, from `lo` on.
-pub(crate) fn take_into_one(op: Fold, lo: i32, bins: &mut [i64], values: &[i32], bin: i32)
+pub(crate) fn accumulate_in_one_bin(op: Fold, lo: i32, bins: &mut [i64], values: &[i32], bin: i32)
     ensures { EachPlace (length bins.old) (λ j. at bins.new j
         ≡ after_values op (at bins.old j) (values_of_bin values.now
         (replicate (length values.now) bin) (lo +ℤ pos j))) }
 {
-    if let Some(place) = place_in(lo, bins.len(), bin) {
-        bins[place] = with_row(op, bins[place], values);
+    if let Some(place) = find_bin_place(lo, bins.len(), bin) {
+        bins[place] = reduce_row(op, bins[place], values);
     }
 }

@@ -9,14 +9,14 @@ ghost use Rattle.job.specs.Totals.{totals, totals_over};
 ghost use Rattle.tile_eval.specs.Buffer.{IsServed};
 ghost use Rattle.reductions.specs.TruePartials.{IsAccumulatorTile, IsTruePartial, IsDomainPart};
 
-use crate::gather::gather;
+use crate::gather::compute_area_totals;
 use domains::{Area, Grid};
 use job::{Body, Job};
 use std::alloc::{AllocError, Global};
 use tile_eval::TrueStages;
 
 // What a stage accumulates over a part of its domain; nothing if it is no accumulator.
-fn totals_on(
+fn compute_stage_totals(
     alloc: Global,
     stages: &TrueStages<'_>,
     stage: usize,
@@ -32,14 +32,19 @@ fn totals_on(
         return Ok(Vec::new(alloc));
     };
     match found.body() {
-        Body::Accumulator(accumulator) => gather(alloc, stages.known(), accumulator, area),
+        Body::Accumulator(accumulator) => compute_area_totals(
+            alloc,
+            stages.known(),
+            accumulator,
+            area,
+        ),
         Body::Plane(_) | Body::Function(_) => Ok(Vec::new(alloc)),
     }
 }
 
 /// The area of an accumulator's tile in this row and column of its grid; none where it has no such tile, or no accumulator has this
 /// number.
-pub fn accumulator_tile(job: &Job, stage: usize, row: u32, col: u32) -> Option<Area>
+pub fn find_accumulator_tile(job: &Job, stage: usize, row: u32, col: u32) -> Option<Area>
     ensures some { IfSome result (IsAccumulatorTile (pipeline_in job.now) stage row col) }
     ensures area { IfSome result IsArea }
     ensures none { IfNone result
@@ -65,7 +70,7 @@ pub fn whole(alloc: Global, job: &Job, stage: usize) -> Result<Vec<i64>, AllocEr
         return Ok(Vec::new(alloc));
     };
     let stages = TrueStages::of(alloc, job, &[stage])?;
-    totals_on(alloc, &stages, stage, &domain)
+    compute_stage_totals(alloc, &stages, stage, &domain)
 }
 
 /// What an accumulator accumulates in its bins, rising, over its tile in this row and column of its grid. It reads stages that
@@ -74,7 +79,7 @@ pub fn whole(alloc: Global, job: &Job, stage: usize) -> Result<Vec<i64>, AllocEr
 /// # Errors
 ///
 /// Fails only where memory is refused.
-pub fn partial_of(
+pub fn compute_true_partial(
     alloc: Global,
     stages: &TrueStages<'_>,
     stage: usize,
@@ -87,8 +92,8 @@ pub fn partial_of(
     ensures none { IfOk result (λ found. IfNone found
         ((bins : List ℤ) → ¬ (IsTruePartial (pipeline_in stages.now.job.now) stage row col bins))) }
 {
-    match accumulator_tile(stages.job(), stage, row, col) {
-        Some(area) => Ok(Some(totals_on(alloc, stages, stage, &area)?)),
+    match find_accumulator_tile(stages.job(), stage, row, col) {
+        Some(area) => Ok(Some(compute_stage_totals(alloc, stages, stage, &area)?)),
         None => Ok(None),
     }
 }

@@ -4,7 +4,7 @@ ghost use Rattle.std.specs.Prelude.{◌≡◌};
 ghost use Rattle.states.specs.States.{IsBelow, IsState, State, join, nothing};
 
 /// Join is commutative and associative, on states idempotent, and the least state that is not below the two.
-pub fn join_is_least_upper_bound()
+pub fn state_join_is_least_upper_bound()
     ensures commutative { (s t : State) → join s t ≡ join t s }
     ensures associative { (s t u : State) → join (join s t) u ≡ join s (join t u) }
     ensures idempotent { (s : State) → IsState s → join s s ≡ s }

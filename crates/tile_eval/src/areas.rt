@@ -52,7 +52,7 @@ impl<S: RowSource> SourceRow<'_, S> {
                 source: self.source,
                 points,
             };
-            own.by_cases(function.cases(), function.otherwise(), line, temps);
+            own.evaluate_cases(function.cases(), function.otherwise(), line, temps);
         }
     }
 }

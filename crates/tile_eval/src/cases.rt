@@ -54,7 +54,7 @@ fn are_turned(first: RowMask, second: RowMask) -> bool
 
 impl<S: RowSource> SourceRow<'_, S> {
     // A case over a row that lies in its box.
-    fn boxed_case(&self, case: &JobCase, out: &mut [i32], temps: &mut [i32])
+    fn evaluate_boxed_case(&self, case: &JobCase, out: &mut [i32], temps: &mut [i32])
         requires some { 0 < length out.old }
         requires fits { length out.old ≡ self.now.points.len }
         requires inside { EachPlace (length out.old) (λ k. InBox (case_view case.now).box
@@ -80,7 +80,7 @@ impl<S: RowSource> SourceRow<'_, S> {
     }
 
     // Takes the values of a case, where its tests hold.
-    fn take_case(&self, case: &JobCase, out: &mut [i32], temps: &mut [i32])
+    fn apply_case(&self, case: &JobCase, out: &mut [i32], temps: &mut [i32])
         requires fits { length out.old ≡ self.now.points.len }
         requires some { 0 < length out.old }
         requires case { EachPlace (length out.old) (λ k. IsReady (S.has self.now.source.now)
@@ -101,12 +101,12 @@ impl<S: RowSource> SourceRow<'_, S> {
                 source: self.source,
                 points,
             };
-            inner.boxed_case(case, &mut out[from..to], temps);
+            inner.evaluate_boxed_case(case, &mut out[from..to], temps);
         }
     }
 
     // The values where no case holds: 0 if none are specified.
-    fn elsewhere(&self, otherwise: &Option<Formula>, out: &mut [i32], temps: &mut [i32])
+    fn evaluate_otherwise(&self, otherwise: &Option<Formula>, out: &mut [i32], temps: &mut [i32])
         requires some { 0 < length out.old }
         requires fits { length out.old ≡ self.now.points.len }
         requires other { ForSome (option_map formula_view otherwise.now)
@@ -125,7 +125,7 @@ impl<S: RowSource> SourceRow<'_, S> {
     }
 
     // The part of a row where the tests of a case hold, if this is known without testing each point: its first place and its end.
-    fn held(&self, case: &JobCase) -> Option<(usize, usize)>
+    fn find_case_interval(&self, case: &JobCase) -> Option<(usize, usize)>
         requires some { 0 < self.now.points.len }
         requires ready { EachPlace self.now.points.len (λ k. IsReady (S.has self.now.source.now)
             (case_view case.now) self.now.points.row (self.now.points.col +ℤ pos k)) }
@@ -149,7 +149,7 @@ impl<S: RowSource> SourceRow<'_, S> {
     }
 
     // The part of a row where a case's tests hold unless those of the case before it do, if known without testing each point.
-    fn held_by_turns(&self, before: &JobCase, case: &JobCase) -> Option<(usize, usize)>
+    fn find_alternating_interval(&self, before: &JobCase, case: &JobCase) -> Option<(usize, usize)>
         requires some { 0 < self.now.points.len }
         requires before { EachPlace self.now.points.len (λ k. IsReady (S.has self.now.source.now)
             (case_view before.now) self.now.points.row (self.now.points.col +ℤ pos k)) }
@@ -216,8 +216,8 @@ impl<S: RowSource> SourceRow<'_, S> {
     }
 
     // The values of a function at a part of the points.
-    #[cycle(by_cases)]
-    fn by_cases_part(
+    #[cycle(evaluate_cases)]
+    fn evaluate_cases_part(
         &self,
         cases: &[JobCase],
         otherwise: &Option<Formula>,
@@ -244,13 +244,13 @@ impl<S: RowSource> SourceRow<'_, S> {
                 source: self.source,
                 points,
             };
-            inner.by_cases(cases, otherwise, &mut out[from..to], temps);
+            inner.evaluate_cases(cases, otherwise, &mut out[from..to], temps);
         }
     }
 
     // The values of a function at points where not all tests of the case before hold.
-    #[cycle(by_cases)]
-    fn behind_case(
+    #[cycle(evaluate_cases)]
+    fn evaluate_after_case(
         &self,
         before: &JobCase,
         cases: &[JobCase],
@@ -272,18 +272,18 @@ impl<S: RowSource> SourceRow<'_, S> {
             (self.now.points.col +ℤ pos k)) }
     {
         if let [case, rest @ ..] = cases {
-            if let Some((from, to)) = self.held_by_turns(before, case) {
-                self.by_cases_part(rest, otherwise, 0, from, out, temps);
-                self.by_cases_part(rest, otherwise, to, out.len(), out, temps);
+            if let Some((from, to)) = self.find_alternating_interval(before, case) {
+                self.evaluate_cases_part(rest, otherwise, 0, from, out, temps);
+                self.evaluate_cases_part(rest, otherwise, to, out.len(), out, temps);
                 return self.evaluate_part(case.formula(), from, to, out, temps);
             }
         }
-        self.by_cases(cases, otherwise, out, temps);
+        self.evaluate_cases(cases, otherwise, out, temps);
     }
 
     /// The values of a function. If a case holds on one interval of a row, later cases are evaluated only outside that interval.
-    #[cycle(by_cases)]
-    pub(crate) fn by_cases(
+    #[cycle(evaluate_cases)]
+    pub(crate) fn evaluate_cases(
         &self,
         cases: &[JobCase],
         otherwise: &Option<Formula>,
@@ -300,17 +300,17 @@ impl<S: RowSource> SourceRow<'_, S> {
             (self.now.points.col +ℤ pos k)) }
     {
         let [case, behind @ ..] = cases else {
-            return self.elsewhere(otherwise, out, temps);
+            return self.evaluate_otherwise(otherwise, out, temps);
         };
-        match self.held(case) {
+        match self.find_case_interval(case) {
             Some((from, to)) => {
-                self.by_cases_part(behind, otherwise, 0, from, out, temps);
-                self.by_cases_part(behind, otherwise, to, out.len(), out, temps);
+                self.evaluate_cases_part(behind, otherwise, 0, from, out, temps);
+                self.evaluate_cases_part(behind, otherwise, to, out.len(), out, temps);
                 self.evaluate_part(case.formula(), from, to, out, temps);
             }
             None => {
-                self.behind_case(case, behind, otherwise, out, temps);
-                self.take_case(case, out, temps);
+                self.evaluate_after_case(case, behind, otherwise, out, temps);
+                self.apply_case(case, out, temps);
             }
         }
     }

@@ -22,7 +22,11 @@ use row_kernels::{
 
 impl<'a, S: RowSource> SourceRow<'a, S> {
     // A clamped difference of two reads, times a factor, if nothing else is to be computed.
-    fn scaled_difference(&self, factor: i32, formula: &Formula) -> Option<ClampedDifference<'a>>
+    fn borrow_scaled_difference(
+        &self,
+        factor: i32,
+        formula: &Formula,
+    ) -> Option<ClampedDifference<'a>>
         requires { ReadsWithin (S.has self.now.source.now) (formula_view formula.now)
             self.now.points.row self.now.points.col self.now.points.len }
         ensures lines { IfSome result (HasLines self.now.points.len) }
@@ -41,15 +45,15 @@ impl<'a, S: RowSource> SourceRow<'a, S> {
         };
         Some(ClampedDifference {
             factor,
-            left: self.given(left)?,
-            right: self.given(right)?,
+            left: self.borrow_read(left)?,
+            right: self.borrow_read(right)?,
             low: number_along(low, &self.points)?,
             high: number_along(high, &self.points)?,
         })
     }
 
     /// A formula as a clamped difference of two reads times a factor, if nothing else is to be computed.
-    pub(crate) fn difference(&self, formula: &Formula) -> Option<ClampedDifference<'a>>
+    pub(crate) fn borrow_difference(&self, formula: &Formula) -> Option<ClampedDifference<'a>>
         requires { ReadsWithin (S.has self.now.source.now) (formula_view formula.now)
             self.now.points.row self.now.points.col self.now.points.len }
         ensures lines { IfSome result (HasLines self.now.points.len) }
@@ -59,16 +63,16 @@ impl<'a, S: RowSource> SourceRow<'a, S> {
     {
         match formula {
             Formula::Binary(BinaryOp::Mul, factor, of) => {
-                self.scaled_difference(number_along(factor, &self.points)?, of)
+                self.borrow_scaled_difference(number_along(factor, &self.points)?, of)
             }
-            _ => self.scaled_difference(1, formula),
+            _ => self.borrow_scaled_difference(1, formula),
         }
     }
 
     /// Whether a formula is a sum that ends in clamped differences. If it is, writes what an epilogue makes of its values: the
     /// last four or two differences are added in one pass.
     #[cycle(evaluate)]
-    pub(crate) fn add_differences(
+    pub(crate) fn try_differences(
         &self,
         formula: &Formula,
         finish: Finish,
@@ -87,29 +91,29 @@ impl<'a, S: RowSource> SourceRow<'a, S> {
         let Formula::Binary(BinaryOp::Add, front, fifth) = formula else {
             return false;
         };
-        let Some(fifth) = self.difference(fifth) else {
+        let Some(fifth) = self.borrow_difference(fifth) else {
             return false;
         };
         if let Formula::Binary(BinaryOp::Add, front, fourth) = &**front {
-            if let Some(fourth) = self.difference(fourth) {
+            if let Some(fourth) = self.borrow_difference(fourth) {
                 if let Formula::Binary(BinaryOp::Add, front, third) = &**front {
                     if let Formula::Binary(BinaryOp::Add, first, second) = &**front {
                         if let (Some(second), Some(third)) = (
-                            self.difference(second),
-                            self.difference(third),
+                            self.borrow_difference(second),
+                            self.borrow_difference(third),
                         ) {
-                            let first = self.placed(first, out, temps);
+                            let first = self.compute_operand(first, out, temps);
                             add_four_differences(out, first, second, third, fourth, fifth, finish);
                             return true;
                         }
                     }
                 }
-                let first = self.placed(front, out, temps);
+                let first = self.compute_operand(front, out, temps);
                 add_two_differences(out, first, fourth, fifth, finish);
                 return true;
             }
         }
-        let first = self.placed(front, out, temps);
+        let first = self.compute_operand(front, out, temps);
         add_difference(out, first, fifth, finish);
         true
     }

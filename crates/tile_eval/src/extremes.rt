@@ -16,7 +16,7 @@ use operators::BinaryOp;
 use row_kernels::{Extreme, Finish, LinePair, write_extremes_of_pairs, write_medians};
 
 /// Which of its two operands an operator gives, if it is `min` or `max`.
-pub(crate) fn extreme_of(op: BinaryOp) -> Option<Extreme>
+pub(crate) fn find_extreme(op: BinaryOp) -> Option<Extreme>
     ensures { IfSome result
         (λ extreme. (a b : ℤ) → binary_value op a b ≡ extreme_value extreme a b) }
 {
@@ -28,7 +28,7 @@ pub(crate) fn extreme_of(op: BinaryOp) -> Option<Extreme>
 }
 
 /// Whether an operator is `min` for the least, or `max` for the greatest.
-pub(crate) fn gives(op: BinaryOp, extreme: Extreme) -> bool
+pub(crate) fn is_operator_of(op: BinaryOp, extreme: Extreme) -> bool
     ensures { IsTrue result → (a b : ℤ) → binary_value op a b ≡ extreme_value extreme a b }
 {
     match (op, extreme) {
@@ -39,7 +39,7 @@ pub(crate) fn gives(op: BinaryOp, extreme: Extreme) -> bool
 
 impl<'a, S: RowSource> SourceRow<'a, S> {
     // The operands of `min` for the least, or of `max` for the greatest, if both can be borrowed from the source.
-    fn extreme_pair(&self, extreme: Extreme, formula: &Formula) -> Option<LinePair<'a>>
+    fn borrow_extreme_pair(&self, extreme: Extreme, formula: &Formula) -> Option<LinePair<'a>>
         requires { ReadsWithin (S.has self.now.source.now) (formula_view formula.now)
             self.now.points.row self.now.points.col self.now.points.len }
         ensures lengths { IfSome result (HaveLength self.now.points.len) }
@@ -48,18 +48,18 @@ impl<'a, S: RowSource> SourceRow<'a, S> {
             (formula_view formula.now) self.now.points.row (self.now.points.col +ℤ pos k))) }
     {
         match formula {
-            Formula::Binary(op, a, b) if gives(*op, extreme) => Some(LinePair {
-                left: self.given(a)?,
-                right: self.given(b)?,
+            Formula::Binary(op, a, b) if is_operator_of(*op, extreme) => Some(LinePair {
+                left: self.borrow_read(a)?,
+                right: self.borrow_read(b)?,
             }),
             _ => None,
         }
     }
 
-    // The operands of `max` for the least, or of `min` for the greatest, in either order: a formula with an `extreme_pair`, and
+    // The operands of `max` for the least, or of `min` for the greatest, in either order: a formula with an `borrow_extreme_pair`, and
     // a line that can be borrowed from the source.
     #[tactic(auto, using(crate::proofs::Exchanging::extreme_commutes))]
-    fn pair_and_line(
+    fn borrow_pair_and_line(
         &self,
         extreme: Extreme,
         formula: &Formula,
@@ -76,17 +76,17 @@ impl<'a, S: RowSource> SourceRow<'a, S> {
         let Formula::Binary(op, a, b) = formula else {
             return None;
         };
-        if !gives(*op, extreme.opposite()) {
+        if !is_operator_of(*op, extreme.opposite()) {
             return None;
         }
-        match self.extreme_pair(extreme, a) {
-            Some(pair) => Some((pair, self.given(b)?)),
-            None => Some((self.extreme_pair(extreme, b)?, self.given(a)?)),
+        match self.borrow_extreme_pair(extreme, a) {
+            Some(pair) => Some((pair, self.borrow_read(b)?)),
+            None => Some((self.borrow_extreme_pair(extreme, b)?, self.borrow_read(a)?)),
         }
     }
 
-    // Writes the lesser or the greater of two formulas, if each of them has an `extreme_pair`. Returns whether they have.
-    fn extremes_of_pairs(
+    // Writes the lesser or the greater of two formulas, if each of them has an `borrow_extreme_pair`. Returns whether they have.
+    fn try_extremes_of_pairs(
         &self,
         extreme: Extreme,
         a: &Formula,
@@ -106,7 +106,10 @@ impl<'a, S: RowSource> SourceRow<'a, S> {
             (formula_value (S.samples self.now.source.now) (formula_view b.now)
             self.now.points.row (self.now.points.col +ℤ pos k)))) }
     {
-        match (self.extreme_pair(extreme, a), self.extreme_pair(extreme, b)) {
+        match (
+            self.borrow_extreme_pair(extreme, a),
+            self.borrow_extreme_pair(extreme, b),
+        ) {
             (Some(pair), Some(other)) => {
                 write_extremes_of_pairs(extreme, out, pair, other, finish);
                 true
@@ -115,8 +118,8 @@ impl<'a, S: RowSource> SourceRow<'a, S> {
         }
     }
 
-    // The same if the first one has a pair of the opposite extreme, and the second one has a `pair_and_line`.
-    fn medians(
+    // The same if the first one has a pair of the opposite extreme, and the second one has a `borrow_pair_and_line`.
+    fn try_medians(
         &self,
         extreme: Extreme,
         a: &Formula,
@@ -136,8 +139,8 @@ impl<'a, S: RowSource> SourceRow<'a, S> {
             (formula_value (S.samples self.now.source.now) (formula_view b.now)
             self.now.points.row (self.now.points.col +ℤ pos k)))) }
     {
-        let pair = self.extreme_pair(extreme.opposite(), a);
-        match (pair, self.pair_and_line(extreme, b)) {
+        let pair = self.borrow_extreme_pair(extreme.opposite(), a);
+        match (pair, self.borrow_pair_and_line(extreme, b)) {
             (Some(pair), Some((other, fifth))) => {
                 write_medians(extreme, out, pair, other, fifth, finish);
                 true
@@ -149,12 +152,7 @@ impl<'a, S: RowSource> SourceRow<'a, S> {
     /// Writes what an epilogue makes of the values of a formula, if it is the least or the greatest number of two pairs of lines,
     /// or their median with a fifth line, and all of them can be borrowed from the source. Returns whether it is.
     #[tactic(auto, using(crate::proofs::Exchanging::extreme_commutes))]
-    pub(crate) fn extremes_at_once(
-        &self,
-        formula: &Formula,
-        finish: Finish,
-        out: &mut [i32],
-    ) -> bool
+    pub(crate) fn try_extremes(&self, formula: &Formula, finish: Finish, out: &mut [i32]) -> bool
         requires fits { length out.old ≡ self.now.points.len }
         requires reads { ReadsWithin (S.has self.now.source.now) (formula_view formula.now)
             self.now.points.row self.now.points.col (length out.old) }
@@ -166,11 +164,11 @@ impl<'a, S: RowSource> SourceRow<'a, S> {
         let Formula::Binary(op, a, b) = formula else {
             return false;
         };
-        let Some(extreme) = extreme_of(*op) else {
+        let Some(extreme) = find_extreme(*op) else {
             return false;
         };
-        self.extremes_of_pairs(extreme, a, b, finish, out)
-            || self.medians(extreme, a, b, finish, out)
-            || self.medians(extreme, b, a, finish, out)
+        self.try_extremes_of_pairs(extreme, a, b, finish, out)
+            || self.try_medians(extreme, a, b, finish, out)
+            || self.try_medians(extreme, b, a, finish, out)
     }
 }

@@ -12,7 +12,7 @@ use operators::{BinaryOp, TernaryOp};
 use row_kernels::{Finish, RowSpan};
 
 /// The epilogue that first applies an operator with its right operand, if there is one.
-pub(crate) fn after_operator(finish: Finish, op: BinaryOp, right: &Formula) -> Option<Finish>
+pub(crate) fn fuse_operator(finish: Finish, op: BinaryOp, right: &Formula) -> Option<Finish>
     ensures { IfSome result (λ earlier. (env : Valuation) (v r c : ℤ) → finish_value earlier v
         ≡ finish_value finish (binary_value op v (formula_value env (formula_view right.now) r c))) }
 {
@@ -23,7 +23,7 @@ pub(crate) fn after_operator(finish: Finish, op: BinaryOp, right: &Formula) -> O
 }
 
 /// The epilogue that does the work of an operator whose second and third operand are numbers along the row, if there is one.
-pub(crate) fn for_ternary(
+pub(crate) fn fuse_ternary(
     op: TernaryOp,
     second: &Formula,
     third: &Formula,

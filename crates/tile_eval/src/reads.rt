@@ -14,7 +14,7 @@ use domains::Index;
 use job::Formula;
 
 // Whether an index only adds, so that it takes adjacent columns to adjacent columns.
-fn only_adds(index: &Index) -> bool
+fn has_unit_scale(index: &Index) -> bool
     ensures { IsTrue result → (index.now.mul ≡ pos 1) × (index.now.div ≡ pos 1) }
 {
     index.mul() == 1 && index.div() == 1
@@ -22,7 +22,7 @@ fn only_adds(index: &Index) -> bool
 
 impl<'a, S: RowSource> SourceRow<'a, S> {
     /// The samples that a read takes.
-    pub(crate) fn read(&self, stage: usize, row: &Index, col: &Index, out: &mut [i32])
+    pub(crate) fn write_read(&self, stage: usize, row: &Index, col: &Index, out: &mut [i32])
         requires fits { length out.old ≡ self.now.points.len }
         requires reads { EachPlace (length out.old) (λ k. S.has self.now.source.now stage
             (index_at row.now self.now.points.row)
@@ -32,7 +32,7 @@ impl<'a, S: RowSource> SourceRow<'a, S> {
             (index_at col.now (self.now.points.col +ℤ pos k))) }
     {
         let own = self.points.row_at(row);
-        if only_adds(col) {
+        if has_unit_scale(col) {
             self.source
                 .read_row(stage, own, self.points.col_at(col), out);
         } else {
@@ -41,7 +41,7 @@ impl<'a, S: RowSource> SourceRow<'a, S> {
     }
 
     // The samples at the columns of an index that only adds, if they can be borrowed from the source.
-    fn shifted(&self, stage: usize, row: &Index, col: &Index) -> Option<&'a [i32]>
+    fn borrow_shifted_row(&self, stage: usize, row: &Index, col: &Index) -> Option<&'a [i32]>
         requires mul { col.now.mul ≡ pos 1 }
         requires div { col.now.div ≡ pos 1 }
         requires reads { EachPlace self.now.points.len (λ k. S.has self.now.source.now stage
@@ -58,7 +58,7 @@ impl<'a, S: RowSource> SourceRow<'a, S> {
     }
 
     /// The values of a formula, if it is a read whose samples can be borrowed from the source.
-    pub(crate) fn given(&self, formula: &Formula) -> Option<&'a [i32]>
+    pub(crate) fn borrow_read(&self, formula: &Formula) -> Option<&'a [i32]>
         requires { ReadsWithin (S.has self.now.source.now) (formula_view formula.now)
             self.now.points.row self.now.points.col self.now.points.len }
         ensures { IfSome result (λ line. (length line.now ≡ self.now.points.len)
@@ -67,7 +67,9 @@ impl<'a, S: RowSource> SourceRow<'a, S> {
             self.now.points.row (self.now.points.col +ℤ pos k))) }
     {
         match formula {
-            Formula::Read(stage, row, col) if only_adds(col) => self.shifted(*stage, row, col),
+            Formula::Read(stage, row, col) if has_unit_scale(col) => self.borrow_shifted_row(
+                *stage, row, col,
+            ),
             _ => None,
         }
     }

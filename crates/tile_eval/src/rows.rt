@@ -12,8 +12,8 @@ ghost use Rattle.row_kernels.specs.Terms.{term_at};
 ghost use Rattle.tile_eval.specs.Reading.{ReadsWithin, HasRoom};
 ghost use Rattle.tile_eval.specs.inside.Operators.{IsBinary};
 
-use crate::extremes::{extreme_of, gives};
-use crate::finishes::{after_operator, for_ternary};
+use crate::extremes::{find_extreme, is_operator_of};
+use crate::finishes::{fuse_operator, fuse_ternary};
 use crate::source::RowSource;
 use crate::source_row::SourceRow;
 use job::{Axis, Formula};
@@ -62,7 +62,7 @@ pub fn line_along<'a, S: RowSource>(
         source,
         points: *points,
     };
-    match row.given(formula) {
+    match row.borrow_read(formula) {
         Some(line) => line,
         None => {
             row.evaluate(formula, own, temps);
@@ -99,7 +99,7 @@ fn operand<'a, S: RowSource>(
 
 // A formula as the right operand, which is computed into the row itself unless the left one is there.
 #[cycle(evaluate)]
-fn beside<'a, S: RowSource>(
+fn compute_right_operand<'a, S: RowSource>(
     source: &'a S,
     points: &RowSpan,
     left: Operand,
@@ -128,14 +128,14 @@ fn beside<'a, S: RowSource>(
                 source,
                 points: *points,
             };
-            row.placed(formula, out, rest)
+            row.compute_operand(formula, out, rest)
         }
     }
 }
 
 impl<'a, S: RowSource> SourceRow<'a, S> {
     // A formula as an operand, if nothing is to be computed: a number, or samples borrowed from the source.
-    fn at_hand(&self, formula: &Formula) -> Option<Operand<'a>>
+    fn borrow_operand(&self, formula: &Formula) -> Option<Operand<'a>>
         requires { ReadsWithin (S.has self.now.source.now) (formula_view formula.now)
             self.now.points.row self.now.points.col self.now.points.len }
         ensures serves { IfSome result (Serves self.now.points.len) }
@@ -147,12 +147,12 @@ impl<'a, S: RowSource> SourceRow<'a, S> {
     {
         match number_along(formula, &self.points) {
             Some(number) => Some(Operand::Number(number)),
-            None => Some(Operand::Line(self.given(formula)?)),
+            None => Some(Operand::Line(self.borrow_read(formula)?)),
         }
     }
 
     // A formula as an addend, if nothing is to be computed but a product with a number.
-    fn term(&self, formula: &Formula) -> Option<Term<'a>>
+    fn borrow_term(&self, formula: &Formula) -> Option<Term<'a>>
         requires { ReadsWithin (S.has self.now.source.now) (formula_view formula.now)
             self.now.points.row self.now.points.col self.now.points.len }
         ensures serves { IfSome result (λ it. Serves self.now.points.len it.of) }
@@ -166,19 +166,19 @@ impl<'a, S: RowSource> SourceRow<'a, S> {
             if let Some(factor) = number_along(factor, &self.points) {
                 return Some(Term {
                     factor: Some(factor),
-                    of: self.at_hand(of)?,
+                    of: self.borrow_operand(of)?,
                 });
             }
         }
         Some(Term {
             factor: None,
-            of: self.at_hand(formula)?,
+            of: self.borrow_operand(formula)?,
         })
     }
 
     /// A formula as an operand, which is computed into the row itself if it is not available.
     #[cycle(evaluate)]
-    pub(crate) fn placed(
+    pub(crate) fn compute_operand(
         &self,
         formula: &Formula,
         out: &mut [i32],
@@ -194,7 +194,7 @@ impl<'a, S: RowSource> SourceRow<'a, S> {
             ≡ formula_value (S.samples self.now.source.now) (formula_view formula.now)
             self.now.points.row (self.now.points.col +ℤ pos k)) }
     {
-        match self.at_hand(formula) {
+        match self.borrow_operand(formula) {
             Some(it) => it,
             None => {
                 self.evaluate(formula, out, temps);
@@ -230,17 +230,22 @@ impl<'a, S: RowSource> SourceRow<'a, S> {
         if let Formula::Binary(BinaryOp::Mul, a, b) = right {
             if let Some(factor) = number_along(a, &self.points) {
                 let (_, temps) = temps.split_at_mut(out.len());
-                let right = beside(self.source, &self.points, left, b, out, temps);
+                let right = compute_right_operand(self.source, &self.points, left, b, out, temps);
                 return combine_scaled(op, out, left, factor, right, finish);
             }
         }
-        let right = beside(self.source, &self.points, left, right, out, temps);
+        let right = compute_right_operand(self.source, &self.points, left, right, out, temps);
         combine(op, out, left, right, finish);
     }
 
     // The right operand of a product as an operand. Its own operands use `temps` after the first row.
     #[cycle(evaluate)]
-    fn placed_in_rest(&self, formula: &Formula, out: &mut [i32], temps: &mut [i32]) -> Operand<'a>
+    fn compute_operand_in_rest(
+        &self,
+        formula: &Formula,
+        out: &mut [i32],
+        temps: &mut [i32],
+    ) -> Operand<'a>
         requires fits { length out.old ≡ self.now.points.len }
         requires formula { IsFormula (formula_view formula.now) }
         requires reads { ReadsWithin (S.has self.now.source.now) (formula_view formula.now)
@@ -254,13 +259,13 @@ impl<'a, S: RowSource> SourceRow<'a, S> {
             self.now.points.row (self.now.points.col +ℤ pos k)) }
     {
         let (_, rest) = temps.split_at_mut(out.len());
-        self.placed(formula, out, rest)
+        self.compute_operand(formula, out, rest)
     }
 
     // Applies an operator and its epilogue. If the left operand of a sum is a product with a number, or a sum whose right
     // operand is available, that is done in the pass of the operator before it.
     #[cycle(evaluate)]
-    fn operate(&self, formula: &Formula, finish: Finish, out: &mut [i32], temps: &mut [i32])
+    fn apply_operator(&self, formula: &Formula, finish: Finish, out: &mut [i32], temps: &mut [i32])
         requires fits { length out.old ≡ self.now.points.len }
         requires binary { IsBinary (formula_view formula.now) }
         requires formula { IsFormula (formula_view formula.now) }
@@ -274,42 +279,48 @@ impl<'a, S: RowSource> SourceRow<'a, S> {
         let Formula::Binary(op, a, b) = formula else {
             return;
         };
-        if let Some(it) = self.difference(formula) {
+        if let Some(it) = self.borrow_difference(formula) {
             return write_difference(out, it, finish);
         }
-        if self.add_differences(formula, finish, out, temps) {
+        if self.try_differences(formula, finish, out, temps) {
             return;
         }
         if let (BinaryOp::Add, Formula::Binary(BinaryOp::Mul, factor, of)) = (*op, &**a) {
             if let Some(factor) = number_along(factor, &self.points) {
-                let left = self.placed_in_rest(of, out, temps);
-                let right = beside(self.source, &self.points, left, b, out, temps);
+                let left = self.compute_operand_in_rest(of, out, temps);
+                let right = compute_right_operand(self.source, &self.points, left, b, out, temps);
                 return combine_scaled(BinaryOp::Add, out, right, factor, left, finish);
             }
         }
         if let (BinaryOp::Add, Formula::Binary(BinaryOp::Add, first, second)) = (*op, &**a) {
-            if let (Some(second), Some(third)) = (self.term(second), self.term(b)) {
-                let first = self.placed(first, out, temps);
+            if let (Some(second), Some(third)) = (self.borrow_term(second), self.borrow_term(b)) {
+                let first = self.compute_operand(first, out, temps);
                 return add_terms(out, first, second, third, finish);
             }
         }
-        if self.extremes_at_once(formula, finish, out) {
+        if self.try_extremes(formula, finish, out) {
             return;
         }
-        if let (Some(extreme), Formula::Binary(inner, first, second)) = (extreme_of(*op), &**a) {
-            let others = (self.at_hand(second), self.at_hand(b));
-            if let (true, (Some(second), Some(third))) = (gives(*inner, extreme), others) {
-                let first = self.placed(first, out, temps);
+        if let (Some(extreme), Formula::Binary(inner, first, second)) = (find_extreme(*op), &**a) {
+            let others = (self.borrow_operand(second), self.borrow_operand(b));
+            if let (true, (Some(second), Some(third))) = (is_operator_of(*inner, extreme), others) {
+                let first = self.compute_operand(first, out, temps);
                 return write_extremes_of_three(extreme, out, first, second, third, finish);
             }
         }
-        let left = self.placed(a, out, temps);
+        let left = self.compute_operand(a, out, temps);
         self.join(*op, left, b, finish, out, temps);
     }
 
     // What an epilogue makes of the values of a formula, in the pass of its last operator if possible.
     #[cycle(evaluate)]
-    fn finished(&self, formula: &Formula, finish: Finish, out: &mut [i32], temps: &mut [i32])
+    fn evaluate_with_epilogue(
+        &self,
+        formula: &Formula,
+        finish: Finish,
+        out: &mut [i32],
+        temps: &mut [i32],
+    )
         requires fits { length out.old ≡ self.now.points.len }
         requires formula { IsFormula (formula_view formula.now) }
         requires reads { ReadsWithin (S.has self.now.source.now) (formula_view formula.now)
@@ -322,18 +333,18 @@ impl<'a, S: RowSource> SourceRow<'a, S> {
         match formula {
             Formula::Literal(op, a, number) => {
                 if let Some(earlier) = finish.after_literal(*op, *number) {
-                    return self.finished(a, earlier, out, temps);
+                    return self.evaluate_with_epilogue(a, earlier, out, temps);
                 }
             }
             Formula::Binary(op, a, b) => {
-                if let Some(earlier) = after_operator(finish, *op, b) {
-                    return self.finished(a, earlier, out, temps);
+                if let Some(earlier) = fuse_operator(finish, *op, b) {
+                    return self.evaluate_with_epilogue(a, earlier, out, temps);
                 }
-                return self.operate(formula, finish, out, temps);
+                return self.apply_operator(formula, finish, out, temps);
             }
             _ => {}
         }
-        let of = self.placed(formula, out, temps);
+        let of = self.compute_operand(formula, out, temps);
         finish_row(out, of, finish);
     }
 
@@ -353,20 +364,20 @@ impl<'a, S: RowSource> SourceRow<'a, S> {
             Formula::Number(number) => fill(out, *number),
             Formula::Coordinate(Axis::Row) => fill(out, self.points.row),
             Formula::Coordinate(Axis::Column) => count_up(out, self.points.col),
-            Formula::Read(stage, i, j) => self.read(*stage, i, j, out),
+            Formula::Read(stage, i, j) => self.write_read(*stage, i, j, out),
             Formula::Unary(op, a) => {
                 if let Some(finish) = Finish::Nothing.after_unary(*op) {
-                    return self.finished(a, finish, out, temps);
+                    return self.evaluate_with_epilogue(a, finish, out, temps);
                 }
-                let of = self.placed(a, out, temps);
+                let of = self.compute_operand(a, out, temps);
                 apply_unary(*op, out, of);
             }
-            Formula::Binary(_, _, _) => self.operate(formula, Finish::Nothing, out, temps),
+            Formula::Binary(_, _, _) => self.apply_operator(formula, Finish::Nothing, out, temps),
             Formula::Ternary(op, a, b, c) => {
-                if let Some(finish) = for_ternary(*op, b, c, &self.points) {
-                    return self.finished(a, finish, out, temps);
+                if let Some(finish) = fuse_ternary(*op, b, c, &self.points) {
+                    return self.evaluate_with_epilogue(a, finish, out, temps);
                 }
-                let first = self.placed(a, out, temps);
+                let first = self.compute_operand(a, out, temps);
                 let n = out.len();
                 let (second, rest) = temps.split_at_mut(n);
                 let (third, rest) = rest.split_at_mut(n);
@@ -376,13 +387,13 @@ impl<'a, S: RowSource> SourceRow<'a, S> {
             }
             Formula::Literal(op, a, number) => {
                 if let Some(finish) = Finish::Nothing.after_literal(*op, *number) {
-                    return self.finished(a, finish, out, temps);
+                    return self.evaluate_with_epilogue(a, finish, out, temps);
                 }
-                let left = self.placed(a, out, temps);
+                let left = self.compute_operand(a, out, temps);
                 combine_literal(*op, out, left, *number);
             }
             Formula::Lookup(table, a) => {
-                let of = self.placed(a, out, temps);
+                let of = self.compute_operand(a, out, temps);
                 look_up(out, of, table);
             }
             Formula::Select(a, relation, b, first, second) => {

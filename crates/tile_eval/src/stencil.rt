@@ -48,7 +48,7 @@ impl<'a, S: RowSource> SourceRow<'a, S> {
     }
 
     // The samples under a row of a kernel, if they can be borrowed from the source.
-    fn borrowed_line(
+    fn borrow_kernel_line(
         &self,
         stage: usize,
         kernel: &Kernel,
@@ -87,7 +87,7 @@ impl<'a, S: RowSource> SourceRow<'a, S> {
         ensures line { IsUnder kernel.now (S.samples self.now.source.now stage) self.now.points.row
             self.now.points.col a result.now }
     {
-        if let Some(line) = self.borrowed_line(stage, kernel, a, room.len()) {
+        if let Some(line) = self.borrow_kernel_line(stage, kernel, a, room.len()) {
             return line;
         }
         self.kernel_line(stage, kernel, a, room);
@@ -167,9 +167,9 @@ impl<'a, S: RowSource> SourceRow<'a, S> {
             return false;
         };
         let count = out.len() + 2;
-        let top = self.borrowed_line(stage, kernel, 0, count);
-        let middle = self.borrowed_line(stage, kernel, 1, count);
-        let bottom = self.borrowed_line(stage, kernel, 2, count);
+        let top = self.borrow_kernel_line(stage, kernel, 0, count);
+        let middle = self.borrow_kernel_line(stage, kernel, 1, count);
+        let bottom = self.borrow_kernel_line(stage, kernel, 2, count);
         match (top, middle, bottom) {
             (Some(top), Some(middle), Some(bottom)) => {
                 square.write_sums(out, top, middle, bottom);
@@ -193,9 +193,9 @@ impl<'a, S: RowSource> SourceRow<'a, S> {
             return false;
         };
         let count = out.len();
-        let top = self.borrowed_line(stage, kernel, 0, count);
-        let middle = self.borrowed_line(stage, kernel, 1, count);
-        let bottom = self.borrowed_line(stage, kernel, 2, count);
+        let top = self.borrow_kernel_line(stage, kernel, 0, count);
+        let middle = self.borrow_kernel_line(stage, kernel, 1, count);
+        let bottom = self.borrow_kernel_line(stage, kernel, 2, count);
         match (top, middle, bottom) {
             (Some(top), Some(middle), Some(bottom)) => {
                 column.write_sums(out, top, middle, bottom);
@@ -219,11 +219,11 @@ impl<'a, S: RowSource> SourceRow<'a, S> {
             return false;
         };
         let count = out.len();
-        let a = self.borrowed_line(stage, kernel, 0, count);
-        let b = self.borrowed_line(stage, kernel, 1, count);
-        let c = self.borrowed_line(stage, kernel, 2, count);
-        let d = self.borrowed_line(stage, kernel, 3, count);
-        let e = self.borrowed_line(stage, kernel, 4, count);
+        let a = self.borrow_kernel_line(stage, kernel, 0, count);
+        let b = self.borrow_kernel_line(stage, kernel, 1, count);
+        let c = self.borrow_kernel_line(stage, kernel, 2, count);
+        let d = self.borrow_kernel_line(stage, kernel, 3, count);
+        let e = self.borrow_kernel_line(stage, kernel, 4, count);
         match (a, b, c, d, e) {
             (Some(a), Some(b), Some(c), Some(d), Some(e)) => {
                 column.write_sums(out, a, b, c, d, e);
@@ -264,7 +264,7 @@ impl<'a, S: RowSource> SourceRow<'a, S> {
     {
         fill(sums, 0);
         for a in 0..down.len() {
-            let Some(line) = self.borrowed_line(stage, kernel, a, sums.len()) else {
+            let Some(line) = self.borrow_kernel_line(stage, kernel, a, sums.len()) else {
                 return false;
             };
             add_tap(sums, line, down[a]);

@@ -8,7 +8,7 @@ use Rattle.tile_fact.specs.declared.fact.Fact.{Fact}
 use Rattle.tile_fact.specs.declared.fault.FactFault.{FactFault}
 use Rattle.tile_fact.specs.declared.fault.FactFault.TheVariants.{BadMagic, Cut, NotRising, BadKind, TooLong, TrailingBytes, Memory, RetiredFact}
 use Rattle.tile_fact.specs.declared.fault.FactFault.TheVariants.{NothingRetired}
-use Rattle.tile_fact.specs.declared.kind.Kind.{Kind}
+use Rattle.tile_fact.specs.declared.kind.BodyKind.{BodyKind}
 use Rattle.tile_fact.specs.FactFile.{AreBytes}
 use Rattle.tile_fact.specs.Faults.{IsCutRecord}
 use Rattle.tile_fact.specs.Numbers.{kind_byte, bytes_each, most, key_in, fact_of}
@@ -31,7 +31,7 @@ IsRecordFault total start bytes (NotRising at) = ⊥
 IsRecordFault total start bytes (BadKind at) =
     (key : List ℕ) × (byte : ℕ) × (body : List ℕ) × (bytes ≡ key ++ byte ∷ body) × (length key ≡ 74) × (1 < byte) × (at ≡ start + 74)
 IsRecordFault total start bytes (TooLong at) =
-    (key : List ℕ) × (kind : Kind) × (len : ℕ) × (behind : List ℕ) × (bytes ≡ key ++ kind_byte kind ∷ (to_be_bytes w32 len ++ behind))
+    (key : List ℕ) × (kind : BodyKind) × (len : ℕ) × (behind : List ℕ) × (bytes ≡ key ++ kind_byte kind ∷ (to_be_bytes w32 len ++ behind))
     × (length key ≡ 74)
     × (len < 2 ^ 32) × (most kind < len) × (at ≡ start + 75)
 IsRecordFault total start bytes (TrailingBytes at) = ⊥
@@ -67,7 +67,7 @@ guard_len : (b : Bool) (d e : FactFault) (x : ℕ × List ℕ) → cond b (Err d
 guard_len true d e x h = (refl, cc)
 guard_len false d e x h = absurd cc
 
-length_fails : (total : ℕ) (kind : Kind) (bytes : List ℕ) (e : FactFault) → length_read total kind bytes ≡ Err e
+length_fails : (total : ℕ) (kind : BodyKind) (bytes : List ℕ) (e : FactFault) → length_read total kind bytes ≡ Err e
     → ((length bytes < 4) × (e ≡ Cut total))
     ⊎ ((x : ℕ × List ℕ) × (count_read total bytes ≡ Ok x) × (most kind < x.0) × (e ≡ TooLong (total - length bytes)))
 unfolding length_read
@@ -88,7 +88,7 @@ count_whole total bytes n rest fits h =
     let below : from_be_bytes w32 c.0 < 2 ^ 32 = wide32.below c.0 both.0 in
     (c.1.whole ∙ ap (λ (l : List ℕ). l ++ rest) (sym four), subst (λ (k : ℕ). k < 2 ^ 32) (sym c.2) below, both.1)
 
-length_fault : (total start : ℕ) (bytes key : List ℕ) (kind : Kind) (rest : List ℕ) (e : FactFault) → start + length bytes ≡ total
+length_fault : (total start : ℕ) (bytes key : List ℕ) (kind : BodyKind) (rest : List ℕ) (e : FactFault) → start + length bytes ≡ total
     → bytes ≡ key ++ (kind_byte kind ∷ rest) → length key ≡ 74
     → AreBytes rest → length_read total kind rest ≡ Err e → IsRecordFault total start bytes e
 length_fault total start bytes key kind rest e place whole len fits h = elim (length_fails total kind rest e h) [
@@ -101,7 +101,7 @@ length_fault total start bytes key kind rest e place whole len fits h = elim (le
       (key, kind, x.0, x.1, whole ∙ ap (λ (l : List ℕ). key ++ (kind_byte kind ∷ l)) c.0, len, c.1, long, at)
 ]
 
-numbers_fault : (total start : ℕ) (bytes key : List ℕ) (kind : Kind) (n : ℕ) (rest : List ℕ) (e : FactFault)
+numbers_fault : (total start : ℕ) (bytes key : List ℕ) (kind : BodyKind) (n : ℕ) (rest : List ℕ) (e : FactFault)
     → bytes ≡ key ++ (kind_byte kind ∷ (to_be_bytes w32 n ++ rest)) → length key ≡ 74
     → n ≤ most kind → after_len total key kind n rest ≡ Err e → IsRecordFault total start bytes e
 numbers_fault total start bytes key kind n rest e whole len fits h =

@@ -7,7 +7,7 @@ use Rattle.tile_fact.specs.declared.fact.Fact.{Fact}
 use Rattle.tile_fact.specs.declared.fault.FactFault.{FactFault}
 use Rattle.tile_fact.specs.declared.fault.FactFault.TheVariants.{BadMagic, Cut, NotRising, BadKind, TooLong, TrailingBytes, Memory, RetiredFact}
 use Rattle.tile_fact.specs.declared.fault.FactFault.TheVariants.{NothingRetired}
-use Rattle.tile_fact.specs.declared.kind.Kind.{Kind}
+use Rattle.tile_fact.specs.declared.kind.BodyKind.{BodyKind}
 use Rattle.tile_fact.specs.FactFile.{magic, retired_magic, fact_record, ids_bytes, head_of, is_retired, IsFact, IsIds, AreIds, AreApart}
 use Rattle.tile_fact.specs.FactFile.{IsFactFile}
 use Rattle.tile_fact.specs.Numbers.{kind_byte, bytes_each, most}
@@ -87,7 +87,7 @@ pub record AwaitsRecord (bytes : List ℕ) (at : ℕ) (rest : List ℕ) : Type 0
   pub few : length facts < count
 
 -- the length after the kind is cut; or it is allowed, and too few bytes for so many numbers follow it
-abbrev pub IsCutBody : Kind → List ℕ → Type 0
+abbrev pub IsCutBody : BodyKind → List ℕ → Type 0
 IsCutBody kind body =
     (length body < 4)
     ⊎ ((len : ℕ) × (numbers : List ℕ) × (body ≡ to_be_bytes w32 len ++ numbers) × (len ≤ most kind)
@@ -97,7 +97,7 @@ IsCutBody kind body =
 abbrev pub IsCutRecord : List ℕ → Type 0
 IsCutRecord rest =
     (length rest ≤ 74)
-    ⊎ ((key : List ℕ) × (kind : Kind) × (body : List ℕ) × (rest ≡ key ++ kind_byte kind ∷ body) × (length key ≡ 74) × IsCutBody kind body)
+    ⊎ ((key : List ℕ) × (kind : BodyKind) × (body : List ℕ) × (rest ≡ key ++ kind_byte kind ∷ body) × (length key ≡ 74) × IsCutBody kind body)
 
 pub record EndsInRecord (bytes : List ℕ) : Type 0 where
   pub start : ℕ
@@ -120,7 +120,7 @@ pub record HasBadKind (bytes : List ℕ) (at : ℕ) : Type 0 where
 pub record HasLongRecord (bytes : List ℕ) (at : ℕ) : Type 0 where
   pub start : ℕ
   pub key : List ℕ
-  pub kind : Kind
+  pub kind : BodyKind
   pub len : ℕ
   pub behind : List ℕ
   pub awaits : AwaitsRecord bytes start (key ++ kind_byte kind ∷ (to_be_bytes w32 len ++ behind))

@@ -6,24 +6,24 @@ use Rattle.identity.specs.declared.key.Key.{Key}
 use Rattle.tile_fact.specs.declared.body.Body.{Body}
 use Rattle.tile_fact.specs.declared.body.Body.TheVariants.{Tile, Partial}
 use Rattle.tile_fact.specs.declared.fact.Fact.{Fact}
-use Rattle.tile_fact.specs.declared.kind.Kind.{Kind}
-use Rattle.tile_fact.specs.declared.kind.Kind.TheVariants.{OfTile, OfPartial}
+use Rattle.tile_fact.specs.declared.kind.BodyKind.{BodyKind}
+use Rattle.tile_fact.specs.declared.kind.BodyKind.TheVariants.{OfTile, OfPartial}
 
-abbrev pub kind_byte : Kind → ℕ
+abbrev pub kind_byte : BodyKind → ℕ
 kind_byte OfTile = 0
 kind_byte OfPartial = 1
 
 -- how wide a number is
-abbrev pub width_of : Kind → Width
+abbrev pub width_of : BodyKind → Width
 width_of OfTile = w32
 width_of OfPartial = w64
 
-abbrev pub bytes_each : Kind → ℕ
+abbrev pub bytes_each : BodyKind → ℕ
 bytes_each OfTile = 4
 bytes_each OfPartial = 8
 
 -- the most numbers that a fact may have
-abbrev pub most : Kind → ℕ
+abbrev pub most : BodyKind → ℕ
 most OfTile = 1048576
 most OfPartial = 4096
 
@@ -58,10 +58,10 @@ first_numbers w (suc count) bytes = number_in w bytes ∷ first_numbers w count 
 abbrev pub numbers_in : Width → List ℕ → List ℤ
 numbers_in w bytes = first_numbers w (length bytes / byte_len w) bytes
 
-abbrev pub body_in : Kind → List ℕ → Body
+abbrev pub body_in : BodyKind → List ℕ → Body
 body_in OfTile bytes = Tile (numbers_in w32 bytes)
 body_in OfPartial bytes = Partial (numbers_in w64 bytes)
 
 -- the fact whose record has this key, this kind and these bytes of numbers
-abbrev pub fact_of : Key → Kind → List ℕ → Fact
+abbrev pub fact_of : Key → BodyKind → List ℕ → Fact
 fact_of key kind bytes = record { key = key; body = body_in kind bytes }

@@ -11,8 +11,8 @@ use Rattle.tile_fact.specs.declared.fact.Fact.{Fact}
 use Rattle.tile_fact.specs.declared.fault.FactFault.{FactFault}
 use Rattle.tile_fact.specs.declared.fault.FactFault.TheVariants.{BadMagic, Cut, NotRising, BadKind, TooLong, TrailingBytes, RetiredFact}
 use Rattle.tile_fact.specs.declared.fault.FactFault.TheVariants.{NothingRetired}
-use Rattle.tile_fact.specs.declared.kind.Kind.{Kind}
-use Rattle.tile_fact.specs.declared.kind.Kind.TheVariants.{OfTile, OfPartial}
+use Rattle.tile_fact.specs.declared.kind.BodyKind.{BodyKind}
+use Rattle.tile_fact.specs.declared.kind.BodyKind.TheVariants.{OfTile, OfPartial}
 use Rattle.tile_fact.specs.declared.version.Version.{Version}
 use Rattle.tile_fact.specs.declared.version.Version.TheVariants.{OfFacts, OfBoth}
 use Rattle.tile_fact.specs.FactFile.{is_retired}
@@ -88,14 +88,14 @@ head_read bytes = do
 
 -- ---- a record
 
-unfoldable pub kind_read : ℕ → List ℕ → Result (Kind × List ℕ) FactFault
+unfoldable pub kind_read : ℕ → List ℕ → Result (BodyKind × List ℕ) FactFault
 kind_read total [] = Err (Cut total)
 kind_read total (zero ∷ bytes) = Ok (OfTile, bytes)
 kind_read total (suc zero ∷ bytes) = Ok (OfPartial, bytes)
 kind_read total (suc (suc byte) ∷ bytes) = Err (BadKind (total - length (suc (suc byte) ∷ bytes)))
 
 -- a number of numbers that is allowed after the kind
-unfoldable pub length_read : ℕ → Kind → List ℕ → Result (ℕ × List ℕ) FactFault
+unfoldable pub length_read : ℕ → BodyKind → List ℕ → Result (ℕ × List ℕ) FactFault
 length_read total kind bytes = do
   len ← count_read total bytes
   if nat_lt (most kind) len.0 then Err (TooLong (total - length bytes)) else Ok len

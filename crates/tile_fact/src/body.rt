@@ -2,7 +2,7 @@
 
 ghost use Rattle.std.specs.Prelude.{◌↔◌, IsTrue};
 
-use crate::fact::{MOST_BINS, MOST_SAMPLES};
+use crate::fact::{MAX_BINS, MAX_SAMPLES};
 use crate::numbers::{Bins, Samples};
 
 /// The numbers of a tile, of one kind. A tile comes before a partial, and bodies of one kind are in the order of their numbers.
@@ -18,12 +18,12 @@ impl Body {
     ghost use Rattle.tile_fact.specs.Bodies.{IsWithin};
 
     /// Whether a fact may have as many numbers as this.
-    pub fn is_within(&self) -> bool
+    pub fn is_within_limit(&self) -> bool
         ensures { IsTrue result ↔ IsWithin self.now }
     {
         match self {
-            Body::Tile(samples) => samples.as_slice().len() <= MOST_SAMPLES,
-            Body::Partial(bins) => bins.as_slice().len() <= MOST_BINS,
+            Body::Tile(samples) => samples.as_slice().len() <= MAX_SAMPLES,
+            Body::Partial(bins) => bins.as_slice().len() <= MAX_BINS,
         }
     }
 }

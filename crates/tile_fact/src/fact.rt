@@ -7,10 +7,10 @@ use identity::Key;
 use std::marker::Model;
 
 /// The most samples that the body of a fact may have.
-pub const MOST_SAMPLES: usize = 1_048_576;
+pub const MAX_SAMPLES: usize = 1_048_576;
 
 /// The most bins that the body of a fact may have.
-pub const MOST_BINS: usize = 4_096;
+pub const MAX_BINS: usize = 4_096;
 
 /// A key, and the numbers that it asserts of its tile; they need not be true. Facts are in the order of key, kind and numbers.
 /// None has more numbers than a fact file can hold.
@@ -38,14 +38,14 @@ impl Fact {
     ghost use Rattle.tile_fact.specs.Bodies.{IsWithin};
 
     /// The fact of this key and this body. Both are handed back if the body has more numbers than a fact may have:
-    /// [`MOST_SAMPLES`] of a tile, [`MOST_BINS`] of a partial. It allocates no memory.
+    /// [`MAX_SAMPLES`] of a tile, [`MAX_BINS`] of a partial. It allocates no memory.
     pub fn new(key: Key, body: Body) -> Result<Fact, (Key, Body)>
         ensures made { IfOk result (λ fact. fact ≡ record { key = key; body = body }) }
         ensures within { IfOk result (λ _. IsWithin body) }
         ensures refused { IfErr result (λ back. back ≡ (key, body)) }
         ensures too_long { IfErr result (λ _. ¬ IsWithin body) }
     {
-        if body.is_within() {
+        if body.is_within_limit() {
             Ok(Fact { key, body })
         } else {
             Err((key, body))

@@ -16,7 +16,7 @@ use crate::fact::Fact;
 use crate::fault::FactFault;
 use crate::head::read_head;
 use crate::record::{Record, read_record};
-use crate::retired::Listing;
+use crate::retired::EncodedJobs;
 use identity::Ids;
 use sequences::Sequence;
 use std::alloc::{AllocError, Global};
@@ -63,15 +63,15 @@ fn read_file(alloc: Global, bytes: &[u8]) -> Result<(Vec<Ids>, Vec<Fact>), FactF
     let total = bytes.len();
     let head = read_head(bytes)?;
     check_records(total, &head.retired, head.count, head.records)?;
-    let retired = head.retired.to_vec(alloc)?;
-    let facts = facts_of(alloc, total, &head.retired, head.count, head.records)?;
+    let retired = head.retired.decode_jobs(alloc)?;
+    let facts = read_facts(alloc, total, &head.retired, head.count, head.records)?;
     Ok((retired, facts))
 }
 
 // Finds the first fault of the records, if there is one.
 fn check_records(
     total: usize,
-    retired: &Listing<'_>,
+    retired: &EncodedJobs<'_>,
     count: u32,
     bytes: &[u8],
 ) -> Result<(), FactFault>
@@ -88,10 +88,10 @@ fn check_records(
             Ok(read) => read,
             Err(fault) => return Err(fault),
         };
-        if !is_above(&last, &record) {
+        if !is_above_last_record(&last, &record) {
             return Err(FactFault::NotRising(total - rest.len()));
         }
-        if retired.names(&Ids::of_key(&record.label.key)) {
+        if retired.has_job(&Ids::of_key(&record.label.key)) {
             return Err(FactFault::RetiredFact(total - rest.len()));
         }
         last = Some(record);
@@ -104,7 +104,7 @@ fn check_records(
 }
 
 // Whether a record is above the last one before it, if there is one.
-fn is_above(last: &Option<Record<'_>>, next: &Record<'_>) -> bool
+fn is_above_last_record(last: &Option<Record<'_>>, next: &Record<'_>) -> bool
     ensures { result
         ≡ is_above fact_cmp (option_map (λ r. fact_of r.label.key r.label.kind r.numbers.now) last.now)
         (fact_of next.now.label.key next.now.label.kind next.now.numbers.now) }
@@ -116,10 +116,10 @@ fn is_above(last: &Option<Record<'_>>, next: &Record<'_>) -> bool
 }
 
 // The facts of records in which there is no fault.
-fn facts_of(
+fn read_facts(
     alloc: Global,
     total: usize,
-    retired: &Listing<'_>,
+    retired: &EncodedJobs<'_>,
     count: u32,
     bytes: &[u8],
 ) -> Result<Vec<Fact>, FactFault>

@@ -8,7 +8,7 @@ ghost use Rattle.tile_fact.specs.Reading.{magic_read, version_read, retired_read
 
 use crate::fault::FactFault;
 use crate::record::read_count;
-use crate::retired::{Listing, check_pairs};
+use crate::retired::{EncodedJobs, check_retired_jobs};
 use crate::version::Version;
 
 // What the magics of both versions begin with.
@@ -17,7 +17,7 @@ const MAGIC_FRONT: [u8; 3] = *b"PTF";
 /// The retired jobs, how many records there are, and the bytes after their count.
 #[derive(Clone, Copy)]
 pub struct Head<'a> {
-    pub retired: Listing<'a>,
+    pub retired: EncodedJobs<'a>,
     pub count: u32,
     pub records: &'a [u8],
 }
@@ -32,7 +32,7 @@ pub fn read_head(bytes: &[u8]) -> Result<Head<'_>, FactFault>
 {
     let front = read_magic(bytes)?;
     let (version, rest) = read_version(front)?;
-    let (retired, rest) = read_retired(bytes.len(), version, rest)?;
+    let (retired, rest) = read_retired_jobs(bytes.len(), version, rest)?;
     let (count, records) = read_count(bytes.len(), rest)?;
     Ok(Head {
         retired,
@@ -74,11 +74,11 @@ fn read_version(bytes: &[u8]) -> Result<(Version, &[u8]), FactFault>
 
 // The retired jobs that a file of this version has, and the bytes after them.
 #[tactic(auto, unfolding(crate::specs::Reading::retired_read))]
-fn read_retired(
+fn read_retired_jobs(
     total: usize,
     version: Version,
     bytes: &[u8],
-) -> Result<(Listing<'_>, &[u8]), FactFault>
+) -> Result<(EncodedJobs<'_>, &[u8]), FactFault>
     requires { length bytes.now ≤ total }
     ensures read { Gives (λ x. (first_pairs x.0.count x.0.bytes.now, x.1.now)) result
         (retired_read total version bytes.now) }
@@ -86,14 +86,14 @@ fn read_retired(
     ensures behind { IfOk result (λ x. length x.1.now ≤ total) }
 {
     match version {
-        Version::OfFacts => Ok((Listing { count: 0, bytes }, bytes)),
+        Version::OfFacts => Ok((EncodedJobs { count: 0, bytes }, bytes)),
         Version::OfBoth => {
             let (count, listed) = read_count(total, bytes)?;
             if count == 0 {
                 return Err(FactFault::NothingRetired(4));
             }
-            let behind = check_pairs(total, count, listed)?;
-            let retired = Listing {
+            let behind = check_retired_jobs(total, count, listed)?;
+            let retired = EncodedJobs {
                 count,
                 bytes: listed,
             };

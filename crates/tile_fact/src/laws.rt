@@ -16,7 +16,7 @@ use std::cmp::Ordering;
 
 /// Facts are in the order of key, kind and numbers, which is a total one, and equal facts are one.
 #[tactic(auto, unfolding(crate::specs::Order::fact_cmp))]
-pub fn order_of_facts(a: &Fact, b: &Fact) -> Ordering
+pub fn compare_facts(a: &Fact, b: &Fact) -> Ordering
     ensures parts { result ≡ fact_cmp a.now b.now }
     ensures total { IsTotalOrder fact_cmp }
     ensures one { (result ≡ Ordering.Equal) ↔ (a.now ≡ b.now) }
@@ -25,14 +25,14 @@ pub fn order_of_facts(a: &Fact, b: &Fact) -> Ordering
 }
 
 /// Bytes are the file of at most one list of retired jobs and one list of facts.
-pub fn one_list()
+pub fn bytes_have_one_content()
     ensures { (bytes : List ℕ) (jobs others : List Ids) (facts other_facts : List Fact)
         → IsFactFile bytes jobs facts → IsFactFile bytes others other_facts
         → (jobs ≡ others) × (facts ≡ other_facts) }
 {}
 
 /// Rising retired jobs and rising facts of other jobs have exactly one file, and no other jobs or facts have that file.
-pub fn one_spelling()
+pub fn contents_have_one_file()
     ensures spelled { (jobs : List Ids) (facts : List Fact) → AreContents jobs facts
         → IsFactFile (fact_file jobs facts) jobs facts }
     ensures alone { (a b : List ℕ) (jobs : List Ids) (facts : List Fact) → IsFactFile a jobs facts
@@ -45,49 +45,49 @@ pub fn one_spelling()
 
 /// Each fact can be written to a file: what it consists of fits its fields, and it has no more numbers than a fact may have. It
 /// is a law for proofs: the call looks at each number and changes nothing.
-pub fn fits_its_record(fact: &Fact)
+pub fn facts_fit_their_records(fact: &Fact)
     ensures { IsFact fact.now }
 {
-    fits_key(fact.key());
+    keys_fit_their_fields(fact.key());
     match fact.body() {
-        Body::Tile(samples) => fit_samples(samples.as_slice()),
-        Body::Partial(bins) => fit_bins(bins.as_slice()),
+        Body::Tile(samples) => samples_fit_32_bits(samples.as_slice()),
+        Body::Partial(bins) => bins_fit_64_bits(bins.as_slice()),
     }
 }
 
 /// The identities of each job can be written to a file: they are digests. It is a law for proofs.
-pub fn fit_their_places(ids: &Ids)
+pub fn ids_fit_their_fields(ids: &Ids)
     ensures { IsIds ids.now }
 {
-    is_digest(ids.program.as_bytes());
-    is_digest(ids.input.as_bytes());
+    arrays_are_digests(ids.program.as_bytes());
+    arrays_are_digests(ids.input.as_bytes());
 }
 
-fn fits_key(key: &Key)
+fn keys_fit_their_fields(key: &Key)
     ensures { IsKey key.now }
 {
-    is_digest(key.program.as_bytes());
-    is_digest(key.input.as_bytes());
-    fit_numbers(key.stage, key.row, key.col);
+    arrays_are_digests(key.program.as_bytes());
+    arrays_are_digests(key.input.as_bytes());
+    numbers_fit_their_fields(key.stage, key.row, key.col);
 }
 
-fn is_digest(bytes: &[u8; 32])
+fn arrays_are_digests(bytes: &[u8; 32])
     ensures { IsDigest bytes.now }
 {
-    are_bytes(bytes);
+    slices_are_bytes(bytes);
 }
 
-fn are_bytes(bytes: &[u8])
+fn slices_are_bytes(bytes: &[u8])
     ensures { AreBytes bytes.now }
 {}
 
-fn fit_numbers(stage: u16, row: u32, col: u32)
+fn numbers_fit_their_fields(stage: u16, row: u32, col: u32)
     ensures stage { stage < 2 ^ 16 }
     ensures row { row < 2 ^ 32 }
     ensures col { col < 2 ^ 32 }
 {}
 
-fn fit_samples(samples: &[i32])
+fn samples_fit_32_bits(samples: &[i32])
     ensures { All (FitsSigned w32) samples.now }
 {
     for sample in samples {
@@ -95,7 +95,7 @@ fn fit_samples(samples: &[i32])
     }
 }
 
-fn fit_bins(bins: &[i64])
+fn bins_fit_64_bits(bins: &[i64])
     ensures { All (FitsSigned w64) bins.now }
 {
     for bin in bins {

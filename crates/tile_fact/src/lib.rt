@@ -17,7 +17,7 @@ mod version;
 mod writing;
 
 pub use body::Body;
-pub use fact::{Fact, MOST_BINS, MOST_SAMPLES};
+pub use fact::{Fact, MAX_BINS, MAX_SAMPLES};
 pub use fault::FactFault;
 pub use file::{FactFile, Facts, JobIds, decode};
 pub use numbers::{Bins, Samples};

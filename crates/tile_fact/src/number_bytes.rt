@@ -21,7 +21,7 @@ fn split_sample(bytes: &[u8]) -> (i32, &[u8])
 }
 
 /// The samples that the bytes are.
-pub fn samples_in(alloc: Global, bytes: &[u8]) -> Result<Vec<i32>, AllocError>
+pub fn decode_samples(alloc: Global, bytes: &[u8]) -> Result<Vec<i32>, AllocError>
     ensures { IfOk result (λ samples. samples.items ≡ numbers_in w32 bytes.now) }
 {
     let mut samples = Vec::with_capacity(alloc, bytes.len() / 4)?;
@@ -73,7 +73,7 @@ fn split_bin(bytes: &[u8]) -> (i64, &[u8])
 }
 
 /// The bins that the bytes are.
-pub fn bins_in(alloc: Global, bytes: &[u8]) -> Result<Vec<i64>, AllocError>
+pub fn decode_bins(alloc: Global, bytes: &[u8]) -> Result<Vec<i64>, AllocError>
     ensures { IfOk result (λ bins. bins.items ≡ numbers_in w64 bytes.now) }
 {
     let mut bins = Vec::with_capacity(alloc, bytes.len() / 8)?;

@@ -11,8 +11,8 @@ ghost use Rattle.tile_fact.specs.Reading.{part_read, count_read, kind_read, leng
 use crate::body::Body;
 use crate::fact::Fact;
 use crate::fault::FactFault;
-use crate::kind::Kind;
-use crate::number_bytes::{bins_in, compare_bins, compare_samples, samples_in};
+use crate::kind::BodyKind;
+use crate::number_bytes::{compare_bins, compare_samples, decode_bins, decode_samples};
 use crate::numbers::{Bins, Samples};
 use identity::{InputId, Key, ProgramId};
 use std::alloc::{AllocError, Global};
@@ -22,7 +22,7 @@ use std::cmp::Ordering;
 #[derive(Clone, Copy)]
 pub struct Label {
     pub key: Key,
-    pub kind: Kind,
+    pub kind: BodyKind,
 }
 
 /// A record whose numbers are still bytes.
@@ -60,8 +60,8 @@ impl<'a> Record<'a> {
             (λ fact. fact ≡ fact_of self.now.label.key self.now.label.kind self.now.numbers.now) }
     {
         let body = match self.label.kind {
-            Kind::OfTile => Body::Tile(Samples::new(samples_in(alloc, self.numbers)?)?),
-            Kind::OfPartial => Body::Partial(Bins::new(bins_in(alloc, self.numbers)?)?),
+            BodyKind::OfTile => Body::Tile(Samples::new(decode_samples(alloc, self.numbers)?)?),
+            BodyKind::OfPartial => Body::Partial(Bins::new(decode_bins(alloc, self.numbers)?)?),
         };
         match Fact::new(self.label.key, body) {
             Ok(fact) => Ok(fact),
@@ -71,14 +71,14 @@ impl<'a> Record<'a> {
 }
 
 // The order of kind and numbers.
-fn compare_numbers(a_kind: Kind, a: &[u8], b_kind: Kind, b: &[u8]) -> Ordering
+fn compare_numbers(a_kind: BodyKind, a: &[u8], b_kind: BodyKind, b: &[u8]) -> Ordering
     ensures { result ≡ body_cmp (body_in a_kind a.now) (body_in b_kind b.now) }
 {
     match (a_kind, b_kind) {
-        (Kind::OfTile, Kind::OfTile) => compare_samples(a, b),
-        (Kind::OfTile, Kind::OfPartial) => Ordering::Less,
-        (Kind::OfPartial, Kind::OfTile) => Ordering::Greater,
-        (Kind::OfPartial, Kind::OfPartial) => compare_bins(a, b),
+        (BodyKind::OfTile, BodyKind::OfTile) => compare_samples(a, b),
+        (BodyKind::OfTile, BodyKind::OfPartial) => Ordering::Less,
+        (BodyKind::OfPartial, BodyKind::OfTile) => Ordering::Greater,
+        (BodyKind::OfPartial, BodyKind::OfPartial) => compare_bins(a, b),
     }
 }
 
@@ -91,18 +91,18 @@ pub fn read_record(total: usize, bytes: &[u8]) -> Result<(Record<'_>, &[u8]), Fa
     ensures within { IfOk result (λ x. IsWithin (body_in x.0.label.kind x.0.numbers.now)) }
     ensures behind { IfOk result (λ x. length x.1.now ≤ total) }
 {
-    let (part, rest) = read_part(total, 74, bytes)?;
-    let key = key_of(part);
+    let (part, rest) = read_bytes(total, 74, bytes)?;
+    let key = decode_key(part);
     let (kind, rest) = read_kind(total, rest)?;
     let (len, rest) = read_length(total, kind, rest)?;
-    let (numbers, behind) = read_part(total, len * kind.bytes_each(), rest)?;
+    let (numbers, behind) = read_bytes(total, len * kind.count_number_bytes(), rest)?;
     let label = Label { key, kind };
     Ok((Record { label, numbers }, behind))
 }
 
 // `len` bytes, and those after them.
 #[tactic(auto, unfolding(crate::specs::Reading::part_read))]
-fn read_part(total: usize, len: usize, bytes: &[u8]) -> Result<(&[u8], &[u8]), FactFault>
+fn read_bytes(total: usize, len: usize, bytes: &[u8]) -> Result<(&[u8], &[u8]), FactFault>
     ensures { Gives (λ x. (x.0.now, x.1.now)) result (part_read total len bytes.now) }
 {
     if bytes.len() < len {
@@ -117,26 +117,26 @@ pub fn read_count(total: usize, bytes: &[u8]) -> Result<(u32, &[u8]), FactFault>
     ensures read { Gives (λ x. (x.0, x.1.now)) result (count_read total bytes.now) }
     ensures behind { IfOk result (λ x. length x.1.now ≤ length bytes.now) }
 {
-    let (part, rest) = read_part(total, 4, bytes)?;
-    Ok((number_at(part, 0), rest))
+    let (part, rest) = read_bytes(total, 4, bytes)?;
+    Ok((decode_number(part, 0), rest))
 }
 
 // The key that these bytes are.
-fn key_of(bytes: &[u8]) -> Key
+fn decode_key(bytes: &[u8]) -> Key
     requires { length bytes.now ≡ 74 }
     ensures { result ≡ key_in bytes.now }
 {
     Key {
-        program: ProgramId::new(digest_at(bytes, 0)),
-        input: InputId::new(digest_at(bytes, 32)),
+        program: ProgramId::new(decode_digest(bytes, 0)),
+        input: InputId::new(decode_digest(bytes, 32)),
         stage: u16::from_be_bytes([bytes[64], bytes[65]]),
-        row: number_at(bytes, 66),
-        col: number_at(bytes, 70),
+        row: decode_number(bytes, 66),
+        col: decode_number(bytes, 70),
     }
 }
 
 /// The digest at this place.
-pub fn digest_at(bytes: &[u8], at: usize) -> [u8; 32]
+pub fn decode_digest(bytes: &[u8], at: usize) -> [u8; 32]
     requires { at + 32 ≤ length bytes.now }
     ensures { result ≡ take 32 (drop at bytes.now) }
 {
@@ -145,7 +145,7 @@ pub fn digest_at(bytes: &[u8], at: usize) -> [u8; 32]
     digest
 }
 
-fn number_at(bytes: &[u8], at: usize) -> u32
+fn decode_number(bytes: &[u8], at: usize) -> u32
     requires { at + 4 ≤ length bytes.now }
     ensures { result ≡ from_be_bytes w32 (take 4 (drop at bytes.now)) }
 {
@@ -153,26 +153,26 @@ fn number_at(bytes: &[u8], at: usize) -> u32
 }
 
 #[tactic(auto, unfolding(crate::specs::Reading::kind_read))]
-fn read_kind(total: usize, bytes: &[u8]) -> Result<(Kind, &[u8]), FactFault>
+fn read_kind(total: usize, bytes: &[u8]) -> Result<(BodyKind, &[u8]), FactFault>
     requires { length bytes.now ≤ total }
     ensures { Gives (λ x. (x.0, x.1.now)) result (kind_read total bytes.now) }
 {
     match bytes {
         [] => Err(FactFault::Cut(total)),
-        [0, rest @ ..] => Ok((Kind::OfTile, rest)),
-        [1, rest @ ..] => Ok((Kind::OfPartial, rest)),
+        [0, rest @ ..] => Ok((BodyKind::OfTile, rest)),
+        [1, rest @ ..] => Ok((BodyKind::OfPartial, rest)),
         [_, ..] => Err(FactFault::BadKind(total - bytes.len())),
     }
 }
 
 #[tactic(auto, unfolding(crate::specs::Reading::length_read))]
-fn read_length(total: usize, kind: Kind, bytes: &[u8]) -> Result<(usize, &[u8]), FactFault>
+fn read_length(total: usize, kind: BodyKind, bytes: &[u8]) -> Result<(usize, &[u8]), FactFault>
     requires { length bytes.now ≤ total }
     ensures { Gives (λ x. (x.0, x.1.now)) result (length_read total kind bytes.now) }
 {
     let (len, rest) = read_count(total, bytes)?;
     let len = len as usize;
-    if kind.most() < len {
+    if kind.find_number_limit() < len {
         return Err(FactFault::TooLong(total - bytes.len()));
     }
     Ok((len, rest))

@@ -21,16 +21,16 @@ pub fn encode(alloc: Global, retired: &[Ids], facts: &[Fact]) -> Result<Vec<u8>,
     ensures { IfOk result (λ bytes. bytes.items ≡ fact_file retired.now facts.now) }
 {
     let mut bytes = Vec::new(alloc);
-    put_head(&mut bytes, retired)?;
+    encode_head(&mut bytes, retired)?;
     bytes.extend_from_slice(&(facts.len() as u32).to_be_bytes())?;
     for fact in facts {
-        put_fact(&mut bytes, fact)?;
+        encode_fact(&mut bytes, fact)?;
     }
     Ok(bytes)
 }
 
 // The magic, and the retired jobs if there are any.
-fn put_head(bytes: &mut Vec<u8>, retired: &[Ids]) -> Result<(), AllocError>
+fn encode_head(bytes: &mut Vec<u8>, retired: &[Ids]) -> Result<(), AllocError>
     requires { length retired.now < 2 ^ 32 }
     ensures { OnOk result (bytes.new.items ≡ bytes.old.items ++ head_of retired.now) }
 {
@@ -38,12 +38,12 @@ fn put_head(bytes: &mut Vec<u8>, retired: &[Ids]) -> Result<(), AllocError>
         bytes.extend_from_slice(b"PTF1")
     } else {
         bytes.extend_from_slice(b"PTF2")?;
-        put_jobs(bytes, retired)
+        encode_jobs(bytes, retired)
     }
 }
 
 // How many jobs there are, and their identities.
-fn put_jobs(bytes: &mut Vec<u8>, jobs: &[Ids]) -> Result<(), AllocError>
+fn encode_jobs(bytes: &mut Vec<u8>, jobs: &[Ids]) -> Result<(), AllocError>
     requires { length jobs.now < 2 ^ 32 }
     ensures { OnOk result (bytes.new.items
         ≡ bytes.old.items ++ (to_be_bytes w32 (length jobs.now) ++ flat_map ids_bytes jobs.now)) }
@@ -56,17 +56,17 @@ fn put_jobs(bytes: &mut Vec<u8>, jobs: &[Ids]) -> Result<(), AllocError>
     Ok(())
 }
 
-fn put_fact(bytes: &mut Vec<u8>, fact: &Fact) -> Result<(), AllocError>
+fn encode_fact(bytes: &mut Vec<u8>, fact: &Fact) -> Result<(), AllocError>
     ensures { OnOk result (bytes.new.items ≡ bytes.old.items ++ fact_record fact.now) }
 {
-    put_key(bytes, fact.key())?;
+    encode_key(bytes, fact.key())?;
     match fact.body() {
-        Body::Tile(samples) => put_samples(bytes, samples.as_slice()),
-        Body::Partial(bins) => put_bins(bytes, bins.as_slice()),
+        Body::Tile(samples) => encode_samples(bytes, samples.as_slice()),
+        Body::Partial(bins) => encode_bins(bytes, bins.as_slice()),
     }
 }
 
-fn put_key(bytes: &mut Vec<u8>, key: &Key) -> Result<(), AllocError>
+fn encode_key(bytes: &mut Vec<u8>, key: &Key) -> Result<(), AllocError>
     ensures { OnOk result (bytes.new.items ≡ bytes.old.items ++ key_bytes key.now) }
 {
     bytes.extend_from_slice(key.program.as_bytes())?;
@@ -77,7 +77,7 @@ fn put_key(bytes: &mut Vec<u8>, key: &Key) -> Result<(), AllocError>
 }
 
 // The body of a tile.
-fn put_samples(bytes: &mut Vec<u8>, samples: &[i32]) -> Result<(), AllocError>
+fn encode_samples(bytes: &mut Vec<u8>, samples: &[i32]) -> Result<(), AllocError>
     requires { length samples.now < 2 ^ 32 }
     ensures { OnOk result
         (bytes.new.items ≡ bytes.old.items ++ body_bytes (Body.Tile samples.now)) }
@@ -92,7 +92,7 @@ fn put_samples(bytes: &mut Vec<u8>, samples: &[i32]) -> Result<(), AllocError>
 }
 
 // The body of a partial.
-fn put_bins(bytes: &mut Vec<u8>, bins: &[i64]) -> Result<(), AllocError>
+fn encode_bins(bytes: &mut Vec<u8>, bins: &[i64]) -> Result<(), AllocError>
     requires { length bins.now < 2 ^ 32 }
     ensures { OnOk result
         (bytes.new.items ≡ bytes.old.items ++ body_bytes (Body.Partial bins.now)) }

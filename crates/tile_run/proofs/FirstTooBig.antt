@@ -24,8 +24,8 @@ use Rattle.tile_boxes.proofs.OrderHasEachStage.{order_has}
 use Rattle.overlap_tiles.specs.Needs.{key_of, tile_of_stage}
 use Rattle.overlap_tiles.proofs.Lists.{Contains-from_map, Contains-from_flat_map}
 use Rattle.tile_boxes.proofs.TilesAreTargets.{gridded}
-use Rattle.tile_run.specs.declared.room.Work.{Work}
-use Rattle.tile_run.specs.declared.room.Work.TheVariants.{Functions, Accumulators}
+use Rattle.tile_run.specs.declared.room.StageSelection.{StageSelection}
+use Rattle.tile_run.specs.declared.room.StageSelection.TheVariants.{Functions, Accumulators}
 use Rattle.tile_run.specs.inside.Running.{StoredFit}
 use Rattle.overlap_tiles.specs.Work.{is_stored_function, tiles_in_order, lacks_room}
 use Rattle.overlap_tiles.proofs.RoomIsExact.{more_is, tile_lacks}
@@ -175,7 +175,7 @@ stored_fit job inlining none g s is =
 -- ---- where the schedule is known to fit
 
 -- what is wanted is not inlined
-wanted_stored : (job : Pipeline) (inlining : List Bool) (work : Work) (g : ℕ) (s : Stage) → IsSchedule job inlining
+wanted_stored : (job : Pipeline) (inlining : List Bool) (work : StageSelection) (g : ℕ) (s : Stage) → IsSchedule job inlining
     → slice_get job.stages g ≡ Some s → wanted_by job inlining work g ≡ true → is_inlined inlining g ≡ false
 wanted_stored job inlining Functions g s good there is =
     not-true (is_inlined inlining g) (and_parts (is_function job g) (not (is_inlined inlining g)) is).1
@@ -196,7 +196,7 @@ wanted_stored job inlining Accumulators g s good there is = by (is_inlined inlin
     by false e = refl
     by true e = absurd (both s.body of_accumulator (of_function e))
 
-pub fits_none : (job : Pipeline) (s : Inlining) (work : Work) → IsScheduleOf job s → s.fits ≡ true
+pub fits_none : (job : Pipeline) (s : Inlining) (work : StageSelection) → IsScheduleOf job s → s.fits ≡ true
     → first_too_big job s.inlining (wanted_by job s.inlining work) ≡ None
 fits_none job s work is fits = none_of (lacks_room job s.inlining) (tiles_in_order job (wanted_by job s.inlining work))
     (λ t k. small t (of_work job (wanted_by job s.inlining work) t k))

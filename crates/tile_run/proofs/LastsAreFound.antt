@@ -16,20 +16,20 @@ use Rattle.tile_boxes.specs.Schedules.{is_inlined}
 use Rattle.tile_boxes.proofs.BoxesFollowTheRule.{rank_below}
 use Rattle.tile_run.specs.Uses.{IsBy, last_of, is_read, body_turn, reads_turn, HasReads, HasLasts}
 use Rattle.tile_run.specs.inside.Lasting.{later, read_in, all_read_in, with_reads, HasLastsFrom}
-use Rattle.tile_run.specs.declared.turn.Turn.{Turn}
-use Rattle.tile_run.specs.declared.turn.Turn.TheVariants.{Never, Rank, Answer}
+use Rattle.tile_run.specs.declared.phase.Phase.{Phase}
+use Rattle.tile_run.specs.declared.phase.Phase.TheVariants.{Never, Rank, Answer}
 use Rattle.tile_run.proofs.NeedsAreHeld.{by_itself, by_later}
 
 -- ---- the later of two turns
 
-later_left : (t u : Turn) → IsBy t (later t u)
+later_left : (t u : Phase) → IsBy t (later t u)
 later_left Never u = tt
 later_left (Rank r) Never = omega arith
 later_left (Rank r) (Rank q) = omega arith
 later_left (Rank r) Answer = tt
 later_left Answer u = tt
 
-later_right : (t u : Turn) → IsBy u (later t u)
+later_right : (t u : Phase) → IsBy u (later t u)
 later_right Never u = by_itself u
 later_right (Rank r) Never = tt
 later_right (Rank r) (Rank q) = omega arith
@@ -40,27 +40,27 @@ later_right Answer Answer = tt
 
 -- ---- one read, and more
 
-here : (lasts : List Turn) (g : ℕ) (t : Turn) → g < length lasts → last_of (set lasts g t) g ≡ t
+here : (lasts : List Phase) (g : ℕ) (t : Phase) → g < length lasts → last_of (set lasts g t) g ≡ t
 here [] g t h = absurd (omega arith)
 here (x ∷ xs) zero t h = refl
 here (x ∷ xs) (suc g) t h = here xs g t (omega arith)
 
-elsewhere : (lasts : List Turn) (g h : ℕ) (t : Turn) → (h ≡ g → ⊥) → last_of (set lasts g t) h ≡ last_of lasts h
+elsewhere : (lasts : List Phase) (g h : ℕ) (t : Phase) → (h ≡ g → ⊥) → last_of (set lasts g t) h ≡ last_of lasts h
 elsewhere [] g h t ne = refl
 elsewhere (x ∷ xs) zero zero t ne = absurd (ne refl)
 elsewhere (x ∷ xs) zero (suc h) t ne = refl
 elsewhere (x ∷ xs) (suc g) zero t ne = refl
 elsewhere (x ∷ xs) (suc g) (suc h) t ne = elsewhere xs g h t (λ e. ne (ap suc e))
 
-outside : (lasts : List Turn) (g : ℕ) (t : Turn) → length lasts ≤ g → set lasts g t ≡ lasts
+outside : (lasts : List Phase) (g : ℕ) (t : Phase) → length lasts ≤ g → set lasts g t ≡ lasts
 outside [] g t h = refl
 outside (x ∷ xs) zero t h = absurd (omega arith)
 outside (x ∷ xs) (suc g) t h = ap (λ ys. x ∷ ys) (outside xs g t (omega arith))
 
-read_more : (turn : Turn) (lasts : List Turn) (g h : ℕ) → IsBy (last_of lasts h) (last_of (read_in turn lasts g) h)
+read_more : (turn : Phase) (lasts : List Phase) (g h : ℕ) → IsBy (last_of lasts h) (last_of (read_in turn lasts g) h)
 read_more turn lasts g h = by (cases_eq h g) (cases_lt g (length lasts))
   where
-    new : Turn
+    new : Phase
     new = later (last_of lasts g) turn
 
     by : (h ≡ g) ⊎ (h ≡ g → ⊥) → (g < length lasts) ⊎ (length lasts ≤ g) → IsBy (last_of lasts h) (last_of (read_in turn lasts g) h)
@@ -71,12 +71,12 @@ read_more turn lasts g h = by (cases_eq h g) (cases_lt g (length lasts))
     by (inl e) (inr beyond) =
         subst (λ xs. IsBy (last_of lasts h) (last_of xs h)) (sym (outside lasts g new beyond)) (by_itself (last_of lasts h))
 
-pub length-read : (turn : Turn) (lasts : List Turn) (xs : List Read) → length (all_read_in turn lasts xs) ≡ length lasts
+pub length-read : (turn : Phase) (lasts : List Phase) (xs : List Read) → length (all_read_in turn lasts xs) ≡ length lasts
 length-read turn lasts [] = refl
 length-read turn lasts (x ∷ xs) =
     length-read turn (read_in turn lasts (stage_read x)) xs ∙ length-set lasts (stage_read x) (later (last_of lasts (stage_read x)) turn)
 
-all_more : (turn : Turn) (lasts : List Turn) (xs : List Read) (h : ℕ) → IsBy (last_of lasts h) (last_of (all_read_in turn lasts xs) h)
+all_more : (turn : Phase) (lasts : List Phase) (xs : List Read) (h : ℕ) → IsBy (last_of lasts h) (last_of (all_read_in turn lasts xs) h)
 all_more turn lasts [] h = by_itself (last_of lasts h)
 all_more turn lasts (x ∷ xs) h =
     let next = read_in turn lasts (stage_read x) in
@@ -84,7 +84,7 @@ all_more turn lasts (x ∷ xs) h =
     (all_more turn next xs h)
 
 -- what is read is read in the turn or later
-all_has : (turn : Turn) (lasts : List Turn) (xs : List Read)
+all_has : (turn : Phase) (lasts : List Phase) (xs : List Read)
     → All (λ x. stage_read x < length lasts → IsBy turn (last_of (all_read_in turn lasts xs) (stage_read x))) xs
 all_has turn lasts [] = All-nil (λ x. stage_read x < length lasts → IsBy turn (last_of lasts (stage_read x)))
 all_has turn lasts (x ∷ xs) =
@@ -101,7 +101,7 @@ all_has turn lasts (x ∷ xs) =
     (λ y has within. has (subst (λ n. stage_read y < n) (sym long) within)) xs (all_has turn next xs))
 
 -- and the others stay as they were
-all_other : (turn : Turn) (lasts : List Turn) (xs : List Read) (h : ℕ) → All (λ x. h ≡ stage_read x → ⊥) xs
+all_other : (turn : Phase) (lasts : List Phase) (xs : List Read) (h : ℕ) → All (λ x. h ≡ stage_read x → ⊥) xs
     → last_of (all_read_in turn lasts xs) h ≡ last_of lasts h
 all_other turn lasts [] h none = refl
 all_other turn lasts (x ∷ xs) h none =
@@ -117,23 +117,23 @@ stage_at (x ∷ xs) (suc n) h = stage_at xs n (omega arith)
 
 module _ (job : Pipeline) (inlining : List Bool) where
   -- when a stage reads depends on its own last turn alone
-  same_body : (old new : List Turn) (g rank : ℕ) (b : Body) → last_of new g ≡ last_of old g
+  same_body : (old new : List Phase) (g rank : ℕ) (b : Body) → last_of new g ≡ last_of old g
       → body_turn job new g rank b ≡ body_turn job old g rank b
   same_body old new g rank (plane n) same = refl
   same_body old new g rank (function cases otherwise) same =
       ap (λ t. if is_read t then Rank rank else (if is_output job g then Answer else Never)) same
   same_body old new g rank (accumulator fold bins value bin) same = refl
 
-  same_turn : (old new : List Turn) (g : ℕ) (s : Stage) → last_of new g ≡ last_of old g
+  same_turn : (old new : List Phase) (g : ℕ) (s : Stage) → last_of new g ≡ last_of old g
       → reads_turn job inlining new g s ≡ reads_turn job inlining old g s
   same_turn old new g s same = λ i. if is_inlined inlining g then same i else same_body old new g s.rank s.body same i
 
-  module _ (ranked : IsRanked job.stages) (lasts : List Turn) (n : ℕ) (p : Stage) (there : slice_get job.stages n ≡ Some p)
+  module _ (ranked : IsRanked job.stages) (lasts : List Phase) (n : ℕ) (p : Stage) (there : slice_get job.stages n ≡ Some p)
       (long : length lasts ≡ length job.stages) where
-    abbrev pub turn : Turn
+    abbrev pub turn : Phase
     turn = reads_turn job inlining lasts n p
 
-    abbrev pub after : List Turn
+    abbrev pub after : List Phase
     after = all_read_in turn lasts (reads_of p.body)
 
     pub after_is : with_reads job inlining lasts n ≡ after
@@ -160,7 +160,7 @@ module _ (job : Pipeline) (inlining : List Bool) where
         All-weaker (λ x. stage_read x < length job.stages → IsBy (reads_turn job inlining lasts g s) (last_of lasts (stage_read x)))
         (λ x. stage_read x < length job.stages → IsBy (reads_turn job inlining after g s) (last_of after (stage_read x)))
         (λ x is within.
-        subst (λ (t : Turn). IsBy t (last_of after (stage_read x))) (sym (same_turn lasts after g s (same_last g s at high)))
+        subst (λ (t : Phase). IsBy t (last_of after (stage_read x))) (sym (same_turn lasts after g s (same_last g s at high)))
         (by_later (reads_turn job inlining lasts g s) (last_of lasts (stage_read x)) (last_of after (stage_read x)) (is within)
         (all_more turn lasts (reads_of p.body) (stage_read x))))
         (reads_of s.body) has
@@ -170,20 +170,20 @@ module _ (job : Pipeline) (inlining : List Bool) where
         All-weaker (λ x. stage_read x < length lasts → IsBy turn (last_of after (stage_read x)))
         (λ x. stage_read x < length job.stages → IsBy (reads_turn job inlining after n p) (last_of after (stage_read x)))
         (λ x is within.
-        subst (λ (t : Turn). IsBy t (last_of after (stage_read x))) (sym (same_turn lasts after n p (same_last n p there (omega arith))))
+        subst (λ (t : Phase). IsBy t (last_of after (stage_read x))) (sym (same_turn lasts after n p (same_last n p there (omega arith))))
         (is (subst (λ m. stage_read x < m) (sym long) within)))
         (reads_of p.body) (all_has turn lasts (reads_of p.body))
 
   -- those of greater ranks, and of this one those of numbers below n
-  pub record HasLastsTo (rank n : ℕ) (lasts : List Turn) : Type 0 where
+  pub record HasLastsTo (rank n : ℕ) (lasts : List Phase) : Type 0 where
     pub each : length lasts ≡ length job.stages
     pub above : (g : ℕ) (s : Stage) → slice_get job.stages g ≡ Some s → rank + 1 ≤ s.rank → HasReads job inlining lasts g s
     pub same : (g : ℕ) (s : Stage) → slice_get job.stages g ≡ Some s → g < n → s.rank ≡ rank → HasReads job inlining lasts g s
 
-  pub lasts_start : (rank : ℕ) (lasts : List Turn) → HasLastsFrom job inlining (rank + 1) lasts → HasLastsTo rank 0 lasts
+  pub lasts_start : (rank : ℕ) (lasts : List Phase) → HasLastsFrom job inlining (rank + 1) lasts → HasLastsTo rank 0 lasts
   lasts_start rank lasts h = record { each = h.each; above = h.reads; same = λ g s there low is. absurd (omega arith) }
 
-  pub lasts_more : IsRanked job.stages → (rank n : ℕ) (lasts : List Turn) → HasLastsTo rank n lasts → n < length job.stages
+  pub lasts_more : IsRanked job.stages → (rank n : ℕ) (lasts : List Phase) → HasLastsTo rank n lasts → n < length job.stages
       → rank_of job.stages n ≡ rank → HasLastsTo rank (n + 1) (with_reads job inlining lasts n)
   lasts_more ranked rank n lasts h within is =
       let at = stage_at job.stages n within in
@@ -205,7 +205,7 @@ module _ (job : Pipeline) (inlining : List Bool) where
           (subst (λ (q : Stage). HasReads job inlining (after ranked lasts n at.0 at.1 h.each) n q) same
           (own_has ranked lasts n at.0 at.1 h.each))
 
-  pub lasts_other : (rank n : ℕ) (lasts : List Turn) → HasLastsTo rank n lasts
+  pub lasts_other : (rank n : ℕ) (lasts : List Phase) → HasLastsTo rank n lasts
       → ((s : Stage) → slice_get job.stages n ≡ Some s → s.rank ≡ rank → ⊥) → HasLastsTo rank (n + 1) lasts
   lasts_other rank n lasts h other = record { each = h.each; above = h.above; same = same }
     where
@@ -216,7 +216,7 @@ module _ (job : Pipeline) (inlining : List Bool) where
           by_place (inl e) = absurd (other s (sym (ap (slice_get job.stages) e) ∙ there) is)
           by_place (inr ne) = h.same g s there (omega (arith, ne)) is
 
-  pub lasts_end : (rank : ℕ) (lasts : List Turn) → HasLastsTo rank (length job.stages) lasts → HasLastsFrom job inlining rank lasts
+  pub lasts_end : (rank : ℕ) (lasts : List Phase) → HasLastsTo rank (length job.stages) lasts → HasLastsFrom job inlining rank lasts
   lasts_end rank lasts h = record { each = h.each; reads = λ g s there high. by_rank g s there (cases_lt rank s.rank) high }
     where
       by_rank : (g : ℕ) (s : Stage) → slice_get job.stages g ≡ Some s → (rank < s.rank) ⊎ (s.rank ≤ rank) → rank ≤ s.rank
@@ -227,7 +227,7 @@ module _ (job : Pipeline) (inlining : List Bool) where
 -- ---- all ranks
 
 -- no stage has a greater rank than the greatest
-pub lasts_none : (job : Pipeline) (inlining : List Bool) (rank : ℕ) (lasts : List Turn) → greatest_rank job.stages < rank
+pub lasts_none : (job : Pipeline) (inlining : List Bool) (rank : ℕ) (lasts : List Phase) → greatest_rank job.stages < rank
     → length lasts ≡ length job.stages → HasLastsFrom job inlining rank lasts
 lasts_none job inlining rank lasts high long = record {
   each = long;
@@ -235,16 +235,16 @@ lasts_none job inlining rank lasts high long = record {
       let most = rank_below job.stages g in let own = rank_is job.stages g s there in absurd (omega arith);
 }
 
-pub lasts_all : (job : Pipeline) (inlining : List Bool) (lasts : List Turn) → HasLastsFrom job inlining 0 lasts → HasLasts job inlining lasts
+pub lasts_all : (job : Pipeline) (inlining : List Bool) (lasts : List Phase) → HasLastsFrom job inlining 0 lasts → HasLasts job inlining lasts
 lasts_all job inlining lasts h = record { each = h.each; reads = λ g s there. h.reads g s there (omega arith) }
 
 -- where each stage is kept for the answer
-by_answer : (t : Turn) → IsBy t Answer
+by_answer : (t : Phase) → IsBy t Answer
 by_answer Never = tt
 by_answer (Rank r) = tt
 by_answer Answer = tt
 
-pub always_lasts : (job : Pipeline) (inlining : List Bool) (lasts : List Turn) → length lasts ≡ length job.stages
+pub always_lasts : (job : Pipeline) (inlining : List Bool) (lasts : List Phase) → length lasts ≡ length job.stages
     → ((g : ℕ) → g < length job.stages → last_of lasts g ≡ Answer) → HasLasts job inlining lasts
 always_lasts job inlining lasts long always = record {
   each = long;

@@ -24,17 +24,17 @@ use Rattle.tile_sources.specs.KnownTiles.{KnownTiles}
 use Rattle.tile_run.specs.StageRuns.{GivesNeedsOf}
 use Rattle.tile_run.specs.Stored.{IsStoredFunction, GivesTilesOf, GivesAllTiles}
 use Rattle.tile_run.specs.Uses.{IsBy, last_of, is_used, is_read, body_turn, reads_turn, HasLasts, GivesHeld, GivesForAnswer}
-use Rattle.tile_run.specs.declared.turn.Turn.{Turn}
-use Rattle.tile_run.specs.declared.turn.Turn.TheVariants.{Never, Rank, Answer}
+use Rattle.tile_run.specs.declared.phase.Phase.{Phase}
+use Rattle.tile_run.specs.declared.phase.Phase.TheVariants.{Never, Rank, Answer}
 
 -- ---- turns
 
-pub by_itself : (t : Turn) → IsBy t t
+pub by_itself : (t : Phase) → IsBy t t
 by_itself Never = tt
 by_itself (Rank r) = omega arith
 by_itself Answer = tt
 
-pub by_later : (t u v : Turn) → IsBy t u → IsBy u v → IsBy t v
+pub by_later : (t u v : Phase) → IsBy t u → IsBy u v → IsBy t v
 by_later Never u v a b = tt
 by_later (Rank r) Never v a b = absurd a
 by_later (Rank r) (Rank q) Never a b = absurd b
@@ -47,16 +47,16 @@ by_later Answer Never v a b = absurd a
 by_later Answer (Rank q) v a b = absurd a
 by_later Answer Answer v a b = b
 
-read_by : (r : ℕ) (t : Turn) → IsBy (Rank r) t → is_read t ≡ true
+read_by : (r : ℕ) (t : Phase) → IsBy (Rank r) t → is_read t ≡ true
 read_by r Never a = absurd a
 read_by r (Rank q) a = refl
 read_by r Answer a = refl
 
-answer_by : (r : ℕ) (t : Turn) → IsBy Answer t → IsBy (Rank r) t
+answer_by : (r : ℕ) (t : Phase) → IsBy Answer t → IsBy (Rank r) t
 answer_by r t a = by_later (Rank r) Answer t tt a
 
 -- a stored function that is used reads in the turn of its rank
-pub function_reads : (job : Pipeline) (inlining : List Bool) (lasts : List Turn) (g : ℕ) (s : Stage) → is_function_body s.body ≡ true
+pub function_reads : (job : Pipeline) (inlining : List Bool) (lasts : List Phase) (g : ℕ) (s : Stage) → is_function_body s.body ≡ true
     → is_inlined inlining g ≡ false → is_used lasts g ≡ true → reads_turn job inlining lasts g s ≡ Rank s.rank
 function_reads job inlining lasts g s own stored used =
     ap (λ (b : Bool). if b then last_of lasts g else body_turn job lasts g s.rank s.body) stored ∙ by s.body own
@@ -90,7 +90,7 @@ module _ (job : Pipeline) (inlining : List Bool) (given : KnownTiles) (g : ℕ) 
   pub needs_all : GivesAllTiles job inlining given → GivesNeedsOf job inlining given g
   needs_all all = given_boxes (λ region area h s stored boxed. all h s stored)
 
-  module _ (lasts : List Turn) (s : Stage) (has : HasLasts job inlining lasts) (there : slice_get job.stages g ≡ Some s) where
+  module _ (lasts : List Phase) (s : Stage) (has : HasLasts job inlining lasts) (there : slice_get job.stages g ≡ Some s) where
     -- a stage that is read no earlier than stage g reads
     abbrev pub ReadLate : ℕ → Type 0
     ReadLate h = h < length job.stages → IsBy (reads_turn job inlining lasts g s) (last_of lasts h)
@@ -124,7 +124,7 @@ module _ (job : Pipeline) (inlining : List Bool) (given : KnownTiles) (g : ℕ) 
         → GivesNeedsOf job inlining given g
     needs_in_turn own held = given_boxes (λ region area h p stored boxed.
         let by : IsBy (Rank s.rank) (last_of lasts h) =
-        subst (λ (t : Turn). IsBy t (last_of lasts h)) own (late region area h boxed (slice_get_within job.stages h p stored.there)) in
+        subst (λ (t : Phase). IsBy t (last_of lasts h)) own (late region area h boxed (slice_get_within job.stages h p stored.there)) in
         held h p (record {
           function = stored;
           used = read_by s.rank (last_of lasts h) by;
@@ -136,7 +136,7 @@ module _ (job : Pipeline) (inlining : List Bool) (given : KnownTiles) (g : ℕ) 
         → GivesNeedsOf job inlining given g
     needs_for_answer own held = given_boxes (λ region area h p stored boxed.
         let by : IsBy Answer (last_of lasts h) =
-        subst (λ (t : Turn). IsBy t (last_of lasts h)) own (late region area h boxed (slice_get_within job.stages h p stored.there)) in
+        subst (λ (t : Phase). IsBy t (last_of lasts h)) own (late region area h boxed (slice_get_within job.stages h p stored.there)) in
         held s.rank h p (record {
           function = stored;
           used = read_by 0 (last_of lasts h) (answer_by 0 (last_of lasts h) by);

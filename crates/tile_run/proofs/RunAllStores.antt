@@ -24,9 +24,9 @@ use Rattle.tile_run.specs.inside.Lasting.{is_over}
 use Rattle.tile_run.specs.inside.Running.{grid_values, AreTilesOf, AreStored}
 use Rattle.tile_run.proofs.NeedsAreHeld.{by_later}
 use Rattle.one_tile.specs.declared.tile_rows.TileRow.{TileRow}
-use Rattle.one_tile.specs.declared.tile_rows.Tiles.{Tiles}
-use Rattle.tile_run.specs.declared.turn.Turn.{Turn}
-use Rattle.tile_run.specs.declared.turn.Turn.TheVariants.{Never, Rank, Answer}
+use Rattle.one_tile.specs.declared.tile_rows.StageTiles.{StageTiles}
+use Rattle.tile_run.specs.declared.phase.Phase.{Phase}
+use Rattle.tile_run.specs.declared.phase.Phase.TheVariants.{Never, Rank, Answer}
 
 -- ---- rows
 
@@ -46,7 +46,7 @@ there_in v f n i xs is l =
     ∙ ap Some (get_or-map-range_with_len f 0 n i i (f i) l (omega arith))
 
 -- what stands in rows of tiles
-pub tiles_there : (job : Pipeline) (g : ℕ) (grid : Grid) (tiles : Tiles)
+pub tiles_there : (job : Pipeline) (g : ℕ) (grid : Grid) (tiles : StageTiles)
     → map row_numbers tiles.rows.items ≡ grid_values job g grid (tile_rows grid) → (i j : ℕ) → HasTile grid i j
     → tile_numbers (Some tiles) i j ≡ Some (tile_values job g grid i j)
 tiles_there job g grid tiles is i j tile =
@@ -65,7 +65,7 @@ tiles_there job g grid tiles is i j tile =
 only_value : (o : Option (List ℤ)) (xs ys : List ℤ) → o ≡ Some ys → o ≡ Some xs → xs ≡ ys
 only_value o xs ys is found = same_Some xs ys (sym found ∙ is)
 
-pub are_tiles : (job : Pipeline) (inlining : List Bool) (lasts : List Turn) (g : ℕ) (s : Stage) (tiles : Tiles) → slice_get job.stages g ≡ Some s
+pub are_tiles : (job : Pipeline) (inlining : List Bool) (lasts : List Phase) (g : ℕ) (s : Stage) (tiles : StageTiles) → slice_get job.stages g ≡ Some s
     → map row_numbers tiles.rows.items ≡ grid_values job g (grid_of job s) (tile_rows (grid_of job s)) → AreTilesOf job inlining lasts g tiles
 are_tiles job inlining lasts g s tiles there is = record {
   right = λ t found i j xs tile numbers. only_value _ _ _ (all t (same_Some s t (sym there ∙ found)) i j tile) numbers;
@@ -76,7 +76,7 @@ are_tiles job inlining lasts g s tiles there is = record {
     all t same = subst (GivesTilesOf job (λ h. tile_numbers (Some tiles)) g) same (tiles_there job g (grid_of job s) tiles is)
 
 -- a stage that is no stored function that is used has no tiles
-pub no_tiles : (job : Pipeline) (inlining : List Bool) (lasts : List Turn) (g : ℕ) (tiles : Tiles) → tiles.rows.items ≡ []
+pub no_tiles : (job : Pipeline) (inlining : List Bool) (lasts : List Phase) (g : ℕ) (tiles : StageTiles) → tiles.rows.items ≡ []
     → ((s : Stage) → IsStoredFunction job inlining g s → is_used lasts g ≡ true → ⊥) → AreTilesOf job inlining lasts g tiles
 no_tiles job inlining lasts g tiles none other = record {
   right = λ s there i j xs tile numbers. absurd
@@ -87,23 +87,23 @@ no_tiles job inlining lasts g tiles none other = record {
 -- ---- by rank
 
 -- the tiles of lower ranks are stored, and of this rank those of numbers below n
-pub record AreStoredTo (job : Pipeline) (inlining : List Bool) (lasts : List Turn) (rank n : ℕ) (stages : List Tiles) : Type 0 where
+pub record AreStoredTo (job : Pipeline) (inlining : List Bool) (lasts : List Phase) (rank n : ℕ) (stages : List StageTiles) : Type 0 where
   pub stored : AreStored job inlining lasts rank (Rank rank) stages
   pub same :
       (g : ℕ) (s : Stage) → g < n → IsHeld job inlining lasts (rank + 1) (Rank rank) g s → s.rank ≡ rank
       → GivesTilesOf job (stored_tiles stages) g s
 
 -- one more stage without tiles
-pub none_more : (xs : List Tiles) (t : Tiles) → t.rows.items ≡ [] → ((g i j : ℕ) → stored_tiles xs g i j ≡ None) → (g i j : ℕ)
+pub none_more : (xs : List StageTiles) (t : StageTiles) → t.rows.items ≡ [] → ((g i j : ℕ) → stored_tiles xs g i j ≡ None) → (g i j : ℕ)
     → stored_tiles (xs ++ t ∷ []) g i j ≡ None
 none_more [] t e h zero i j = ap (λ (rows : List TileRow). numbers_in (slice_get rows i) j) e
 none_more [] t e h (suc g) i j = refl
 none_more (x ∷ xs) t e h zero i j = h zero i j
 none_more (x ∷ xs) t e h (suc g) i j = none_more xs t e (λ k. h (suc k)) g i j
 
-module _ (job : Pipeline) (inlining : List Bool) (lasts : List Turn) where
+module _ (job : Pipeline) (inlining : List Bool) (lasts : List Phase) where
   -- at first nothing is stored
-  pub stored_none : (stages : List Tiles) → length stages ≡ length job.stages
+  pub stored_none : (stages : List StageTiles) → length stages ≡ length job.stages
       → ((g i j : ℕ) → stored_tiles stages g i j ≡ None) → AreStored job inlining lasts 0 (Rank 0) stages
   stored_none stages long none = record {
     length = long;
@@ -111,12 +111,12 @@ module _ (job : Pipeline) (inlining : List Bool) (lasts : List Turn) where
     held = λ g s is. absurd (let low = is.below in omega arith);
   }
 
-  pub stored_start : (rank : ℕ) (stages : List Tiles) → AreStored job inlining lasts rank (Rank rank) stages
+  pub stored_start : (rank : ℕ) (stages : List StageTiles) → AreStored job inlining lasts rank (Rank rank) stages
       → AreStoredTo job inlining lasts rank 0 stages
   stored_start rank stages h = record { stored = h; same = λ g s low is alike. absurd (omega arith) }
 
   -- after the last stage all of this rank are stored
-  pub stored_end : (rank : ℕ) (stages : List Tiles) → AreStoredTo job inlining lasts rank (length job.stages) stages
+  pub stored_end : (rank : ℕ) (stages : List StageTiles) → AreStoredTo job inlining lasts rank (length job.stages) stages
       → AreStored job inlining lasts (rank + 1) (Rank rank) stages
   stored_end rank stages h = record { length = h.stored.length; right = h.stored.right; held = held }
     where
@@ -130,7 +130,7 @@ module _ (job : Pipeline) (inlining : List Bool) (lasts : List Turn) where
               h.same g s (slice_get_within job.stages g s is.function.there) is (omega arith)
 
   -- a stage of another rank is passed over
-  pub stored_other : (rank n : ℕ) (stages : List Tiles) → AreStoredTo job inlining lasts rank n stages
+  pub stored_other : (rank n : ℕ) (stages : List StageTiles) → AreStoredTo job inlining lasts rank n stages
       → ((s : Stage) → slice_get job.stages n ≡ Some s → s.rank ≡ rank → ⊥) → AreStoredTo job inlining lasts rank (n + 1) stages
   stored_other rank n stages h other = record { stored = h.stored; same = same }
     where
@@ -144,18 +144,18 @@ module _ (job : Pipeline) (inlining : List Bool) (lasts : List Turn) where
 
   -- ---- one stage anew
 
-  module _ (n : ℕ) (stages : List Tiles) (tiles : Tiles) (long : length stages ≡ length job.stages) (within : n < length job.stages)
+  module _ (n : ℕ) (stages : List StageTiles) (tiles : StageTiles) (long : length stages ≡ length job.stages) (within : n < length job.stages)
     where
-      abbrev pub after : List Tiles
+      abbrev pub after : List StageTiles
       after = set stages n tiles
 
       at_place : (g : ℕ) → g ≡ n → (i j : ℕ) → stored_tiles after g i j ≡ tile_numbers (Some tiles) i j
       at_place g e i j =
           ap (λ k. stored_tiles after k i j) e
-          ∙ ap (λ (o : Option Tiles). tile_numbers o i j) (slice_get-set_same stages n tiles (omega (arith, long)))
+          ∙ ap (λ (o : Option StageTiles). tile_numbers o i j) (slice_get-set_same stages n tiles (omega (arith, long)))
 
       elsewhere : (g : ℕ) → (g ≡ n → ⊥) → (i j : ℕ) → stored_tiles after g i j ≡ stored_tiles stages g i j
-      elsewhere g ne i j = ap (λ (o : Option Tiles). tile_numbers o i j) (slice_get-set_other stages n g tiles ne)
+      elsewhere g ne i j = ap (λ (o : Option StageTiles). tile_numbers o i j) (slice_get-set_other stages n g tiles ne)
 
       -- what is stored stays true
       right_more : AreTrue job (stored_tiles stages)
@@ -174,7 +174,7 @@ module _ (job : Pipeline) (inlining : List Bool) (lasts : List Turn) where
       gives_other g s ne before i j tile = elsewhere g ne i j ∙ before i j tile
 
       module _ (are : AreTilesOf job inlining lasts n tiles) where
-        gives_more : (rank : ℕ) (turn : Turn) (g : ℕ) (s : Stage) → IsHeld job inlining lasts rank turn g s
+        gives_more : (rank : ℕ) (turn : Phase) (g : ℕ) (s : Stage) → IsHeld job inlining lasts rank turn g s
             → ((g ≡ n → ⊥) → GivesTilesOf job (stored_tiles stages) g s) → GivesTilesOf job (stored_tiles after) g s
         gives_more rank turn g s is before i j tile = by_place (cases_eq g n)
           where
@@ -196,7 +196,7 @@ module _ (job : Pipeline) (inlining : List Bool) (lasts : List Turn) where
         }
 
       -- one that is not kept in a turn is let go
-      pub stored_less : (rank : ℕ) (turn : Turn) → tiles.rows.items ≡ [] → (IsKept job lasts turn n → ⊥)
+      pub stored_less : (rank : ℕ) (turn : Phase) → tiles.rows.items ≡ [] → (IsKept job lasts turn n → ⊥)
           → AreStored job inlining lasts rank turn stages → AreStored job inlining lasts rank turn after
       stored_less rank turn none over h = record {
         length = length-set stages n tiles ∙ h.length;
@@ -208,11 +208,11 @@ module _ (job : Pipeline) (inlining : List Bool) (lasts : List Turn) where
   -- ---- turns
 
   -- what is kept in a turn was kept in each before
-  pub kept_before : (t u : Turn) (g : ℕ) → IsBy t u → IsKept job lasts u g → IsKept job lasts t g
+  pub kept_before : (t u : Phase) (g : ℕ) → IsBy t u → IsKept job lasts u g → IsKept job lasts t g
   kept_before t u g by (inl later) = inl (by_later t u (last_of lasts g) by later)
   kept_before t u g by (inr output) = inr output
 
-  pub stored_before : (rank : ℕ) (t u : Turn) (stages : List Tiles) → IsBy t u → AreStored job inlining lasts rank t stages
+  pub stored_before : (rank : ℕ) (t u : Phase) (stages : List StageTiles) → IsBy t u → AreStored job inlining lasts rank t stages
       → AreStored job inlining lasts rank u stages
   stored_before rank t u stages by h = record {
     length = h.length;
@@ -225,14 +225,14 @@ module _ (job : Pipeline) (inlining : List Bool) (lasts : List Turn) where
   pub not_kept : (rank g : ℕ) → is_over (last_of lasts g) rank ≡ true → is_output job g ≡ false → IsKept job lasts (Rank (rank + 1)) g → ⊥
   not_kept rank g over inner (inl later) = by (last_of lasts g) over later
     where
-      by : (t : Turn) → is_over t rank ≡ true → IsBy (Rank (rank + 1)) t → ⊥
+      by : (t : Phase) → is_over t rank ≡ true → IsBy (Rank (rank + 1)) t → ⊥
       by Never e a = a
       by (Rank r) e a = let low = leb-true r rank e in omega arith
       by Answer e a = true≢false (sym e)
   not_kept rank g over inner (inr output) = true≢false (sym output.0 ∙ inner)
 
   -- after the turn of the last rank, what is kept for the answer is there
-  pub stored_answer : (rank : ℕ) (stages : List Tiles) → ((g : ℕ) (s : Stage) → slice_get job.stages g ≡ Some s → s.rank < rank)
+  pub stored_answer : (rank : ℕ) (stages : List StageTiles) → ((g : ℕ) (s : Stage) → slice_get job.stages g ≡ Some s → s.rank < rank)
       → AreStored job inlining lasts rank (Rank rank) stages → GivesForAnswer job inlining lasts (stored_tiles stages)
   stored_answer rank stages all h r g s is =
       h.held g s (record {
@@ -247,7 +247,7 @@ pub ranks_below : (job : Pipeline) (g : ℕ) (s : Stage) → slice_get job.stage
 ranks_below job g s there = let most = rank_below job.stages g in let own = rank_is job.stages g s there in omega arith
 
 -- where each stage is kept for the answer, all are held
-pub all_held : (job : Pipeline) (inlining : List Bool) (lasts : List Turn) → ((g : ℕ) → g < length job.stages → last_of lasts g ≡ Answer)
+pub all_held : (job : Pipeline) (inlining : List Bool) (lasts : List Phase) → ((g : ℕ) → g < length job.stages → last_of lasts g ≡ Answer)
     → (given : KnownTiles) → GivesForAnswer job inlining lasts given → GivesAllTiles job inlining given
 all_held job inlining lasts always given held g s function =
     let last : last_of lasts g ≡ Answer = always g (slice_get_within job.stages g s function.there) in

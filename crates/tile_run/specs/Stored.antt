@@ -9,7 +9,7 @@ use Rattle.tile_boxes.specs.Schedules.{is_inlined, is_function_body}
 use Rattle.tile_eval.specs.Buffer.{raster}
 use Rattle.tile_sources.specs.KnownTiles.{KnownTiles}
 use Rattle.one_tile.specs.declared.tile_rows.TileRow.{TileRow}
-use Rattle.one_tile.specs.declared.tile_rows.Tiles.{Tiles}
+use Rattle.one_tile.specs.declared.tile_rows.StageTiles.{StageTiles}
 
 -- ---- tiles in memory
 
@@ -19,11 +19,11 @@ numbers_in None j = None
 numbers_in (Some row) j = option_map (λ t. t.items) (slice_get row.tiles.items j)
 
 -- those of the tile in row i and column j
-abbrev pub tile_numbers : Option Tiles → ℕ → ℕ → Option (List ℤ)
+abbrev pub tile_numbers : Option StageTiles → ℕ → ℕ → Option (List ℤ)
 tile_numbers None i j = None
 tile_numbers (Some tiles) i j = numbers_in (slice_get tiles.rows.items i) j
 
-abbrev pub stored_tiles : List Tiles → KnownTiles
+abbrev pub stored_tiles : List StageTiles → KnownTiles
 stored_tiles stages g i j = tile_numbers (slice_get stages g) i j
 
 -- ---- what is stored of a job

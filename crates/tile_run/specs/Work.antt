@@ -6,15 +6,15 @@ use Rattle.job.specs.Pipeline.{Pipeline}
 use Rattle.overlap_tiles.specs.Needs.{key_of}
 use Rattle.overlap_tiles.specs.Work.{tiles_in_order, lacks_room}
 pub use Rattle.overlap_tiles.specs.Work.{is_stored_function, is_accumulator_at}
-use Rattle.tile_run.specs.declared.room.Work.{Work}
-use Rattle.tile_run.specs.declared.room.Work.TheVariants.{Functions, Accumulators}
+use Rattle.tile_run.specs.declared.room.StageSelection.{StageSelection}
+use Rattle.tile_run.specs.declared.room.StageSelection.TheVariants.{Functions, Accumulators}
 use Rattle.tile_run.specs.declared.fault.RunFault.{RunFault}
 use Rattle.tile_run.specs.declared.fault.RunFault.TheVariants.{ScratchTooBig, Memory}
 
 -- ---- the stages whose tiles are made
 
 -- the stages of a kind of work
-abbrev pub wanted_by : Pipeline → List Bool → Work → ℕ → Bool
+abbrev pub wanted_by : Pipeline → List Bool → StageSelection → ℕ → Bool
 wanted_by job inlining Functions = is_stored_function job inlining
 wanted_by job inlining Accumulators = is_accumulator_at job
 

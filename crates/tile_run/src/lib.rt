@@ -3,27 +3,28 @@
 
 mod fault;
 pub mod laws;
-mod lent_row;
+mod phase;
 mod pieces;
 mod ranks;
 mod room;
 mod stage_run;
 mod stored;
-mod turn;
+mod supplied_row;
 mod uses;
 mod work_of_points;
 
 pub use fault::RunFault;
-pub use lent_row::LentRow;
 pub use one_tile::{
-    Boxes, EvalFault, Scratch, TileInputs, TileJob, TileRow, first_missing, run_tile,
+    EvalFault, ScratchView, TileInputs, TileJob, TileRow, TileScratch, find_first_missing_key,
+    run_tile,
 };
-pub use pieces::{WORK_OF_TILE, least_rows};
-pub use ranks::{run_all, run_kept};
-pub use room::{Work, first_too_big};
+pub use phase::Phase;
+pub use pieces::{WORK_OF_TILE, estimate_rows_per_thread};
+pub use ranks::{run_all, run_used_functions};
+pub use room::{StageSelection, find_first_oversized_tile};
 pub use stage_run::StageRun;
-pub use stored::Stored;
-pub use tile_sources::{Known, lend_given_row};
-pub use turn::Turn;
-pub use uses::Uses;
-pub use work_of_points::point_work;
+pub use stored::StoredTiles;
+pub use supplied_row::SuppliedRow;
+pub use tile_sources::{TileSource, borrow_supplied_row_part};
+pub use uses::LastReads;
+pub use work_of_points::count_point_work;

@@ -14,70 +14,76 @@ ghost use Rattle.tile_run.specs.Uses.{is_used, HasLasts, GivesForAnswer};
 ghost use Rattle.tile_run.specs.UsesOnce.{HasLasts-prop};
 ghost use Rattle.tile_run.specs.Work.{is_stored_function, first_too_big, IsRunFault};
 ghost use Rattle.tile_sources.specs.KnownTiles.{AreTrue};
-ghost use Rattle.tile_run.specs.declared.turn.Turn.TheVariants.{Rank};
+ghost use Rattle.tile_run.specs.declared.phase.Phase.TheVariants.{Rank};
 
 use crate::fault::RunFault;
-use crate::room::{Work, first_too_big};
+use crate::room::{StageSelection, find_first_oversized_tile};
 use crate::stage_run::StageRun;
-use crate::stored::Stored;
-use crate::uses::Uses;
+use crate::stored::StoredTiles;
+use crate::uses::LastReads;
 use domains::Grid;
 use grouping::{Schedule, last_rank};
 use job::{Job, Stage, StageKind};
-use one_tile::{Scratch, Tiles};
+use one_tile::{StageTiles, TileScratch};
 use std::alloc::{AllocError, Global};
 use std::mem;
 use std::thread::Threads;
 
 // A job whose stored functions are made, and how long each is kept.
 #[derive(Clone, Copy)]
-struct KeptRun<'a> {
+struct PhasedRun<'a> {
     job: &'a Job,
     schedule: &'a Schedule,
-    uses: &'a Uses,
+    uses: &'a LastReads,
     ghost fit: { StoredFit (pipeline_in job.now) schedule.now.inlining },
     ghost lasts: { HasLasts (pipeline_in job.now) schedule.now.inlining uses.now.lasts.items } by { HasLasts-prop (pipeline_in job.now) schedule.now.inlining uses.now.lasts.items },
 }
 
-impl Stored {
+impl StoredTiles {
     // Of `count` stages none is stored.
-    fn none(alloc: Global, count: usize) -> Result<Stored, AllocError>
+    fn new(alloc: Global, count: usize) -> Result<StoredTiles, AllocError>
         ensures length { IfOk result (λ stored. length stored.stages.items ≡ count) }
         ensures none { IfOk result
             (λ stored. (g i j : ℕ) → stored_tiles stored.stages.items g i j ≡ None) }
     {
         let mut stages = Vec::new(alloc);
         for _ in 0..count {
-            stages.push(Tiles {
+            stages.push(StageTiles {
                 rows: Vec::new(alloc),
             })?;
         }
-        Ok(Stored { stages })
+        Ok(StoredTiles { stages })
     }
 
     // Recycles the tiles of all stages, except outputs, that nothing reads after the phase of this rank. Later tiles reuse their
     // vectors.
-    fn let_go(&mut self, alloc: Global, run: &KeptRun<'_>, rank: usize, scratch: &mut Scratch)
+    fn recycle_unread_stages(
+        &mut self,
+        alloc: Global,
+        run: &PhasedRun<'_>,
+        rank: usize,
+        scratch: &mut TileScratch,
+    )
         requires { AreStored (pipeline_in run.now.job.now) run.now.schedule.now.inlining
             run.now.uses.now.lasts.items (rank + 1) (Rank rank) self.old.stages.items }
         ensures { AreStored (pipeline_in run.now.job.now) run.now.schedule.now.inlining
             run.now.uses.now.lasts.items (rank + 1) (Rank (rank + 1)) self.new.stages.items }
     {
         for number in 0..run.job.stages().len() {
-            if run.uses.last(number).is_over(rank) && !run.job.is_output(number) {
-                let none = Tiles {
+            if run.uses.find_last_phase(number).is_over(rank) && !run.job.is_output(number) {
+                let none = StageTiles {
                     rows: Vec::new(alloc),
                 };
                 let over = mem::replace(&mut self.stages[number], none);
-                scratch.take_stage_back(over);
+                scratch.recycle_stage(over);
             }
         }
     }
 }
 
-impl KeptRun<'_> {
+impl PhasedRun<'_> {
     // Whether a stage is a function that is used and not inlined.
-    fn is_wanted(&self, number: usize, stage: &Stage) -> bool
+    fn is_used_function(&self, number: usize, stage: &Stage) -> bool
         ensures wanted { result ≡ true → is_function_body (stage_view stage.now).body ≡ true
             × is_inlined self.now.schedule.now.inlining number ≡ false
             × is_used self.now.uses.now.lasts.items number ≡ true }
@@ -91,14 +97,14 @@ impl KeptRun<'_> {
     }
 
     // The tiles of a stage, if it is a stored function that is used.
-    fn tiles_of(
+    fn make_stage_tiles(
         &self,
         rt: &(impl Threads + Sync),
         alloc: Global,
-        stored: &Stored,
+        stored: &StoredTiles,
         stage: usize,
-        scratch: &mut Scratch,
-    ) -> Result<Tiles, AllocError>
+        scratch: &mut TileScratch,
+    ) -> Result<StageTiles, AllocError>
         requires stored { AreStored (pipeline_in self.now.job.now) self.now.schedule.now.inlining
             self.now.uses.now.lasts.items (rank_of (pipeline_in self.now.job.now).stages stage)
             (Rank (rank_of (pipeline_in self.now.job.now).stages stage)) stored.now.stages.items }
@@ -106,7 +112,7 @@ impl KeptRun<'_> {
             self.now.schedule.now.inlining self.now.uses.now.lasts.items stage) }
     {
         match self.job.stage(stage) {
-            Some(found) if self.is_wanted(stage, found) => {
+            Some(found) if self.is_used_function(stage, found) => {
                 let grid = Grid::new(*found.domain(), self.job.sides());
                 let run = StageRun {
                     job: self.job,
@@ -115,9 +121,9 @@ impl KeptRun<'_> {
                     stage,
                     grid,
                 };
-                run.tiles(rt, alloc, scratch)
+                run.compute_tiles(rt, alloc, scratch)
             }
-            _ => Ok(Tiles {
+            _ => Ok(StageTiles {
                 rows: Vec::new(alloc),
             }),
         }
@@ -125,13 +131,13 @@ impl KeptRun<'_> {
 
     // The phase of a rank: its tiles are made from the stored ones of lower ranks, and those that nothing reads afterwards are
     // recycled.
-    fn take_turn(
+    fn run_phase(
         &self,
         rt: &(impl Threads + Sync),
         alloc: Global,
-        stored: &mut Stored,
+        stored: &mut StoredTiles,
         rank: usize,
-        scratch: &mut Scratch,
+        scratch: &mut TileScratch,
     ) -> Result<(), AllocError>
         requires stored { AreStored (pipeline_in self.now.job.now) self.now.schedule.now.inlining
             self.now.uses.now.lasts.items rank (Rank rank) stored.old.stages.items }
@@ -141,32 +147,32 @@ impl KeptRun<'_> {
     {
         for number in 0..self.job.stages().len() {
             if self.job.rank(number) == Some(rank) {
-                stored.stages[number] = self.tiles_of(rt, alloc, stored, number, scratch)?;
+                stored.stages[number] = self.make_stage_tiles(rt, alloc, stored, number, scratch)?;
             }
         }
-        stored.let_go(alloc, self, rank, scratch);
+        stored.recycle_unread_stages(alloc, self, rank, scratch);
         Ok(())
     }
 
     // The tiles that are kept once all ranks up to this one are made.
-    fn through(
+    fn run_phases(
         &self,
         rt: &(impl Threads + Sync),
         alloc: Global,
         last: usize,
-    ) -> Result<Stored, AllocError>
+    ) -> Result<StoredTiles, AllocError>
         requires last { last ≡ greatest_rank (pipeline_in self.now.job.now).stages }
         ensures { IfOk result (λ stored. AreStored (pipeline_in self.now.job.now)
             self.now.schedule.now.inlining self.now.uses.now.lasts.items
             (greatest_rank (pipeline_in self.now.job.now).stages + 1)
             (Rank (greatest_rank (pipeline_in self.now.job.now).stages + 1)) stored.stages.items) }
     {
-        let mut stored = Stored::none(alloc, self.job.stages().len())?;
-        let mut scratch = Scratch::new(alloc);
+        let mut stored = StoredTiles::new(alloc, self.job.stages().len())?;
+        let mut scratch = TileScratch::new(alloc);
         for rank in 0..last {
-            self.take_turn(rt, alloc, &mut stored, rank, &mut scratch)?;
+            self.run_phase(rt, alloc, &mut stored, rank, &mut scratch)?;
         }
-        self.take_turn(rt, alloc, &mut stored, last, &mut scratch)?;
+        self.run_phase(rt, alloc, &mut stored, last, &mut scratch)?;
         Ok(stored)
     }
 }
@@ -178,13 +184,13 @@ impl KeptRun<'_> {
 /// # Errors
 ///
 /// Fails only where memory is refused.
-pub fn run_kept(
+pub fn run_used_functions(
     rt: &(impl Threads + Sync),
     alloc: Global,
     job: &Job,
     schedule: &Schedule,
-    uses: &Uses,
-) -> Result<Stored, AllocError>
+    uses: &LastReads,
+) -> Result<StoredTiles, AllocError>
     requires room { first_too_big (pipeline_in job.now) schedule.now.inlining
         (is_stored_function (pipeline_in job.now) schedule.now.inlining) ≡ None }
     requires lasts { HasLasts (pipeline_in job.now) schedule.now.inlining uses.now.lasts.items }
@@ -193,12 +199,12 @@ pub fn run_kept(
     ensures values { IfOk result
         (λ stored. AreTrue (pipeline_in job.now) (stored_tiles stored.stages.items)) }
 {
-    let run = KeptRun {
+    let run = PhasedRun {
         job,
         schedule,
         uses,
     };
-    run.through(rt, alloc, last_rank(job.stages()))
+    run.run_phases(rt, alloc, last_rank(job.stages()))
 }
 
 /// All tiles of the stored functions of a job: those of a rank after those of lower ranks. Several threads compute those of
@@ -212,7 +218,7 @@ pub fn run_all(
     alloc: Global,
     job: &Job,
     schedule: &Schedule,
-) -> Result<Stored, RunFault>
+) -> Result<StoredTiles, RunFault>
     requires schedule { IsScheduleOf (pipeline_in job.now) schedule.now }
     ensures all { IfOk result (λ stored. GivesAllTiles (pipeline_in job.now) schedule.now.inlining
         (stored_tiles stored.stages.items)) }
@@ -223,10 +229,10 @@ pub fn run_all(
     ensures fault { IfErr result (IsRunFault (program_id_in job.now) (pipeline_in job.now)
         schedule.now.inlining (is_stored_function (pipeline_in job.now) schedule.now.inlining)) }
 {
-    if let Some(key) = first_too_big(alloc, job, schedule, Work::Functions)? {
+    if let Some(key) = find_first_oversized_tile(alloc, job, schedule, StageSelection::Functions)? {
         return Err(RunFault::ScratchTooBig(key));
     }
-    let uses = Uses::all(alloc, job)?;
-    let stored = run_kept(rt, alloc, job, schedule, &uses)?;
+    let uses = LastReads::from_job(alloc, job)?;
+    let stored = run_used_functions(rt, alloc, job, schedule, &uses)?;
     Ok(stored)
 }

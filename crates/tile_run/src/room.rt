@@ -22,7 +22,7 @@ use std::alloc::{AllocError, Global};
 
 /// Of which stages tiles are made.
 #[derive(Clone, Copy, Debug, PartialEq, Eq)]
-pub enum Work {
+pub enum StageSelection {
     /// Functions that are not inlined.
     Functions,
     /// All accumulators.
@@ -30,20 +30,20 @@ pub enum Work {
 }
 
 // Whether the tiles of a stage belong to the work.
-fn is_wanted(job: &Job, schedule: &Schedule, work: Work, stage: usize) -> bool
+fn is_selected(job: &Job, schedule: &Schedule, work: StageSelection, stage: usize) -> bool
     ensures { result ≡ wanted_by (pipeline_in job.now) schedule.now.inlining work stage }
 {
     match work {
-        Work::Functions => {
+        StageSelection::Functions => {
             job.kind(stage) == Some(StageKind::Function) && !schedule.inlined(stage)
         }
-        Work::Accumulators => job.kind(stage) == Some(StageKind::Accumulator),
+        StageSelection::Accumulators => job.kind(stage) == Some(StageKind::Accumulator),
     }
 }
 
 // The tiles of one stage.
 #[derive(Clone, Copy)]
-struct StageTiles<'a> {
+struct OversizeSearch<'a> {
     job: &'a Job,
     schedule: &'a Schedule,
     stage: usize,
@@ -51,9 +51,9 @@ struct StageTiles<'a> {
     ghost parted: { grid_at (pipeline_in job.now) stage ≡ Some grid },
 }
 
-impl StageTiles<'_> {
+impl OversizeSearch<'_> {
     // Whether a tile takes too much scratch memory.
-    fn is_too_big(&self, alloc: Global, row: u32, col: u32) -> Result<bool, AllocError>
+    fn is_oversized(&self, alloc: Global, row: u32, col: u32) -> Result<bool, AllocError>
         requires tile { HasTile self.now.grid row col }
         ensures { IfOk result (λ big. big
             ≡ lacks_room (pipeline_in self.now.job.now) self.now.schedule.now.inlining
@@ -67,14 +67,18 @@ impl StageTiles<'_> {
     }
 
     // The first tile of a row that does.
-    fn first_in_row(&self, alloc: Global, row: u32) -> Result<Option<(u32, u32)>, AllocError>
+    fn find_oversized_in_row(
+        &self,
+        alloc: Global,
+        row: u32,
+    ) -> Result<Option<(u32, u32)>, AllocError>
         requires row { row < tile_rows self.now.grid }
         ensures { IfOk result (λ found. found
             ≡ find (λ t. lacks_room (pipeline_in self.now.job.now) self.now.schedule.now.inlining
             (tile_of_stage self.now.stage t)) (row_tiles self.now.grid row)) }
     {
         for col in 0..self.grid.tile_cols() {
-            if self.is_too_big(alloc, row, col)? {
+            if self.is_oversized(alloc, row, col)? {
                 return Ok(Some((row, col)));
             }
         }
@@ -82,13 +86,13 @@ impl StageTiles<'_> {
     }
 
     // The first tile that does.
-    fn first(&self, alloc: Global) -> Result<Option<(u32, u32)>, AllocError>
+    fn find_oversized_tile(&self, alloc: Global) -> Result<Option<(u32, u32)>, AllocError>
         ensures { IfOk result (λ found. found
             ≡ find (λ t. lacks_room (pipeline_in self.now.job.now) self.now.schedule.now.inlining
             (tile_of_stage self.now.stage t)) (tiles_of self.now.grid)) }
     {
         for row in 0..self.grid.tile_rows() {
-            let found = self.first_in_row(alloc, row)?;
+            let found = self.find_oversized_in_row(alloc, row)?;
             if found.is_some() {
                 return Ok(found);
             }
@@ -98,7 +102,7 @@ impl StageTiles<'_> {
 }
 
 // The key of a tile.
-fn key_at(job: &Job, stage: usize, row: u32, col: u32) -> Key
+fn build_tile_key(job: &Job, stage: usize, row: u32, col: u32) -> Key
     requires { stage < 65536 }
     ensures { result
         ≡ key_of (program_id_in job.now) (pipeline_in job.now) (tile_of_stage stage (row, col)) }
@@ -113,7 +117,7 @@ fn key_at(job: &Job, stage: usize, row: u32, col: u32) -> Key
 }
 
 // The key of the first tile of a stage that takes too much scratch memory.
-fn first_of_stage(
+fn find_oversized_in_stage(
     alloc: Global,
     job: &Job,
     schedule: &Schedule,
@@ -127,24 +131,24 @@ fn first_of_stage(
     let Some(grid) = job.grid(stage) else {
         return Ok(None);
     };
-    let tiles = StageTiles {
+    let tiles = OversizeSearch {
         job,
         schedule,
         stage,
         grid,
     };
-    match tiles.first(alloc)? {
-        Some((row, col)) => Ok(Some(key_at(job, stage, row, col))),
+    match tiles.find_oversized_tile(alloc)? {
+        Some((row, col)) => Ok(Some(build_tile_key(job, stage, row, col))),
         None => Ok(None),
     }
 }
 
 // The same of several stages, in this order.
-fn first_among(
+fn find_oversized_in_stages(
     alloc: Global,
     job: &Job,
     schedule: &Schedule,
-    work: Work,
+    work: StageSelection,
     order: &[usize],
 ) -> Result<Option<Key>, AllocError>
     ensures { IfOk result (λ found. found
@@ -154,8 +158,8 @@ fn first_among(
         (wanted_by (pipeline_in job.now) schedule.now.inlining work) order.now)))) }
 {
     for number in order {
-        if is_wanted(job, schedule, work, *number) {
-            let found = first_of_stage(alloc, job, schedule, *number)?;
+        if is_selected(job, schedule, work, *number) {
+            let found = find_oversized_in_stage(alloc, job, schedule, *number)?;
             if found.is_some() {
                 return Ok(found);
             }
@@ -170,11 +174,11 @@ fn first_among(
 /// # Errors
 ///
 /// Fails only where memory is refused.
-pub fn first_too_big(
+pub fn find_first_oversized_tile(
     alloc: Global,
     job: &Job,
     schedule: &Schedule,
-    work: Work,
+    work: StageSelection,
 ) -> Result<Option<Key>, AllocError>
     requires schedule { IsScheduleOf (pipeline_in job.now) schedule.now }
     ensures { IfOk result (λ found. found
@@ -185,5 +189,5 @@ pub fn first_too_big(
     if schedule.fits() {
         return Ok(None);
     }
-    first_among(alloc, job, schedule, work, &in_order(alloc, job.stages())?)
+    find_oversized_in_stages(alloc, job, schedule, work, &in_order(alloc, job.stages())?)
 }

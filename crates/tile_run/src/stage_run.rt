@@ -11,12 +11,12 @@ ghost use Rattle.tile_run.specs.Stored.{stored_tiles};
 ghost use Rattle.tile_run.specs.inside.Running.{grid_values};
 ghost use Rattle.tile_run.specs.inside.RowWorks.{row_of};
 
-use crate::pieces::least_rows;
-use crate::stored::Stored;
+use crate::pieces::estimate_rows_per_thread;
+use crate::stored::StoredTiles;
 use domains::Grid;
 use grouping::Schedule;
 use job::Job;
-use one_tile::{Scratch, TileJob, TileRow, Tiles};
+use one_tile::{StageTiles, TileJob, TileRow, TileScratch};
 use overlap_tiles::{Layout, PlanFault};
 use rayon::prelude::*;
 use std::alloc::{AllocError, Global};
@@ -28,21 +28,21 @@ use std::thread::Threads;
 pub struct StageRun<'a> {
     pub job: &'a Job,
     pub schedule: &'a Schedule,
-    pub stored: &'a Stored,
+    pub stored: &'a StoredTiles,
     pub stage: usize,
     pub grid: Grid,
 }
 
 // A row of tiles that is to be made, and vectors of earlier tiles, in which its numbers may be written.
 #[derive(Drop)]
-struct RowWork {
+struct RowTask {
     row: u32,
     room: TileRow,
 }
 
 impl StageRun<'_> {
     // The layout of a tile.
-    fn layout(&self, alloc: Global, row: u32, col: u32) -> Result<Layout<'_>, AllocError>
+    fn build_layout(&self, alloc: Global, row: u32, col: u32) -> Result<Layout<'_>, AllocError>
         requires ready { IsStageReady (pipeline_in self.now.job.now) self.now.schedule.now.inlining
             (stored_tiles self.now.stored.now.stages.items) self.now.stage self.now.grid }
         requires tile { HasTile self.now.grid row col }
@@ -57,12 +57,12 @@ impl StageRun<'_> {
     }
 
     // The values of a tile.
-    fn tile(
+    fn compute_tile(
         &self,
         alloc: Global,
         row: u32,
         col: u32,
-        scratch: &mut Scratch,
+        scratch: &mut TileScratch,
     ) -> Result<Vec<i32>, AllocError>
         requires ready { IsStageReady (pipeline_in self.now.job.now) self.now.schedule.now.inlining
             (stored_tiles self.now.stored.now.stages.items) self.now.stage self.now.grid }
@@ -70,13 +70,13 @@ impl StageRun<'_> {
         ensures { IfOk result (λ values. values.items
             ≡ tile_values (pipeline_in self.now.job.now) self.now.stage self.now.grid row col) }
     {
-        let layout = self.layout(alloc, row, col)?;
+        let layout = self.build_layout(alloc, row, col)?;
         let tile = TileJob {
             job: self.job,
             layout: &layout,
             known: self.stored,
         };
-        tile.run(alloc, scratch)
+        tile.compute_values(alloc, scratch)
     }
 
     /// The values of a row of tiles, tile by tile.
@@ -84,7 +84,12 @@ impl StageRun<'_> {
     /// # Errors
     ///
     /// Fails only where memory is refused.
-    pub fn row(&self, alloc: Global, row: u32, scratch: &mut Scratch) -> Result<TileRow, AllocError>
+    pub fn compute_row(
+        &self,
+        alloc: Global,
+        row: u32,
+        scratch: &mut TileScratch,
+    ) -> Result<TileRow, AllocError>
         requires ready { IsStageReady (pipeline_in self.now.job.now) self.now.schedule.now.inlining
             (stored_tiles self.now.stored.now.stages.items) self.now.stage self.now.grid }
         requires row { row < tile_rows self.now.grid }
@@ -94,7 +99,7 @@ impl StageRun<'_> {
     {
         let mut tiles = Vec::new(alloc);
         for col in 0..self.grid.tile_cols() {
-            tiles.push(self.tile(alloc, row, col, scratch)?)?;
+            tiles.push(self.compute_tile(alloc, row, col, scratch)?)?;
         }
         Ok(TileRow { tiles })
     }
@@ -104,28 +109,32 @@ impl StageRun<'_> {
     /// # Errors
     ///
     /// Fails only where memory is refused.
-    pub(crate) fn tiles(
+    pub(crate) fn compute_tiles(
         &self,
         rt: &(impl Threads + Sync),
         alloc: Global,
-        scratch: &mut Scratch,
-    ) -> Result<Tiles, AllocError>
+        scratch: &mut TileScratch,
+    ) -> Result<StageTiles, AllocError>
         requires ready { IsStageReady (pipeline_in self.now.job.now) self.now.schedule.now.inlining
             (stored_tiles self.now.stored.now.stages.items) self.now.stage self.now.grid }
         ensures { IfOk result (λ tiles. map row_numbers tiles.rows.items
             ≡ grid_values (pipeline_in self.now.job.now) self.now.stage self.now.grid
             (tile_rows self.now.grid)) }
     {
-        let least = least_rows(self.job, self.schedule, self.stage);
+        let least = estimate_rows_per_thread(self.job, self.schedule, self.stage);
         if self.grid.tile_rows() as usize / 2 < least {
-            self.tiles_in_turn(alloc, scratch)
+            self.compute_rows_in_turn(alloc, scratch)
         } else {
-            self.tiles_side_by_side(rt, alloc, scratch, least)
+            self.compute_rows_in_parallel(rt, alloc, scratch, least)
         }
     }
 
     // Those of all rows, row by row.
-    fn tiles_in_turn(&self, alloc: Global, scratch: &mut Scratch) -> Result<Tiles, AllocError>
+    fn compute_rows_in_turn(
+        &self,
+        alloc: Global,
+        scratch: &mut TileScratch,
+    ) -> Result<StageTiles, AllocError>
         requires ready { IsStageReady (pipeline_in self.now.job.now) self.now.schedule.now.inlining
             (stored_tiles self.now.stored.now.stages.items) self.now.stage self.now.grid }
         ensures { IfOk result (λ tiles. map row_numbers tiles.rows.items
@@ -134,45 +143,49 @@ impl StageRun<'_> {
     {
         let mut rows = Vec::new(alloc);
         for row in 0..self.grid.tile_rows() {
-            rows.push(self.row(alloc, row, scratch)?)?;
+            rows.push(self.compute_row(alloc, row, scratch)?)?;
         }
-        Ok(Tiles { rows })
+        Ok(StageTiles { rows })
     }
 
     // The rows that are to be made, with the vectors of earlier tiles.
-    fn works(&self, alloc: Global, scratch: &mut Scratch) -> Result<Vec<RowWork>, AllocError>
+    fn list_row_tasks(
+        &self,
+        alloc: Global,
+        scratch: &mut TileScratch,
+    ) -> Result<Vec<RowTask>, AllocError>
         ensures { IfOk result (λ works. map row_of works.items
             ≡ range_with_len 0 (tile_rows self.now.grid)) }
     {
         let mut works = Vec::new(alloc);
         for row in 0..self.grid.tile_rows() {
-            let room = scratch.room_for_row(alloc, self.grid.tile_cols())?;
-            works.push(RowWork { row, room })?;
+            let room = scratch.reuse_row_vectors(alloc, self.grid.tile_cols())?;
+            works.push(RowTask { row, room })?;
         }
         Ok(works)
     }
 
     // Those of all rows: each thread has at least this many, and scratch memory of its own.
-    fn tiles_side_by_side(
+    fn compute_rows_in_parallel(
         &self,
         rt: &(impl Threads + Sync),
         alloc: Global,
-        scratch: &mut Scratch,
+        scratch: &mut TileScratch,
         least: usize,
-    ) -> Result<Tiles, AllocError>
+    ) -> Result<StageTiles, AllocError>
         requires ready { IsStageReady (pipeline_in self.now.job.now) self.now.schedule.now.inlining
             (stored_tiles self.now.stored.now.stages.items) self.now.stage self.now.grid }
         ensures { IfOk result (λ tiles. map row_numbers tiles.rows.items
             ≡ grid_values (pipeline_in self.now.job.now) self.now.stage self.now.grid
             (tile_rows self.now.grid)) }
     {
-        let works = self.works(alloc, scratch)?;
+        let works = self.list_row_tasks(alloc, scratch)?;
         let rows = works
             .into_par_iter()
             .with_min_len(least)
             .map_init(
-                || Scratch::new(alloc),
-                |scratch: &mut Scratch, work: RowWork| -> Result<TileRow, AllocError>
+                || TileScratch::new(alloc),
+                |scratch: &mut TileScratch, work: RowTask| -> Result<TileRow, AllocError>
                     requires { IsStageReady (pipeline_in self.now.job.now) self.now.schedule.now.inlining
                         (stored_tiles self.now.stored.now.stages.items) self.now.stage self.now.grid
                         × (work.row < tile_rows self.now.grid) }
@@ -180,11 +193,11 @@ impl StageRun<'_> {
                         ≡ row_values (pipeline_in self.entry.now.job.now) self.entry.now.stage
                         self.entry.now.grid work.row (tile_cols self.entry.now.grid)) }
                 {
-                    scratch.take_back(work.room);
-                    self.row(alloc, work.row, scratch)
+                    scratch.replace_recycled_vectors(work.room);
+                    self.compute_row(alloc, work.row, scratch)
                 },
             )
             .collect::<Result<Vec<TileRow>, AllocError>>(rt, alloc)??;
-        Ok(Tiles { rows })
+        Ok(StageTiles { rows })
     }
 }

@@ -6,10 +6,10 @@ ghost use Rattle.job.specs.Kept.{pipeline_in};
 ghost use Rattle.job.specs.ReadViews.{read_view};
 ghost use Rattle.job.specs.Views.{stage_view};
 ghost use Rattle.tile_run.specs.Uses.{last_of, is_used, reads_turn, HasLasts};
-ghost use Rattle.tile_run.specs.declared.turn.Turn.TheVariants.{Answer};
+ghost use Rattle.tile_run.specs.declared.phase.Phase.TheVariants.{Answer};
 ghost use Rattle.tile_run.specs.inside.Lasting.{read_in, all_read_in, with_reads, HasLastsFrom};
 
-use crate::turn::Turn;
+use crate::phase::Phase;
 use grouping::{Schedule, last_rank};
 use job::{Job, Read, Stage, StageKind};
 use std::alloc::{AllocError, Global};
@@ -17,42 +17,42 @@ use tile_eval::stage_of;
 
 /// For each stage of a job the phase in which it is read for the last time.
 #[derive(Drop)]
-pub struct Uses {
-    pub(crate) lasts: Vec<Turn>,
+pub struct LastReads {
+    pub(crate) lasts: Vec<Phase>,
 }
 
 // Records that a stage is read in this phase.
-fn read_in(lasts: &mut [Turn], stage: usize, turn: Turn)
+fn record_read(lasts: &mut [Phase], stage: usize, turn: Phase)
     ensures { lasts.new ≡ read_in turn lasts.old stage }
 {
     if stage < lasts.len() {
-        lasts[stage] = lasts[stage].later(turn);
+        lasts[stage] = lasts[stage].choose_later_phase(turn);
     }
 }
 
 // Records that all of these are read in this phase.
-fn all_read_in(lasts: &mut [Turn], reads: &[Read], turn: Turn)
+fn record_reads(lasts: &mut [Phase], reads: &[Read], turn: Phase)
     ensures { lasts.new ≡ all_read_in turn lasts.old (map read_view reads.now) }
 {
     for read in reads {
-        read_in(lasts, stage_of(read), turn);
+        record_read(lasts, stage_of(read), turn);
     }
 }
 
-impl Uses {
+impl LastReads {
     /// Each stage is kept for the answer.
     ///
     /// # Errors
     ///
     /// Fails only where memory is refused.
-    pub(crate) fn all(alloc: Global, job: &Job) -> Result<Uses, AllocError>
+    pub(crate) fn from_job(alloc: Global, job: &Job) -> Result<LastReads, AllocError>
         ensures lasts { IfOk result (λ uses. (inlining : List Bool)
             → HasLasts (pipeline_in job.now) inlining uses.lasts.items) }
         ensures each { IfOk result (λ uses. (g : ℕ)
             → g < length (pipeline_in job.now).stages → last_of uses.lasts.items g ≡ Answer) }
     {
-        Ok(Uses {
-            lasts: vec![in alloc; Turn::Answer; job.stages().len()]?,
+        Ok(LastReads {
+            lasts: vec![in alloc; Phase::Answer; job.stages().len()]?,
         })
     }
 
@@ -62,74 +62,84 @@ impl Uses {
     /// # Errors
     ///
     /// Fails only where memory is refused.
-    pub fn of(alloc: Global, job: &Job, schedule: &Schedule) -> Result<Uses, AllocError>
+    pub fn from_schedule(
+        alloc: Global,
+        job: &Job,
+        schedule: &Schedule,
+    ) -> Result<LastReads, AllocError>
         ensures { IfOk result (λ uses. HasLasts (pipeline_in job.now) schedule.now.inlining
             uses.lasts.items) }
     {
         let last = last_rank(job.stages());
-        let mut uses = Uses {
-            lasts: vec![in alloc; Turn::Never; job.stages().len()]?,
+        let mut uses = LastReads {
+            lasts: vec![in alloc; Phase::Never; job.stages().len()]?,
         };
         for back in 0..last {
-            uses.add_rank(job, schedule, last - back);
+            uses.record_rank_reads(job, schedule, last - back);
         }
-        uses.add_rank(job, schedule, 0);
+        uses.record_rank_reads(job, schedule, 0);
         Ok(uses)
     }
 
     /// When a stage is read for the last time.
-    pub fn last(&self, stage: usize) -> Turn
+    pub fn find_last_phase(&self, stage: usize) -> Phase
         ensures { result ≡ last_of self.now.lasts.items stage }
     {
-        self.lasts.get(stage).copied().unwrap_or(Turn::Never)
+        self.lasts.get(stage).copied().unwrap_or(Phase::Never)
     }
 
     /// Whether a stage is read by any other that is made.
     pub fn is_used(&self, stage: usize) -> bool
         ensures { result ≡ is_used self.now.lasts.items stage }
     {
-        match self.last(stage) {
-            Turn::Never => false,
-            Turn::Rank(_) | Turn::Answer => true,
+        match self.find_last_phase(stage) {
+            Phase::Never => false,
+            Phase::Rank(_) | Phase::Answer => true,
         }
     }
 
     // The phase in which a stage reads for the last time.
-    fn reads_turn(&self, job: &Job, schedule: &Schedule, number: usize, stage: &Stage) -> Turn
+    fn find_reading_phase(
+        &self,
+        job: &Job,
+        schedule: &Schedule,
+        number: usize,
+        stage: &Stage,
+    ) -> Phase
         ensures { result ≡ reads_turn (pipeline_in job.now) schedule.now.inlining
             self.now.lasts.items number (stage_view stage.now) }
     {
         if schedule.inlined(number) {
-            return self.last(number);
+            return self.find_last_phase(number);
         }
         match stage.kind() {
-            StageKind::Plane => Turn::Never,
-            StageKind::Function if self.is_used(number) => Turn::Rank(stage.rank()),
-            StageKind::Function if !job.is_output(number) => Turn::Never,
-            StageKind::Function | StageKind::Accumulator => Turn::Answer,
+            StageKind::Plane => Phase::Never,
+            StageKind::Function if self.is_used(number) => Phase::Rank(stage.rank()),
+            StageKind::Function if !job.is_output(number) => Phase::Never,
+            StageKind::Function | StageKind::Accumulator => Phase::Answer,
         }
     }
 
     // Records the reads of a stage.
-    fn add_reads(&mut self, job: &Job, schedule: &Schedule, number: usize)
+    fn record_stage_reads(&mut self, job: &Job, schedule: &Schedule, number: usize)
         ensures { self.new.lasts.items
             ≡ with_reads (pipeline_in job.now) schedule.now.inlining self.old.lasts.items number }
     {
         if let Some(stage) = job.stage(number) {
-            let turn = self.reads_turn(job, schedule, number, stage);
-            all_read_in(&mut self.lasts, stage.reads(), turn);
+            let turn = self.find_reading_phase(job, schedule, number, stage);
+            record_reads(&mut self.lasts, stage.reads(), turn);
         }
     }
 
     // Records the reads of all stages of a rank, after those of greater ranks.
-    fn add_rank(&mut self, job: &Job, schedule: &Schedule, rank: usize)
+    fn record_rank_reads(&mut self, job: &Job, schedule: &Schedule, rank: usize)
         requires { HasLastsFrom (pipeline_in job.now) schedule.now.inlining (rank + 1)
             self.old.lasts.items }
         ensures { HasLastsFrom (pipeline_in job.now) schedule.now.inlining rank self.new.lasts.items }
     {
         for number in 0..job.stages().len() {
             if job.rank(number) == Some(rank) {
-                self.add_reads(job, schedule, number);
+                self.record_stage_reads(job, schedule, number);
             }
         }
     }

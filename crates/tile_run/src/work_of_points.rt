@@ -10,44 +10,46 @@ ghost use Rattle.tile_run.specs.PointWork.{work_in, work_of_case, work_of_other,
 use job::{Body, Factors, Formula, JobCase, Stage};
 
 /// How much work a point of a stage is: the reads, operators and kernel factors of its formulas, and one for writing it.
-pub fn point_work(stage: &Stage) -> u64
+pub fn count_point_work(stage: &Stage) -> u64
     ensures { result ≡ min (work_of (stage_view stage.now).body + 1) (2 ^ 64 - 1) }
 {
-    work_of(stage.body()).saturating_add(1)
+    count_body_work(stage.body()).saturating_add(1)
 }
 
-fn work_of(body: &Body) -> u64
+fn count_body_work(body: &Body) -> u64
     ensures { result ≡ min (work_of (body_view body.now)) (2 ^ 64 - 1) }
 {
     match body {
         Body::Plane(_) => 0,
         Body::Function(given) => {
-            work_of_cases(given.cases()).saturating_add(work_of_other(given.otherwise()))
+            count_cases_work(given.cases()).saturating_add(count_otherwise_work(given.otherwise()))
         }
-        Body::Accumulator(given) => work_in(given.value()).saturating_add(work_in(given.bin())),
+        Body::Accumulator(given) => count_formula_work(given.value()).saturating_add(
+            count_formula_work(given.bin()),
+        ),
     }
 }
 
-fn work_of_other(formula: &Option<Formula>) -> u64
+fn count_otherwise_work(formula: &Option<Formula>) -> u64
     ensures { result ≡ min (work_of_other (option_map formula_view formula.now)) (2 ^ 64 - 1) }
 {
     match formula {
-        Some(formula) => work_in(formula),
+        Some(formula) => count_formula_work(formula),
         None => 0,
     }
 }
 
-fn work_of_cases(cases: &[JobCase]) -> u64
+fn count_cases_work(cases: &[JobCase]) -> u64
     ensures { result ≡ min (sum (map work_of_case (map case_view cases.now))) (2 ^ 64 - 1) }
 {
     let mut work = 0u64;
     for case in cases {
-        work = work.saturating_add(work_in(case.formula()));
+        work = work.saturating_add(count_formula_work(case.formula()));
     }
     work
 }
 
-fn work_in(formula: &Formula) -> u64
+fn count_formula_work(formula: &Formula) -> u64
     ensures { result ≡ min (work_in (formula_view formula.now)) (2 ^ 64 - 1) }
 {
     match formula {
@@ -55,26 +57,26 @@ fn work_in(formula: &Formula) -> u64
         Formula::Read(_, _, _) => 1,
         Formula::Unary(_, operand)
         | Formula::Lookup(_, operand)
-        | Formula::Literal(_, operand, _) => work_in(operand).saturating_add(1),
+        | Formula::Literal(_, operand, _) => count_formula_work(operand).saturating_add(1),
         Formula::Binary(_, left, right) => {
-            work_in(left)
-                .saturating_add(work_in(right))
+            count_formula_work(left)
+                .saturating_add(count_formula_work(right))
                 .saturating_add(1)
         }
-        Formula::Ternary(_, first, second, third) => work_in(first)
-            .saturating_add(work_in(second))
-            .saturating_add(work_in(third))
+        Formula::Ternary(_, first, second, third) => count_formula_work(first)
+            .saturating_add(count_formula_work(second))
+            .saturating_add(count_formula_work(third))
             .saturating_add(1),
-        Formula::Select(left, _, right, then, otherwise) => work_in(left)
-            .saturating_add(work_in(right))
-            .saturating_add(work_in(then))
-            .saturating_add(work_in(otherwise))
+        Formula::Select(left, _, right, then, otherwise) => count_formula_work(left)
+            .saturating_add(count_formula_work(right))
+            .saturating_add(count_formula_work(then))
+            .saturating_add(count_formula_work(otherwise))
             .saturating_add(1),
-        Formula::Stencil(_, _, kernel) => factors(kernel.as_slice()),
+        Formula::Stencil(_, _, kernel) => count_kernel_factors(kernel.as_slice()),
     }
 }
 
-fn factors(kernel: &[Factors]) -> u64
+fn count_kernel_factors(kernel: &[Factors]) -> u64
     ensures { result ≡ min (factors kernel.now) (2 ^ 64 - 1) }
 {
     let mut count = 0u64;

@@ -1,19 +1,19 @@
 //! What a tile reads: samples of planes, converted once where they are read often, and numbers of supplied tiles.
 #![tactic(auto)]
 
-mod given_rows;
-mod known;
-mod parts;
+mod plane_buffer;
+mod plane_buffers;
 mod plane_reads;
+mod ranges;
 mod samples;
-mod tiles_of_stage;
-mod wide_plane;
-mod wide_planes;
+mod supplied_rows;
+mod supplied_tiles;
+mod tile_source;
 
-pub use given_rows::lend_given_row;
-pub use known::Known;
-pub use parts::part_of;
-pub use plane_reads::{PlaneAreas, plane_areas};
-pub use samples::{plane_gather, plane_row, plane_sample};
-pub use tiles_of_stage::TilesOfStage;
-pub use wide_planes::WidePlanes;
+pub use plane_buffers::PlaneBuffers;
+pub use plane_reads::{PlaneAreas, find_plane_areas};
+pub use ranges::borrow_range;
+pub use samples::{gather_plane_row, read_plane_row, read_plane_sample};
+pub use supplied_rows::borrow_supplied_row_part;
+pub use supplied_tiles::SuppliedTiles;
+pub use tile_source::TileSource;

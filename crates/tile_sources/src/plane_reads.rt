@@ -22,7 +22,7 @@ struct PlaneReads {
 }
 
 impl PlaneReads {
-    fn none() -> PlaneReads {
+    fn new() -> PlaneReads {
         PlaneReads {
             samples: 0,
             area: None,
@@ -30,7 +30,7 @@ impl PlaneReads {
     }
 
     // Adds `samples` samples, over this area.
-    fn with(&self, samples: u64, area: Area) -> PlaneReads {
+    fn count_samples(&self, samples: u64, area: Area) -> PlaneReads {
         let area = match self.area {
             Some(own) => own.hull(&area),
             None => area,
@@ -43,7 +43,7 @@ impl PlaneReads {
 
     // The area, if it has no more points than this, and its samples are read twice or more on average. A kernel of three rows
     // does so: its samples lie in a somewhat larger area than its points.
-    fn wide_area(&self, most: u64) -> Option<Area> {
+    fn find_area_to_convert(&self, most: u64) -> Option<Area> {
         let area = self.area?;
         if area.points() <= most.min(self.samples / 2) {
             Some(area)
@@ -54,7 +54,7 @@ impl PlaneReads {
 }
 
 // What an index takes the numbers of a span to, if the span lies near enough to 0.
-fn image_of(index: &Index, span: &Span) -> Option<Span> {
+fn map_span_by_index(index: &Index, span: &Span) -> Option<Span> {
     if -32_767 <= span.lo() && span.hi() <= 32_768 {
         Some(index.image(span))
     } else {
@@ -62,28 +62,34 @@ fn image_of(index: &Index, span: &Span) -> Option<Span> {
     }
 }
 
-fn image_of_point(row: &Index, col: &Index, region: &Area) -> Option<Area> {
-    let rows = image_of(row, &region.rows)?;
-    let cols = image_of(col, &region.cols)?;
+fn map_region_by_indices(row: &Index, col: &Index, region: &Area) -> Option<Area> {
+    let rows = map_span_by_index(row, &region.rows)?;
+    let cols = map_span_by_index(col, &region.cols)?;
     Some(Area { rows, cols })
 }
 
 // A span with `by` more numbers on each side.
-fn widened(span: &Span, by: usize) -> Option<Span> {
+fn expand_span(span: &Span, by: usize) -> Option<Span> {
     let by = by.min(7) as i32;
     Span::new(span.lo() - by, span.hi() + by)
 }
 
-fn image_of_kernel(kernel: &Kernel, region: &Area) -> Option<Area> {
+fn expand_region_by_kernel(kernel: &Kernel, region: &Area) -> Option<Area> {
     let lines = kernel.as_slice();
     let width = lines.first()?.as_slice().len();
-    let rows = widened(&region.rows, lines.len() / 2)?;
-    let cols = widened(&region.cols, width / 2)?;
+    let rows = expand_span(&region.rows, lines.len() / 2)?;
+    let cols = expand_span(&region.cols, width / 2)?;
     Some(Area { rows, cols })
 }
 
 // Adds reads of a stage, if it is a plane: of `samples` samples, over this area of its domain.
-fn add_reads(job: &Job, reads: &mut [PlaneReads], stage: usize, samples: u64, area: Option<Area>) {
+fn record_plane_reads(
+    job: &Job,
+    reads: &mut [PlaneReads],
+    stage: usize,
+    samples: u64,
+    area: Option<Area>,
+) {
     let (Some(found), Some(area)) = (job.stage(stage), area) else {
         return;
     };
@@ -91,92 +97,98 @@ fn add_reads(job: &Job, reads: &mut [PlaneReads], stage: usize, samples: u64, ar
         return;
     };
     if *plane < reads.len() {
-        reads[*plane] = reads[*plane].with(samples, within);
+        reads[*plane] = reads[*plane].count_samples(samples, within);
     }
 }
 
 // Adds the reads of a formula over a region. One that takes columns that are not adjacent is left out.
-fn add_formula(job: &Job, reads: &mut [PlaneReads], formula: &Formula, region: &Area) {
+fn record_formula_reads(job: &Job, reads: &mut [PlaneReads], formula: &Formula, region: &Area) {
     match formula {
         Formula::Number(_) | Formula::Coordinate(_) => {}
         Formula::Read(stage, row, col) => {
             if col.mul() == 1 && col.div() == 1 {
-                let area = image_of_point(row, col, region);
-                add_reads(job, reads, *stage, region.points(), area);
+                let area = map_region_by_indices(row, col, region);
+                record_plane_reads(job, reads, *stage, region.points(), area);
             }
         }
         Formula::Unary(_, a) | Formula::Lookup(_, a) | Formula::Literal(_, a, _) => {
-            add_formula(job, reads, a, region);
+            record_formula_reads(job, reads, a, region);
         }
         Formula::Binary(_, a, b) => {
-            add_formula(job, reads, a, region);
-            add_formula(job, reads, b, region);
+            record_formula_reads(job, reads, a, region);
+            record_formula_reads(job, reads, b, region);
         }
         Formula::Ternary(_, a, b, c) => {
-            add_formula(job, reads, a, region);
-            add_formula(job, reads, b, region);
-            add_formula(job, reads, c, region);
+            record_formula_reads(job, reads, a, region);
+            record_formula_reads(job, reads, b, region);
+            record_formula_reads(job, reads, c, region);
         }
         Formula::Select(a, _, b, first, second) => {
-            add_formula(job, reads, a, region);
-            add_formula(job, reads, b, region);
-            add_formula(job, reads, first, region);
-            add_formula(job, reads, second, region);
+            record_formula_reads(job, reads, a, region);
+            record_formula_reads(job, reads, b, region);
+            record_formula_reads(job, reads, first, region);
+            record_formula_reads(job, reads, second, region);
         }
         Formula::Stencil(stage, _, kernel) => {
             let samples = region
                 .points()
                 .saturating_mul(kernel.as_slice().len() as u64);
-            add_reads(job, reads, *stage, samples, image_of_kernel(kernel, region));
+            record_plane_reads(
+                job,
+                reads,
+                *stage,
+                samples,
+                expand_region_by_kernel(kernel, region),
+            );
         }
     }
 }
 
-fn add_case(job: &Job, reads: &mut [PlaneReads], case: &JobCase, region: &Area) {
+fn record_case_reads(job: &Job, reads: &mut [PlaneReads], case: &JobCase, region: &Area) {
     if let Some(area) = case.area() {
         if let Some(common) = area.meet(region) {
-            add_formula(job, reads, case.formula(), &common);
+            record_formula_reads(job, reads, case.formula(), &common);
         }
     }
 }
 
-fn add_function(job: &Job, reads: &mut [PlaneReads], function: &Function, region: &Area) {
+fn record_function_reads(job: &Job, reads: &mut [PlaneReads], function: &Function, region: &Area) {
     for case in function.cases() {
-        add_case(job, reads, case, region);
+        record_case_reads(job, reads, case, region);
     }
     if let Some(formula) = function.otherwise() {
-        add_formula(job, reads, formula, region);
+        record_formula_reads(job, reads, formula, region);
     }
 }
 
 // Adds the reads of a step.
-fn add_step(job: &Job, reads: &mut [PlaneReads], step: &Step) {
+fn record_step_reads(job: &Job, reads: &mut [PlaneReads], step: &Step) {
     let Some(found) = job.stage(step.stage) else {
         return;
     };
     match found.body() {
         Body::Plane(_) => {}
-        Body::Function(function) => add_function(job, reads, function, &step.area),
+        Body::Function(function) => record_function_reads(job, reads, function, &step.area),
         Body::Accumulator(accumulator) => {
-            add_formula(job, reads, accumulator.value(), &step.area);
-            add_formula(job, reads, accumulator.bin(), &step.area);
+            record_formula_reads(job, reads, accumulator.value(), &step.area);
+            record_formula_reads(job, reads, accumulator.bin(), &step.area);
         }
     }
 }
 
 /// Of each plane the area over which these steps read its samples. There is one if they read them repeatedly, row by row,
 /// and it has no more points than four times the largest step.
-pub fn plane_areas(job: &Job, steps: &[Step]) -> PlaneAreas {
-    let mut reads = [PlaneReads::none(); 3];
+pub fn find_plane_areas(job: &Job, steps: &[Step]) -> PlaneAreas {
+    let mut reads = [PlaneReads::new(); 3];
     let mut largest = 0;
     for step in steps {
-        add_step(job, &mut reads, step);
+        record_step_reads(job, &mut reads, step);
         largest = step.area.points().max(largest);
     }
     let most = largest.saturating_mul(4);
     PlaneAreas {
-        first: reads[0].wide_area(most),
-        second: reads[1].wide_area(most),
-        third: reads[2].wide_area(most),
+        first: reads[0].find_area_to_convert(most),
+        second: reads[1].find_area_to_convert(most),
+        third: reads[2].find_area_to_convert(most),
     }
 }

@@ -3,4 +3,4 @@
 
 mod copies;
 
-pub use copies::{copies_of, fact_alone};
+pub use copies::{copy_updates, wrap_fact};

@@ -4,7 +4,7 @@ use Rattle.std.specs.List.{flat_map}
 use Rattle.std.specs.Prelude.{reverse}
 use Rattle.std.proofs.lemmas.List.{append-nil, take_all}
 use Rattle.gossip_core.specs.Histories.{Leads}
-use Rattle.gossip_core.specs.Steps.{Work}
+use Rattle.gossip_core.specs.Steps.{WorldWork}
 use Rattle.gossip_events.specs.declared.event.Event.{Event}
 use Rattle.worlds.specs.Worlds.{RunsOn, WorldView}
 use Rattle.world_commands.specs.WorldLines.{count_line, node_lines}
@@ -16,7 +16,7 @@ use Rattle.world_commands.specs.inside.Outcomes.{held_line}
 all_gone : (events : List Event) (done : ℕ) → done ≡ length events → take done events ≡ events
 all_gone events done all = let long : length events ≤ done = omega (arith, all) in take_all done events long
 
-pub run_outcome : (u : Work) (size : ℕ) (events : List Event) (w : WorldView) (done refused : ℕ) (nodes : List NodeContents) → w.work ≡ u
+pub run_outcome : (u : WorldWork) (size : ℕ) (events : List Event) (w : WorldView) (done refused : ℕ) (nodes : List NodeContents) → w.work ≡ u
     → RunsOn w size [] [] (take done events) refused → done ≡ length events → flat_map held_line nodes ≡ node_lines size w.network
     → IsOutcome u size events (count_line done refused ++ flat_map held_line nodes)
 run_outcome u size events w done refused nodes same ran all lines =
@@ -25,7 +25,7 @@ run_outcome u size events w done refused nodes same ran all lines =
       accepted = ran.later;
       world = w.network;
       leads =
-          subst (λ (v : Work). Leads v size (reverse events) ran.later w.network) same
+          subst (λ (v : WorldWork). Leads v size (reverse events) ran.later w.network) same
           (subst (λ (h : List Event). Leads w.work size h ran.later w.network) (append-nil (reverse (take done events)) ∙ ap reverse gone)
           ran.leads);
       refused = refused;

@@ -4,14 +4,14 @@ use Rattle.domains.specs.Sides.{Sides}
 use Rattle.gossip_events.specs.ScriptFaults.{IsScriptFault}
 use Rattle.gossip_events.specs.declared.fault.ScriptFault.{ScriptFault}
 use Rattle.gossip_events.specs.declared.fault.ScriptFault.TheVariants as scripts
-use Rattle.inputs.specs.Faults.{IsFaultAround}
-use Rattle.inputs.specs.Giving.{Given}
-use Rattle.inputs.specs.Input.{IsInputAround}
-use Rattle.inputs.specs.Told.{told_script}
-use Rattle.inputs.specs.declared.faults.StreamFault.{StreamFault}
-use Rattle.inputs.specs.declared.faults.StreamFault.TheVariants as faults
+use Rattle.command_inputs.specs.Faults.{IsFaultAround}
+use Rattle.command_inputs.specs.Giving.{Given}
+use Rattle.command_inputs.specs.Input.{IsInputAround}
+use Rattle.command_faults.specs.StepFaults.{fault_at_script}
+use Rattle.command_faults.specs.declared.faults.StreamFault.{StreamFault}
+use Rattle.command_faults.specs.declared.faults.StreamFault.TheVariants as faults
 use Rattle.job.specs.Pipeline.{Pipeline}
-use Rattle.one_job.specs.Alone.{catalog_of}
+use Rattle.command_inputs.specs.JobCatalog.{catalog_of}
 use Rattle.pipe_tree.specs.Tree.{Declaration}
 use Rattle.world_commands.specs.WorldFaults.{IsWorldFault}
 
@@ -37,7 +37,7 @@ world_fault_around input given sides faults.Write is = is
 pub script_fault : (input script : List ℕ) (given : List Given) (sides : Sides) (tree : List Declaration) (job : Pipeline)
     (f : ScriptFault)
     → IsInputAround input given sides tree job script → IsScriptFault (catalog_of tree job) script f
-    → IsWorldFault input given sides (told_script f)
+    → IsWorldFault input given sides (fault_at_script f)
 script_fault input script given sides tree job (scripts.BadLine n) around is =
     record { tree = tree; job = job; script = script; around = around; faulty = is; told = λ e. cc }
 script_fault input script given sides tree job (scripts.NoSuchJob n) around is =

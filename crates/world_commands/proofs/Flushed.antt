@@ -3,8 +3,8 @@ use Rattle.std.proofs.Common.{◌≡◌, ◌++◌, ℕ, List, [], Option, Result
 use Rattle.std.specs.Prelude.{IsErr, OnErr}
 use Rattle.std.specs.Io.KnownBytes.{Appends}
 use Rattle.streams.specs.Streams.{AppendsPart, CountsFailure}
-use Rattle.inputs.proofs.Taken.{takes_err, takes_of}
-use Rattle.inputs.specs.Taking.{Takes}
+use Rattle.command_faults.proofs.Taken.{takes_err, takes_of}
+use Rattle.command_faults.specs.Taking.{Takes}
 use Rattle.write_buffer.proofs.PassingLaws.{part_out, whole_out}
 use Rattle.write_buffer.specs.Passing.{Breaks, Passes}
 

@@ -4,7 +4,7 @@ use Rattle.std.proofs.lemmas.List.{map_push, take_more}
 use Rattle.std.proofs.lemmas.Option.{get_or_from_slice_get, slice_get_within}
 use Rattle.catalog.specs.Entries.{Entry}
 use Rattle.grouping.specs.Inlining.{Inlining}
-use Rattle.one_job.specs.Asked.{inlining_asked}
+use Rattle.command_jobs.specs.RequestedSchedule.{requested_inlining}
 use Rattle.world_commands.specs.WorldSayings.{inlinings}
 
 abbrev pub taken_of : List Inlining → List (List Bool)
@@ -12,10 +12,10 @@ taken_of = map (λ (s : Inlining). s.inlining)
 
 pub schedule_more : (stored : Bool) (percent : ℕ) (jobs : List Entry) (i : ℕ) (entry : Entry) (before now : List Inlining) (s : Inlining)
     → taken_of before ≡ inlinings stored percent (take i jobs) → Some entry ≡ slice_get jobs i
-    → s.inlining ≡ inlining_asked stored percent entry.pipeline → now ≡ before ++ s ∷ []
+    → s.inlining ≡ requested_inlining stored percent entry.pipeline → now ≡ before ++ s ∷ []
     → taken_of now ≡ inlinings stored percent (take (i + 1) jobs)
 schedule_more stored percent jobs i entry before now s was there asked is =
-    let asks = λ (e : Entry). inlining_asked stored percent e.pipeline in
+    let asks = λ (e : Entry). requested_inlining stored percent e.pipeline in
     let here = sym there in
     let front : take (i + 1) jobs ≡ take i jobs ++ entry ∷ [] =
     take_more jobs i entry (slice_get_within jobs i entry here)

@@ -4,14 +4,14 @@ use Rattle.domains.specs.Sides.{Sides}
 use Rattle.gossip_events.specs.ScriptFaults.{IsScriptFault}
 use Rattle.gossip_events.specs.declared.fault.ScriptFault.{ScriptFault}
 use Rattle.gossip_events.specs.declared.fault.ScriptFault.TheVariants as scripts
-use Rattle.inputs.specs.Faults.{IsFaultAround}
-use Rattle.inputs.specs.Giving.{Given}
-use Rattle.inputs.specs.Input.{IsInputAround}
-use Rattle.inputs.specs.Outcomes.{Refusing}
-use Rattle.inputs.specs.declared.faults.StreamFault.{StreamFault}
-use Rattle.inputs.specs.declared.faults.StreamFault.TheVariants.{Script}
+use Rattle.command_inputs.specs.Faults.{IsFaultAround}
+use Rattle.command_inputs.specs.Giving.{Given}
+use Rattle.command_inputs.specs.Input.{IsInputAround}
+use Rattle.command_outcomes.specs.Outcomes.{Refusing}
+use Rattle.command_faults.specs.declared.faults.StreamFault.{StreamFault}
+use Rattle.command_faults.specs.declared.faults.StreamFault.TheVariants.{Script}
 use Rattle.job.specs.Pipeline.{Pipeline}
-use Rattle.one_job.specs.Alone.{catalog_of}
+use Rattle.command_inputs.specs.JobCatalog.{catalog_of}
 use Rattle.pipe_tree.specs.Tree.{Declaration}
 
 -- the first faulty line of the script, if the program and the picture have a job at the values that are given

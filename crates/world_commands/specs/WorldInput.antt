@@ -4,11 +4,11 @@ use Rattle.catalog.specs.Entries.{Entry}
 use Rattle.domains.specs.Sides.{Sides}
 use Rattle.gossip_events.specs.Scripts.{AreEvents, lines}
 use Rattle.gossip_events.specs.declared.event.Event.{Event}
-use Rattle.inputs.specs.Giving.{Given}
-use Rattle.inputs.specs.Input.{IsInputAround}
+use Rattle.command_inputs.specs.Giving.{Given}
+use Rattle.command_inputs.specs.Input.{IsInputAround}
 use Rattle.job.specs.Pipeline.{Pipeline}
 use Rattle.job.specs.WellFormed.{IsJob}
-use Rattle.one_job.specs.Alone.{catalog_of}
+use Rattle.command_inputs.specs.JobCatalog.{catalog_of}
 use Rattle.pipe_tree.specs.Tree.{Declaration}
 
 -- the input is a program of this tree, a script and a picture; the job is the program's and the picture's, and the script

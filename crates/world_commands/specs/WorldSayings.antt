@@ -4,29 +4,29 @@ use Rattle.catalog.specs.Entries.{Entry}
 use Rattle.command_line.specs.declared.options.Options.{Options}
 use Rattle.gossip_core.specs.Histories.{Leads}
 use Rattle.gossip_core.specs.Networks.{Network}
-use Rattle.gossip_core.specs.Steps.{Work}
+use Rattle.gossip_core.specs.Steps.{WorldWork}
 use Rattle.gossip_events.specs.declared.event.Event.{Event}
-use Rattle.inputs.specs.Giving.{Given}
-use Rattle.inputs.specs.Outcomes.{Saying}
+use Rattle.command_inputs.specs.Giving.{Given}
+use Rattle.command_outcomes.specs.Outcomes.{Saying}
 use Rattle.job.specs.Pipeline.{Pipeline}
 use Rattle.job.specs.WellFormed.{IsJob}
-use Rattle.one_job.specs.Alone.{catalog_of}
-use Rattle.one_job.specs.Asked.{inlining_asked}
+use Rattle.command_inputs.specs.JobCatalog.{catalog_of}
+use Rattle.command_jobs.specs.RequestedSchedule.{requested_inlining}
 use Rattle.pipe_tree.specs.Tree.{Declaration}
 use Rattle.world_commands.specs.WorldInput.{IsInputWorld}
 use Rattle.world_commands.specs.WorldLines.{world_lines}
 
 -- which functions of each job are inlined
 abbrev pub inlinings : Bool → ℕ → List Entry → List (List Bool)
-inlinings stored percent jobs = map (λ entry. inlining_asked stored percent entry.pipeline) jobs
+inlinings stored percent jobs = map (λ entry. requested_inlining stored percent entry.pipeline) jobs
 
 -- the work of so many nodes, which all inline the same functions
-abbrev pub work_of : ℕ → Bool → ℕ → List Entry → Work
+abbrev pub work_of : ℕ → Bool → ℕ → List Entry → WorldWork
 work_of size stored percent jobs = record { jobs = jobs; schedules = replicate size (inlinings stored percent jobs) }
 
 -- All events were processed, and led from nodes that hold nothing to this world. Those that were not accepted were refused. The
 -- bytes report the world.
-pub record IsOutcome (u : Work) (size : ℕ) (events : List Event) (bytes : List ℕ) : Type 0 where
+pub record IsOutcome (u : WorldWork) (size : ℕ) (events : List Event) (bytes : List ℕ) : Type 0 where
   pub accepted : List Event
   pub world : Network
   pub leads : Leads u size (reverse events) accepted world

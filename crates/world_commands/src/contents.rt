@@ -4,7 +4,7 @@ ghost use Rattle.fact_lines.specs.Written.{AreCounts};
 ghost use Rattle.node_state.specs.States.{facts_in, retired_in};
 ghost use Rattle.std.specs.Prelude.{◌≡◌, IfOk};
 
-use fact_lines::{Counts, counts_of};
+use fact_lines::{FileCounts, count_contents};
 use identity::Ids;
 use node_state::NodeState;
 use std::alloc::{AllocError, Global};
@@ -16,20 +16,24 @@ pub struct NodeContents {
     pub node: u8,
     pub retired: Vec<Ids>,
     pub facts: Vec<Fact>,
-    pub counts: Counts,
+    pub counts: FileCounts,
     ghost counted: { AreCounts counts retired.items facts.items },
 }
 
 impl NodeContents {
     /// What the state of a node has. If a file cannot count so many jobs or facts, it fails as if memory ran out.
-    pub fn of(alloc: Global, node: u8, state: &NodeState) -> Result<NodeContents, AllocError>
+    pub fn from_state(
+        alloc: Global,
+        node: u8,
+        state: &NodeState,
+    ) -> Result<NodeContents, AllocError>
         ensures node { IfOk result (λ contents. contents.node ≡ node) }
         ensures retired { IfOk result (λ contents. contents.retired.items ≡ retired_in state.now) }
         ensures facts { IfOk result (λ contents. contents.facts.items ≡ facts_in state.now) }
     {
         let retired = state.retired().to_vec(alloc)?;
-        let facts = state.held().facts()?;
-        match counts_of(&retired, &facts) {
+        let facts = state.held().list_facts()?;
+        match count_contents(&retired, &facts) {
             Some(counts) => Ok(NodeContents {
                 node,
                 retired,

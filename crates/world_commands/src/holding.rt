@@ -11,7 +11,7 @@ use std::alloc::{AllocError, Global};
 use worlds::World;
 
 /// What each of so many nodes holds.
-pub fn held_by(
+pub fn collect_contents(
     alloc: Global,
     nodes: NodeCount,
     world: &World,
@@ -23,7 +23,7 @@ pub fn held_by(
     let mut held = Vec::new(alloc);
     for node in 0..nodes.get() {
         match world.node(node) {
-            Some(state) => held.push(NodeContents::of(alloc, node, state)?)?,
+            Some(state) => held.push(NodeContents::from_state(alloc, node, state)?)?,
             None => unreachable!(),
         }
     }

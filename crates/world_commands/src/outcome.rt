@@ -6,13 +6,13 @@ ghost use Rattle.world_commands.specs.WorldFaults.{IsWorldFault};
 ghost use Rattle.world_commands.specs.WorldSayings.{IsOutcome, IsSaidOfWorld};
 ghost use Rattle.world_commands.specs.inside.Outcomes.{outcome_lines};
 
-use crate::begun::begin;
 use crate::contents::NodeContents;
-use crate::holding::held_by;
-use crate::world_input::world_of;
+use crate::holding::collect_contents;
+use crate::start::begin;
+use crate::world_input::read_world;
+use command_faults::StreamFault;
 use command_line::{NodeCount, Options};
 use gossip_events::Event;
-use inputs::StreamFault;
 use std::alloc::{AllocError, Global};
 use worlds::World;
 
@@ -25,7 +25,7 @@ pub struct Outcome {
 }
 
 /// What becomes of so many nodes by the script of an input. The input is freed.
-pub fn outcome_of(
+pub fn compute_outcome(
     alloc: Global,
     nodes: NodeCount,
     options: &Options,
@@ -36,13 +36,13 @@ pub fn outcome_of(
         (outcome_lines outcome)) }
     ensures fault { IfErr result (IsWorldFault input.items given.now options.now.sides) }
 {
-    let (catalog, events) = world_of(alloc, options, given, input)?;
+    let (catalog, events) = read_world(alloc, options, given, input)?;
     let world = begin(alloc, nodes, options, catalog)?;
-    Ok(outcome_after(alloc, nodes, world, &events)?)
+    Ok(run_events(alloc, nodes, world, &events)?)
 }
 
 /// What becomes by the events of a world of so many nodes that hold nothing.
-fn outcome_after(
+fn run_events(
     alloc: Global,
     nodes: NodeCount,
     world: World,
@@ -60,6 +60,6 @@ fn outcome_after(
     Ok(Outcome {
         done: ran.done,
         refused: ran.refused,
-        nodes: held_by(alloc, nodes, &world)?,
+        nodes: collect_contents(alloc, nodes, &world)?,
     })
 }

@@ -1,14 +1,14 @@
 //! What became of a world, as lines.
 
 ghost use Rattle.std.specs.List.{flat_map};
-ghost use Rattle.inputs.specs.Taking.{Takes};
+ghost use Rattle.command_faults.specs.Taking.{Takes};
 ghost use Rattle.world_commands.specs.WorldLines.{count_line, node_head};
 ghost use Rattle.world_commands.specs.inside.Outcomes.{held_line, outcome_lines};
 ghost use Rattle.write_buffer.specs.Passing.{Puts};
 
 use crate::contents::NodeContents;
 use crate::outcome::Outcome;
-use fact_lines::put_line;
+use fact_lines::put_fact_line;
 use itoa::Buffer;
 use streams::{Sink, WriteFailed};
 use write_buffer::WriteBuffer;
@@ -68,7 +68,7 @@ fn put_node<W: Sink>(
         (W.failures writer.old) (W.failures writer.new) }
 {
     put_head(buffer, writer, node.node)?;
-    put_line(buffer, writer, &node.retired, &node.facts, node.counts)
+    put_fact_line(buffer, writer, &node.retired, &node.facts, node.counts)
 }
 
 fn put_head<W: Sink>(buffer: &mut WriteBuffer, writer: &mut W, node: u8) -> Result<(), WriteFailed>

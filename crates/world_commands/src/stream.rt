@@ -1,13 +1,14 @@
 //! The command `world` as it is run: from a reader to a writer.
 
-ghost use Rattle.inputs.specs.Outcomes.{CountsRead, CountsWritten, Writes};
+ghost use Rattle.command_outcomes.specs.Outcomes.{CountsRead, CountsWritten, Writes};
 ghost use Rattle.world_commands.specs.WorldFaults.{refusing_world};
 ghost use Rattle.world_commands.specs.WorldSayings.{saying_of_world};
 
-use crate::outcome::outcome_of;
+use crate::outcome::compute_outcome;
 use crate::outcome_lines::write_outcome;
+use command_faults::StreamFault;
 use command_line::{NodeCount, Options};
-use inputs::{StreamFault, read_input};
+use command_outcomes::read_input;
 use streams::{Sink, Source};
 
 /// Reads a program, a script and a picture, and processes the events of the script from so many nodes that hold nothing. It
@@ -35,6 +36,6 @@ pub fn world_stream<H: AllocGlobal, R: Source, W: Sink>(
     ensures write { CountsWritten result (W.failures writer.old) (W.failures writer.new) }
 {
     let input = read_input(rt.alloc(), reader)?;
-    let outcome = outcome_of(rt.alloc(), nodes, options, parameters, input)?;
+    let outcome = compute_outcome(rt.alloc(), nodes, options, parameters, input)?;
     Ok(write_outcome(&outcome, writer)?)
 }

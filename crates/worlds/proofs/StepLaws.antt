@@ -14,7 +14,7 @@ use Rattle.node_state.specs.Making.{IsMade, IsMakeFault}
 use Rattle.node_state.specs.States.{State, count_lacked, join, of_fact, of_retirement}
 use Rattle.tile_fact.specs.declared.fact.Fact.{Fact}
 use Rattle.gossip_core.specs.Networks.{Network, NodeStates, Sent}
-use Rattle.gossip_core.specs.Steps.{Accepts, CannotMake, HasNodes, IsDone, IsScheduleFor, IsStepFault, Makes, Refuses, Work, held}
+use Rattle.gossip_core.specs.Steps.{Accepts, CannotMake, HasNodes, IsDone, IsScheduleFor, IsStepFault, Makes, Refuses, WorldWork, held}
 use Rattle.gossip_core.specs.Steps.{no_states, nodes_of, states_at, with_message}
 use Rattle.gossip_core.specs.declared.done.Done.TheVariants as does
 use Rattle.gossip_core.specs.declared.fault.StepFault.TheVariants as faults
@@ -34,7 +34,7 @@ two_within m n size one other (suc zero) d inside = other
 two_within m n size one other (suc (suc k)) d inside = absurd (omega (arith, inside))
 
 -- an event of a node that is not there
-pub not_there : (u : Work) (v w : Network) (e : Event) (n : ℕ) → v ≡ w → Contains (nodes_of e) n → length v.nodes ≤ n
+pub not_there : (u : WorldWork) (v w : Network) (e : Event) (n : ℕ) → v ≡ w → Contains (nodes_of e) n → length v.nodes ≤ n
     → Refuses u w e w faults.NoSuchNode
 not_there u v w e n view named past = record {
   first = (named.0, n, named.1, named.2, subst (λ (x : Network). length x.nodes ≤ n) view past);
@@ -43,10 +43,10 @@ not_there u v w e n view named past = record {
 
 -- ---- schedules
 
-module _ (u v : Work) (view : v ≡ u) (n job : ℕ) (key : Key) (ids : Ids) (ids_are : ids ≡ ids_in key) (schedules : List (List Bool))
+module _ (u v : WorldWork) (view : v ≡ u) (n job : ℕ) (key : Key) (ids : Ids) (ids_are : ids ≡ ids_in key) (schedules : List (List Bool))
     (within : n < length u.schedules) (of_node : schedules ≡ get_or v.schedules n schedules) (stands : StandsAt v.jobs ids job) where
   node_has : slice_get v.schedules n ≡ Some schedules
-  node_has = slice_get-get_or v.schedules n schedules (subst (λ (x : Work). n < length x.schedules) (sym view) within) ∙ ap Some
+  node_has = slice_get-get_or v.schedules n schedules (subst (λ (x : WorldWork). n < length x.schedules) (sym view) within) ∙ ap Some
       (sym of_node)
 
   -- what is found is the schedule
@@ -54,7 +54,7 @@ module _ (u v : Work) (view : v ≡ u) (n job : ℕ) (key : Key) (ids : Ids) (id
       → IfSome o (λ s. IsScheduleFor u n key (f s))
   scheduled f None e = tt
   scheduled f (Some s) e =
-      subst (λ (x : Work). IsScheduleFor x n key (f s)) view (record {
+      subst (λ (x : WorldWork). IsScheduleFor x n key (f s)) view (record {
         job = job;
         there = subst (λ i. StandsAt v.jobs i job) ids_are stands;
         schedules = schedules;
@@ -74,7 +74,7 @@ module _ (u v : Work) (view : v ≡ u) (n job : ℕ) (key : Key) (ids : Ids) (id
 
 -- ---- making
 
-cannot_make : (u : Work) (w : Network) (n : ℕ) (key : Key) (fault : MakeFault) → CannotBeMade u n (held w n) key fault
+cannot_make : (u : WorldWork) (w : Network) (n : ℕ) (key : Key) (fault : MakeFault) → CannotBeMade u n (held w n) key fault
     → CannotMake u w n key fault
 cannot_make u w n key makes.Foreign h = h
 cannot_make u w n key makes.NoSuchTile h = h
@@ -85,7 +85,7 @@ cannot_make u w n key (makes.NeedMisshapen need) h = h
 cannot_make u w n key makes.Memory h = h
 cannot_make u w n key makes.Retired h = h
 
-cannot_be_made : (u : Work) (n : ℕ) (s : State) (key : Key) (inlining : List Bool) (fault : MakeFault) → IsScheduleFor u n key inlining
+cannot_be_made : (u : WorldWork) (n : ℕ) (s : State) (key : Key) (inlining : List Bool) (fault : MakeFault) → IsScheduleFor u n key inlining
     → IsMakeFault u.jobs s inlining key fault → CannotBeMade u n s key fault
 cannot_be_made u n s key inlining makes.Foreign schedule h = h
 cannot_be_made u n s key inlining makes.NoSuchTile schedule h = (inlining, schedule, h)
@@ -96,10 +96,10 @@ cannot_be_made u n s key inlining (makes.NeedMisshapen need) schedule h = (inlin
 cannot_be_made u n s key inlining makes.Memory schedule h = (inlining, schedule, h)
 cannot_be_made u n s key inlining makes.Retired schedule h = (inlining, schedule, h)
 
-makes_by : (u : Work) (w : Network) (n : ℕ) (key : Key) (fact : Fact) → IsMadeBy u n (held w n) key fact → Makes u w n key fact
+makes_by : (u : WorldWork) (w : Network) (n : ℕ) (key : Key) (fact : Fact) → IsMadeBy u n (held w n) key fact → Makes u w n key fact
 makes_by u w n key fact is = record { of_key = is.of_key; inlining = is.inlining; schedule = is.schedule; made = is.made }
 
-module _ (u v : Work) (view : v ≡ u) (n : ℕ) (s : State) (key : Key) (inlining : List Bool)
+module _ (u v : WorldWork) (view : v ≡ u) (n : ℕ) (s : State) (key : Key) (inlining : List Bool)
     (schedule : IsScheduleFor u n key inlining) where
   pub made_by : (r : Result Fact MakeFault) → IfOk r (λ fact. fact.key ≡ key) → IfOk r (IsMade v.jobs s inlining)
       → IfOk r (IsMadeBy u n s key)
@@ -108,7 +108,7 @@ module _ (u v : Work) (view : v ≡ u) (n : ℕ) (s : State) (key : Key) (inlini
         of_key = of_key;
         inlining = inlining;
         schedule = schedule;
-        made = subst (λ (x : Work). IsMade x.jobs s inlining fact)
+        made = subst (λ (x : WorldWork). IsMade x.jobs s inlining fact)
             view made';
       }
   made_by (Err fault) of_key made' = tt
@@ -116,7 +116,7 @@ module _ (u v : Work) (view : v ≡ u) (n : ℕ) (s : State) (key : Key) (inlini
   pub never_made : (r : Result Fact MakeFault) → IfErr r (IsMakeFault v.jobs s inlining key) → IfErr r (CannotBeMade u n s key)
   never_made (Ok fact) h = tt
   never_made (Err fault) h =
-      cannot_be_made u n s key inlining fault schedule (subst (λ (x : Work). IsMakeFault x.jobs s inlining key fault) view h)
+      cannot_be_made u n s key inlining fault schedule (subst (λ (x : WorldWork). IsMakeFault x.jobs s inlining key fault) view h)
 
 -- ---- nodes and messages that are looked up
 
@@ -129,7 +129,7 @@ set_same [] n q within is = absurd (omega (arith, within))
 set_same (x ∷ xs) zero q within is = ap (λ y. y ∷ xs) is
 set_same (x ∷ xs) (suc n) q within is = ap (λ ys. x ∷ ys) (set_same xs n q (omega (arith, within)) is)
 
-unmade : (u : Work) (v : Network) (n : ℕ) (key : Key) → HasNodes v (Make n key) → (fault : MakeFault) → CannotMake u v n key fault
+unmade : (u : WorldWork) (v : Network) (n : ℕ) (key : Key) → HasNodes v (Make n key) → (fault : MakeFault) → CannotMake u v n key fault
     → IsStepFault u v (Make n key) (refusal_of fault)
 unmade u v n key here makes.Foreign why = (here, (why, λ e. cc))
 unmade u v n key here makes.NoSuchTile why = (here, (why, λ e. cc))
@@ -140,7 +140,7 @@ unmade u v n key here (makes.NeedMisshapen need) why = (here, (why, λ e. cc))
 unmade u v n key here makes.Memory why = (here, tt, λ wrong. wrong)
 unmade u v n key here makes.Retired why = (here, (why, λ e. cc))
 
-module _ (u : Work) (v w : Network) (view : v ≡ w) (n : ℕ) (within : n < length v.nodes) where
+module _ (u : WorldWork) (v w : Network) (view : v ≡ w) (n : ℕ) (within : n < length v.nodes) where
   here : All (λ i. i < length v.nodes) (n ∷ [])
   here = one_within n (length v.nodes) within
 

@@ -7,7 +7,7 @@ use Rattle.gossip_core.proofs.StateLaws.{length-slice_set_nodes}
 use Rattle.gossip_core.proofs.TruthLaws.{accepted_true, worlds_true}
 use Rattle.gossip_core.specs.Histories.{Leads, start}
 use Rattle.gossip_core.specs.Networks.{Network, NodeStates}
-use Rattle.gossip_core.specs.Steps.{Accepts, Refuses, Work, held, kept, no_states}
+use Rattle.gossip_core.specs.Steps.{Accepts, Refuses, WorldWork, held, kept, no_states}
 use Rattle.gossip_core.specs.Taking.{IsTaken, IsTakenAtKeep}
 use Rattle.gossip_core.specs.Truths.{AllTrue}
 use Rattle.gossip_core.specs.declared.done.Done.{Done}
@@ -20,14 +20,14 @@ use Rattle.worlds.specs.Worlds.{IsPlannedWork, IsWorld, WorldView}
 
 -- ---- the world at first and after an event
 
-pub world_start : (u : Work) → IsPlannedWork u → IsWorld u (start (length u.schedules))
+pub world_start : (u : WorldWork) → IsPlannedWork u → IsWorld u (start (length u.schedules))
 world_start u good = record {
   work = good;
   nodes = sym (length-replicate (length u.schedules) no_states);
   truth = worlds_true u (length u.schedules) [] [] (start (length u.schedules)) good.apart good.jobs (refl, refl);
 }
 
-same_count : (u : Work) (w new : Network) (e : Event) → Accepts u w e new → length w.nodes ≡ length new.nodes
+same_count : (u : WorldWork) (w new : Network) (e : Event) → Accepts u w e new → length w.nodes ≡ length new.nodes
 same_count u w new (Make n key) ok = ap (λ (v : Network). length v.nodes) (sym ok.1.2)
 same_count u w new (Retire n ids) ok = ap (λ (v : Network). length v.nodes) (sym ok.1)
 same_count u w new (Send n m keys) ok = ap (λ (v : Network). length v.nodes) (sym ok.1.1)
@@ -36,7 +36,7 @@ same_count u w new (Merge a b) ok = sym (ap (λ (v : Network). length v.nodes) o
 same_count u w new (Keep n) ok = sym (ap (λ (v : Network). length v.nodes) ok.1 ∙ length-slice_set_nodes w.nodes n _)
 same_count u w new (Restart n) ok = sym (ap (λ (v : Network). length v.nodes) ok.1 ∙ length-slice_set_nodes w.nodes n _)
 
-pub world_after : (u : Work) (w new : Network) (e : Event) (r : Result Done StepFault) → IsWorld u w → OnOk r (Accepts u w e new)
+pub world_after : (u : WorldWork) (w new : Network) (e : Event) (r : Result Done StepFault) → IsWorld u w → OnOk r (Accepts u w e new)
     → IfErr r (Refuses u w e new) → IsWorld u new
 world_after u w new e (Ok d) is ok err = record {
   work = is.work;

@@ -4,7 +4,7 @@ use Rattle.std.specs.Prelude.{◌≡◌, ℕ, ◌+◌, ◌≤◌, Bool, Some, Li
 use Rattle.catalog.specs.Entries.{AreJobs, IsCatalog}
 use Rattle.gossip_core.specs.Histories.{Leads}
 use Rattle.gossip_core.specs.Networks.{Network}
-use Rattle.gossip_core.specs.Steps.{IsStepFault, Work}
+use Rattle.gossip_core.specs.Steps.{IsStepFault, WorldWork}
 use Rattle.gossip_core.specs.Truths.{AllTrue}
 use Rattle.gossip_core.specs.declared.fault.StepFault.TheVariants as steps
 use Rattle.gossip_events.specs.declared.event.Event.{Event}
@@ -14,23 +14,23 @@ use Rattle.worlds.specs.declared.fault.WorldFault.TheVariants.{BadCount, Memory}
 -- ---- what is seen
 
 pub record WorldView : Type 0 where
-  pub work : Work
+  pub work : WorldWork
   pub network : Network
 
 -- ---- what holds of each
 
 -- each node has a schedule for each job
-abbrev pub HasSchedules : Work → Type 0
+abbrev pub HasSchedules : WorldWork → Type 0
 HasSchedules u = (n : ℕ) (schedules : List (List Bool)) → slice_get u.schedules n ≡ Some schedules → length schedules ≡ length u.jobs
 
 -- the jobs are distinct and well formed, and each node has its schedules
-pub record IsPlannedWork (u : Work) : Type 0 where
+pub record IsPlannedWork (u : WorldWork) : Type 0 where
   pub apart : IsCatalog u.jobs
   pub jobs : AreJobs u.jobs
   pub each : HasSchedules u
 
 -- and there are as many nodes, and every fact is true
-pub record IsWorld (u : Work) (w : Network) : Type 0 where
+pub record IsWorld (u : WorldWork) (w : Network) : Type 0 where
   pub work : IsPlannedWork u
   pub nodes : length u.schedules ≡ length w.nodes
   pub truth : AllTrue u.jobs w
@@ -38,13 +38,13 @@ pub record IsWorld (u : Work) (w : Network) : Type 0 where
 -- ---- where there is none
 
 -- 1 to 16 nodes, each with a schedule for each job
-pub record IsCounted (u : Work) : Type 0 where
+pub record IsCounted (u : WorldWork) : Type 0 where
   pub least : 1 ≤ length u.schedules
   pub most : length u.schedules ≤ 16
   pub each : HasSchedules u
 
 -- memory is refused only if the counts are good
-abbrev pub IsRefusedWorld : Work → WorldFault → Type 0
+abbrev pub IsRefusedWorld : WorldWork → WorldFault → Type 0
 IsRefusedWorld u BadCount = ¬ (IsCounted u)
 IsRefusedWorld u Memory = IsCounted u
 

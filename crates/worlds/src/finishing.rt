@@ -36,13 +36,13 @@ impl<S: FactStore> World<S> {
         ensures finishes { IfOk result (λ events. Finishes self.now n job events.items) }
         ensures fault { IfErr result (IsFinishFault self.now n job) }
     {
-        let planned = self.planned(n, job)?;
-        let keys = makable_keys(self.alloc, &planned)?;
-        Ok(making_events(self.alloc, n, self.network.sent(), &keys)?)
+        let planned = self.find_node_job(n, job)?;
+        let keys = find_makable_keys(self.alloc, &planned)?;
+        Ok(list_making_events(self.alloc, n, self.network.count_messages(), &keys)?)
     }
 
     // The job, which node n has not retired, and what the node holds and how it makes its tiles.
-    fn planned(&self, n: u8, job: usize) -> Result<Planned<'_, S>, FinishFault>
+    fn find_node_job(&self, n: u8, job: usize) -> Result<NodeJob<'_, S>, FinishFault>
         ensures planned { IfOk result (λ p. IsPlanned self.now.work n job
             (entry_of p.job.now) p.schedule.now.inlining) }
         ensures held { IfOk result (λ p. p.held.now ≡ (held self.now.network n).facts) }
@@ -57,13 +57,13 @@ impl<S: FactStore> World<S> {
         let Some(planned) = self.jobs.catalog.job(job) else {
             return Err(FinishFault::NoSuchJob);
         };
-        let Some(schedule) = self.jobs.schedules[usize::from(n)].schedule(job) else {
+        let Some(schedule) = self.jobs.schedules[usize::from(n)].find_schedule(job) else {
             unreachable!();
         };
-        if node.held.retires(&ids_of(planned)) {
+        if node.held.has_retired(&ids_of(planned)) {
             return Err(FinishFault::Retired);
         }
-        Ok(Planned {
+        Ok(NodeJob {
             held: node.held.held(),
             job: planned,
             schedule,
@@ -73,16 +73,16 @@ impl<S: FactStore> World<S> {
 
 // What a node holds, a job, and the node's schedule for it.
 #[derive(Clone, Copy)]
-struct Planned<'a, S: FactStore> {
+struct NodeJob<'a, S: FactStore> {
     held: &'a HeldFacts<S>,
     job: &'a Job,
     schedule: &'a Schedule,
 }
 
 // The keys of the work tiles of which nothing is held, if each of these fits in scratch memory.
-fn makable_keys<S: FactStore>(
+fn find_makable_keys<S: FactStore>(
     alloc: Global,
-    planned: &Planned<'_, S>,
+    planned: &NodeJob<'_, S>,
 ) -> Result<Vec<Key>, FinishFault>
     ensures keys { let p = planned.now in IfOk result (λ keys. keys.items
         ≡ lacked_work p.held.now (entry_of p.job.now) p.schedule.now.inlining) }
@@ -91,7 +91,7 @@ fn makable_keys<S: FactStore>(
     ensures fault { let p = planned.now in IfErr result
         (IsRoomFault p.held.now (entry_of p.job.now) p.schedule.now.inlining) }
 {
-    let keys = lacked_keys(alloc, planned.held, planned.job, planned.schedule)?;
+    let keys = find_lacked_keys(alloc, planned.held, planned.job, planned.schedule)?;
     match first_without_room(alloc, planned.job, planned.schedule, &keys)? {
         None => Ok(keys),
         Some(key) => Err(FinishFault::ScratchTooBig(key)),
@@ -99,7 +99,7 @@ fn makable_keys<S: FactStore>(
 }
 
 // The keys of the work tiles of which nothing is held.
-fn lacked_keys<S: FactStore>(
+fn find_lacked_keys<S: FactStore>(
     alloc: Global,
     held: &HeldFacts<S>,
     job: &Job,
@@ -109,12 +109,17 @@ fn lacked_keys<S: FactStore>(
         ≡ lacked_work held.now (entry_of job.now) schedule.now.inlining) }
 {
     let mut keys = work_keys(alloc, job, schedule)?;
-    keys.retain(|key| held.count(key) == 0);
+    keys.retain(|key| held.count_facts_of_key(key) == 0);
     Ok(keys)
 }
 
 // A making of each key by the node, and its delivery, if `sent` messages were sent before.
-fn making_events(alloc: Global, n: u8, sent: usize, keys: &[Key]) -> Result<Vec<Event>, AllocError>
+fn list_making_events(
+    alloc: Global,
+    n: u8,
+    sent: usize,
+    keys: &[Key],
+) -> Result<Vec<Event>, AllocError>
     ensures { IfOk result (λ events. events.items ≡ makings n sent keys.now) }
 {
     let mut events = Vec::new(alloc);

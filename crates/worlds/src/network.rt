@@ -1,7 +1,7 @@
 //! The nodes of a world and their messages, and what events do to them.
 
 ghost use Rattle.gossip_core.specs.Histories.{start};
-ghost use Rattle.gossip_core.specs.Steps.{Accepts, IsDone, Refuses, Work, with_message};
+ghost use Rattle.gossip_core.specs.Steps.{Accepts, IsDone, Refuses, WorldWork, with_message};
 ghost use Rattle.gossip_core.specs.declared.done.Done.TheVariants as does;
 ghost use Rattle.gossip_core.specs.declared.fault.StepFault.TheVariants as faults;
 ghost use Rattle.gossip_events.specs.declared.event.Event.TheVariants.{Make, Retire, Send, Deliver, Merge, Keep, Restart};
@@ -9,7 +9,7 @@ ghost use Rattle.std.specs.Option.{option_map};
 ghost use Rattle.worlds.specs.inside.Making.{refusal_of};
 ghost use Rattle.std.specs.Prelude.{◌≡◌, IfErr, IfOk, OnErr, OnOk, length, slice_get};
 
-use crate::node::{Message, Node};
+use crate::node::{Message, WorldNode};
 use crate::planned::PlannedJobs;
 use fact_store::FactStore;
 use gossip_core::{Done, StepFault};
@@ -23,7 +23,7 @@ use std::marker::Model;
 #[derive(Drop)]
 pub struct Network<S: FactStore> {
     alloc: Global,
-    nodes: Vec<Node<S>>,
+    nodes: Vec<WorldNode<S>>,
     messages: Vec<Message<S>>,
 }
 
@@ -44,7 +44,7 @@ impl<S: FactStore> Network<S> {
     {
         let mut nodes = Vec::with_capacity(alloc, size)?;
         for _ in 0..size {
-            nodes.push(Node {
+            nodes.push(WorldNode {
                 held: NodeState::new(alloc),
                 kept: NodeState::new(alloc),
             })?;
@@ -64,14 +64,14 @@ impl<S: FactStore> Network<S> {
     }
 
     /// How many messages were sent.
-    pub fn sent(&self) -> usize
+    pub fn count_messages(&self) -> usize
         ensures { result ≡ length self.now.messages }
     {
         self.messages.len()
     }
 
     /// The node of this number.
-    pub fn node(&self, n: u8) -> Option<&Node<S>>
+    pub fn node(&self, n: u8) -> Option<&WorldNode<S>>
         ensures { option_map (λ q. q.now) result ≡ slice_get self.now.nodes n }
     {
         self.nodes.as_slice().get(usize::from(n))
@@ -85,21 +85,21 @@ impl<S: FactStore> Network<S> {
         ensures refused { IfErr result (Refuses jobs.now self.old event.now self.new) }
     {
         match event {
-            Event::Make { node, key } => self.make(jobs, usize::from(*node), key),
-            Event::Retire { node, ids } => self.retire(usize::from(*node), ids),
+            Event::Make { node, key } => self.make_fact(jobs, usize::from(*node), key),
+            Event::Retire { node, ids } => self.retire_job(usize::from(*node), ids),
             Event::Send { node, to, keys } => {
-                self.send(usize::from(*node), usize::from(*to), keys.as_slice())
+                self.send_facts(usize::from(*node), usize::from(*to), keys.as_slice())
             }
             Event::Deliver { node, message } => {
-                self.deliver(usize::from(*node), *message as usize)
+                self.deliver_message(usize::from(*node), *message as usize)
             }
             Event::Merge { node, other } => self.merge(usize::from(*node), usize::from(*other)),
-            Event::Keep { node } => self.keep(usize::from(*node)),
-            Event::Restart { node } => self.restart(usize::from(*node)),
+            Event::Keep { node } => self.keep_state(usize::from(*node)),
+            Event::Restart { node } => self.restart_node(usize::from(*node)),
         }
     }
 
-    fn make(&mut self, jobs: &PlannedJobs, n: usize, key: &Key) -> Result<Done, StepFault>
+    fn make_fact(&mut self, jobs: &PlannedJobs, n: usize, key: &Key) -> Result<Done, StepFault>
         requires { length jobs.now.schedules ≡ length self.old.nodes }
         ensures done { OnOk result (Accepts jobs.now self.old (Make n key.now) self.new) }
         ensures answer { IfOk result (IsDone self.old (Make n key.now) self.new) }
@@ -109,19 +109,19 @@ impl<S: FactStore> Network<S> {
             return Err(StepFault::NoSuchNode);
         }
         let node = &self.nodes[n];
-        let fact = match jobs.make(n, &node.held, key) {
+        let fact = match jobs.make_fact(n, &node.held, key) {
             Ok(fact) => fact,
-            Err(fault) => return Err(refusal_of(fault)),
+            Err(fault) => return Err(convert_make_fault(fault)),
         };
         let mut state = NodeState::new(self.alloc);
         state.take(fact)?;
-        self.post(n, state)
+        self.append_message(n, state)
     }
 
-    fn retire(&mut self, n: usize, ids: &Ids) -> Result<Done, StepFault>
-        ensures done { (u : Work) → OnOk result (Accepts u self.old (Retire n ids.now) self.new) }
+    fn retire_job(&mut self, n: usize, ids: &Ids) -> Result<Done, StepFault>
+        ensures done { (u : WorldWork) → OnOk result (Accepts u self.old (Retire n ids.now) self.new) }
         ensures answer { IfOk result (IsDone self.old (Retire n ids.now) self.new) }
-        ensures refused { (u : Work)
+        ensures refused { (u : WorldWork)
             → IfErr result (Refuses u self.old (Retire n ids.now) self.new) }
     {
         if n >= self.nodes.len() {
@@ -129,13 +129,13 @@ impl<S: FactStore> Network<S> {
         }
         let mut state = NodeState::new(self.alloc);
         state.retire(ids)?;
-        self.post(n, state)
+        self.append_message(n, state)
     }
 
-    fn send(&mut self, n: usize, to: usize, keys: &[Key]) -> Result<Done, StepFault>
-        ensures done { (u : Work) → OnOk result (Accepts u self.old (Send n to keys.now) self.new) }
+    fn send_facts(&mut self, n: usize, to: usize, keys: &[Key]) -> Result<Done, StepFault>
+        ensures done { (u : WorldWork) → OnOk result (Accepts u self.old (Send n to keys.now) self.new) }
         ensures answer { IfOk result (IsDone self.old (Send n to keys.now) self.new) }
-        ensures refused { (u : Work)
+        ensures refused { (u : WorldWork)
             → IfErr result (Refuses u self.old (Send n to keys.now) self.new) }
     {
         if n >= self.nodes.len() || to >= self.nodes.len() {
@@ -147,11 +147,11 @@ impl<S: FactStore> Network<S> {
             Err(LendFault::NotHeld(key)) => return Err(StepFault::NotHeld(key)),
             Err(LendFault::Memory) => return Err(StepFault::Memory),
         };
-        self.post(to, state)
+        self.append_message(to, state)
     }
 
     // Appends a message.
-    fn post(&mut self, to: usize, state: NodeState<S>) -> Result<Done, StepFault>
+    fn append_message(&mut self, to: usize, state: NodeState<S>) -> Result<Done, StepFault>
         ensures sent { OnOk result (self.new ≡ with_message self.old to state) }
         ensures answer { IfOk result (λ d. d ≡ does.Message (length self.old.messages)) }
         ensures memory { IfErr result (λ fault. fault ≡ faults.Memory) }
@@ -162,10 +162,10 @@ impl<S: FactStore> Network<S> {
         Ok(Done::Message(number))
     }
 
-    fn deliver(&mut self, n: usize, k: usize) -> Result<Done, StepFault>
-        ensures done { (u : Work) → OnOk result (Accepts u self.old (Deliver n k) self.new) }
+    fn deliver_message(&mut self, n: usize, k: usize) -> Result<Done, StepFault>
+        ensures done { (u : WorldWork) → OnOk result (Accepts u self.old (Deliver n k) self.new) }
         ensures answer { IfOk result (IsDone self.old (Deliver n k) self.new) }
-        ensures refused { (u : Work)
+        ensures refused { (u : WorldWork)
             → IfErr result (Refuses u self.old (Deliver n k) self.new) }
     {
         if n >= self.nodes.len() {
@@ -184,9 +184,9 @@ impl<S: FactStore> Network<S> {
     }
 
     fn merge(&mut self, n: usize, other: usize) -> Result<Done, StepFault>
-        ensures done { (u : Work) → OnOk result (Accepts u self.old (Merge n other) self.new) }
+        ensures done { (u : WorldWork) → OnOk result (Accepts u self.old (Merge n other) self.new) }
         ensures answer { IfOk result (IsDone self.old (Merge n other) self.new) }
-        ensures refused { (u : Work) → IfErr result (Refuses u self.old (Merge n other) self.new) }
+        ensures refused { (u : WorldWork) → IfErr result (Refuses u self.old (Merge n other) self.new) }
     {
         if n >= self.nodes.len() || other >= self.nodes.len() {
             return Err(StepFault::NoSuchNode);
@@ -197,10 +197,10 @@ impl<S: FactStore> Network<S> {
         Ok(Done::New(count))
     }
 
-    fn keep(&mut self, n: usize) -> Result<Done, StepFault>
-        ensures done { (u : Work) → OnOk result (Accepts u self.old (Keep n) self.new) }
+    fn keep_state(&mut self, n: usize) -> Result<Done, StepFault>
+        ensures done { (u : WorldWork) → OnOk result (Accepts u self.old (Keep n) self.new) }
         ensures answer { IfOk result (IsDone self.old (Keep n) self.new) }
-        ensures refused { (u : Work) → IfErr result (Refuses u self.old (Keep n) self.new) }
+        ensures refused { (u : WorldWork) → IfErr result (Refuses u self.old (Keep n) self.new) }
     {
         if n >= self.nodes.len() {
             return Err(StepFault::NoSuchNode);
@@ -210,10 +210,10 @@ impl<S: FactStore> Network<S> {
         Ok(Done::Kept)
     }
 
-    fn restart(&mut self, n: usize) -> Result<Done, StepFault>
-        ensures done { (u : Work) → OnOk result (Accepts u self.old (Restart n) self.new) }
+    fn restart_node(&mut self, n: usize) -> Result<Done, StepFault>
+        ensures done { (u : WorldWork) → OnOk result (Accepts u self.old (Restart n) self.new) }
         ensures answer { IfOk result (IsDone self.old (Restart n) self.new) }
-        ensures refused { (u : Work) → IfErr result (Refuses u self.old (Restart n) self.new) }
+        ensures refused { (u : WorldWork) → IfErr result (Refuses u self.old (Restart n) self.new) }
     {
         if n >= self.nodes.len() {
             return Err(StepFault::NoSuchNode);
@@ -225,7 +225,7 @@ impl<S: FactStore> Network<S> {
 }
 
 // The fault of a step whose node cannot make the fact.
-fn refusal_of(fault: MakeFault) -> StepFault
+fn convert_make_fault(fault: MakeFault) -> StepFault
     ensures { result ≡ refusal_of fault }
 {
     match fault {

@@ -6,12 +6,12 @@ use std::marker::Model;
 
 /// What a node holds, and what it keeps.
 #[derive(Drop)]
-pub struct Node<S: FactStore> {
+pub struct WorldNode<S: FactStore> {
     pub held: NodeState<S>,
     pub kept: NodeState<S>,
 }
 
-impl<S: FactStore> Model for Node<S> {
+impl<S: FactStore> Model for WorldNode<S> {
     ghost use Rattle.gossip_core.specs.Networks.{NodeStates, coded_states};
 
     ghost Value = { NodeStates };

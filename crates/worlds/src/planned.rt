@@ -23,12 +23,12 @@ pub struct PlannedJobs {
 }
 
 impl Model for PlannedJobs {
-    ghost use Rattle.gossip_core.specs.Steps.{Work};
+    ghost use Rattle.gossip_core.specs.Steps.{WorldWork};
     ghost use Rattle.catalog.specs.Codes.{formula_code};
     ghost use Rattle.std.specs.Coded.{codes};
     ghost use Rattle.worlds.specs.Worlds.{IsPlannedWork};
 
-    ghost Value = { Work };
+    ghost Value = { WorldWork };
 
     ghost coded = { Prim.hlevel (codes, formula_code) };
 
@@ -53,18 +53,18 @@ impl PlannedJobs {
     }
 
     /// Node n's schedule for the job whose tile the key names, if there is that job.
-    pub fn schedule_for(&self, n: usize, key: &Key) -> Option<&Schedule>
+    pub fn find_schedule_of_key(&self, n: usize, key: &Key) -> Option<&Schedule>
         requires { n < length self.now.schedules }
         ensures some { IfSome result (λ s. IsScheduleFor self.now n key.now s.now.inlining) }
         ensures none { IfNone result
             ((i : ℕ) → ¬ (StandsAt self.now.jobs (ids_in key.now) i)) }
     {
         let job = self.catalog.find(&Ids::of_key(key))?;
-        self.schedules[n].schedule(job)
+        self.schedules[n].find_schedule(job)
     }
 
     /// The fact of the key, as node n makes it from a state.
-    pub fn make<S: FactStore>(
+    pub fn make_fact<S: FactStore>(
         &self,
         n: usize,
         state: &NodeState<S>,
@@ -74,7 +74,7 @@ impl PlannedJobs {
         ensures made { IfOk result (IsMadeBy self.now n state.now key.now) }
         ensures fault { IfErr result (CannotBeMade self.now n state.now key.now) }
     {
-        match self.schedule_for(n, key) {
+        match self.find_schedule_of_key(n, key) {
             Some(schedule) => state.make(&self.catalog, schedule, key),
             None => Err(MakeFault::Foreign),
         }

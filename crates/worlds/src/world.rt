@@ -21,13 +21,13 @@ use crate::schedules::NodeSchedules;
 use catalog::Catalog;
 use fact_store::{FactStore, TableFacts};
 use gossip_core::{Done, StepFault};
-use gossip_events::{Event, ScriptFault, script_of};
+use gossip_events::{Event, ScriptFault, parse_script};
 use node_state::NodeState;
 use std::alloc::Global;
 use std::marker::Model;
 
 /// The most nodes of a world.
-const MOST_NODES: usize = 16;
+const MAX_NODES: usize = 16;
 
 /// Nodes that make tiles of jobs, each by its own schedules, and retire jobs, send, merge, keep and restart. All facts that they
 /// hold and keep, and all that were sent, are true. Only events change it.
@@ -76,7 +76,7 @@ impl<S: FactStore> World<S> {
         ensures fault { IfErr result (λ back. IsRefusedWorld
             (record { jobs = catalog; schedules = schedules.items }) back.2) }
     {
-        if !is_counted(&catalog, &schedules) {
+        if !has_schedules_for_jobs(&catalog, &schedules) {
             return Err((catalog, schedules, WorldFault::BadCount));
         }
         match Network::new(alloc, schedules.len()) {
@@ -184,22 +184,22 @@ impl<S: FactStore> World<S> {
     ///
     /// # Errors
     ///
-    /// Fails with the first fault of the text, as [`script_of`] does.
-    pub fn script(&self, text: &[u8]) -> Result<Vec<Event>, ScriptFault>
+    /// Fails with the first fault of the text, as [`parse_script`] does.
+    pub fn parse_script(&self, text: &[u8]) -> Result<Vec<Event>, ScriptFault>
         ensures events { IfOk result
             (λ events. AreEvents self.now.work.jobs (lines text.now) events.items) }
         ensures fault { IfErr result (IsScriptFault self.now.work.jobs text.now) }
     {
-        script_of(self.alloc, &self.jobs.catalog, text)
+        parse_script(self.alloc, &self.jobs.catalog, text)
     }
 }
 
 /// Whether there are 1 to 16 nodes, each with a schedule for each job.
-fn is_counted(catalog: &Catalog, schedules: &[NodeSchedules]) -> bool
+fn has_schedules_for_jobs(catalog: &Catalog, schedules: &[NodeSchedules]) -> bool
     ensures { IsTrue result
         ↔ IsCounted (record { jobs = catalog.now; schedules = schedules.now }) }
 {
     let jobs = catalog.len();
     let nodes = schedules.len();
-    1 <= nodes && nodes <= MOST_NODES && schedules.iter().all(|each| each.len() == jobs)
+    1 <= nodes && nodes <= MAX_NODES && schedules.iter().all(|each| each.len() == jobs)
 }

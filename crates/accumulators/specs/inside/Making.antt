@@ -15,14 +15,14 @@ use Rattle.tile_sources.specs.KnownTiles.{AreTrue}
 use Rattle.tile_run.specs.StageRuns.{GivesNeedsOf}
 use Rattle.tile_run.specs.Stored.{stored_tiles}
 use Rattle.tile_run.specs.Work.{first_too_big, is_accumulator_at}
-use Rattle.accumulators.specs.declared.computed.Computed.{Computed}
+use Rattle.accumulators.specs.declared.computed.ComputedJob.{ComputedJob}
 use Rattle.accumulators.specs.declared.totals.Accumulation.{Accumulation}
 use Rattle.reductions.specs.Bins.{joined_bins, starts}
 use Rattle.reductions.specs.Accumulating.{AreBins}
 use Rattle.reductions.specs.GatherRooms.{IsAccumulatorOf}
 
 -- the tiles of stored functions that the accumulators of the job need are available, with the job's values
-pub record IsComputed (c : Computed) : Type 0 where
+pub record IsComputed (c : ComputedJob) : Type 0 where
   pub scheduled : IsScheduleOf (pipeline_in c.job.now) c.schedule.now
   pub needs : (g : ℕ) → is_accumulator_at (pipeline_in c.job.now) g ≡ true
       → GivesNeedsOf (pipeline_in c.job.now) c.schedule.now.inlining (stored_tiles c.stored.now.stages.items) g
@@ -31,7 +31,7 @@ pub record IsComputed (c : Computed) : Type 0 where
 -- ---- totals
 
 -- the tiles of all accumulators fit into scratch memory
-abbrev pub TotalsFit : Computed → Type 0
+abbrev pub TotalsFit : ComputedJob → Type 0
 TotalsFit c = first_too_big (pipeline_in c.job.now) c.schedule.now.inlining (is_accumulator_at (pipeline_in c.job.now)) ≡ None
 
 -- stage g is an accumulator with this operation, these bins and this grid

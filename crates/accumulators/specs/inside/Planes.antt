@@ -7,7 +7,7 @@ use Rattle.tile_sources.specs.KnownTiles.{KnownTiles, AreTrue}
 use Rattle.tile_run.specs.Stored.{IsStoredFunction}
 use Rattle.tile_run.specs.Uses.{HasLasts, GivesForAnswer}
 use Rattle.tile_run.specs.Work.{first_too_big, is_stored_function}
-use Rattle.tile_run.specs.declared.turn.Turn.{Turn}
+use Rattle.tile_run.specs.declared.phase.Phase.{Phase}
 
 -- a stored function of the output
 pub record IsOutputStage (job : Pipeline) (inlining : List Bool) (g : ℕ) : Type 0 where
@@ -17,7 +17,7 @@ pub record IsOutputStage (job : Pipeline) (inlining : List Bool) (g : ℕ) : Typ
 
 -- the tiles kept for the answer are supplied, with the job's values, and the tiles of all stored functions fit into scratch
 -- memory
-pub record IsKept (job : Pipeline) (schedule : Inlining) (lasts : List Turn) (given : KnownTiles) : Type 0 where
+pub record IsKept (job : Pipeline) (schedule : Inlining) (lasts : List Phase) (given : KnownTiles) : Type 0 where
   pub scheduled : IsScheduleOf job schedule
   pub read : HasLasts job schedule.inlining lasts
   pub held : GivesForAnswer job schedule.inlining lasts given

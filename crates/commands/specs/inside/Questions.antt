@@ -1,12 +1,12 @@
 -- Questions about a job alone, and how a result without facts is reported.
 use Rattle.std.specs.Prelude.{ℕ, Bool, Result, Ok, Err}
-use Rattle.inputs.specs.Outcomes.{JobSaying}
-use Rattle.inputs.specs.declared.faults.StreamFault.{StreamFault}
+use Rattle.command_outcomes.specs.Outcomes.{JobSaying}
+use Rattle.command_faults.specs.declared.faults.StreamFault.{StreamFault}
 use Rattle.commands.specs.Listing.{SaysCheck}
 use Rattle.commands.specs.Planning.{SaysPlan}
-use Rattle.results.specs.Results.{SaysResult}
-use Rattle.fact_commands.specs.declared.found.Found.{Found}
-use Rattle.fact_commands.specs.declared.found.Found.TheVariants.{NoFalse}
+use Rattle.command_jobs.specs.Results.{SaysResult}
+use Rattle.fact_commands.specs.declared.finding.Finding.{Finding}
+use Rattle.fact_commands.specs.declared.finding.Finding.TheVariants.{NoFalse}
 use Rattle.commands.specs.declared.question.Question.{Question}
 use Rattle.commands.specs.declared.question.Question.TheVariants as questions
 
@@ -17,6 +17,6 @@ saying_of questions.Stages stored percent = SaysCheck
 saying_of questions.Plan stored percent = SaysPlan stored percent
 
 -- no fact was judged
-abbrev pub none_false : Result (Unit {0}) StreamFault → Result Found StreamFault
+abbrev pub none_false : Result (Unit {0}) StreamFault → Result Finding StreamFault
 none_false (Ok done) = Ok NoFalse
 none_false (Err fault) = Err fault

@@ -1,7 +1,7 @@
 -- Rows of tiles that are to be made.
 use Rattle.std.specs.Prelude.{ℕ}
-use Rattle.tile_run.specs.declared.stage_run.RowWork.{RowWork}
+use Rattle.tile_run.specs.declared.stage_run.RowTask.{RowTask}
 
 -- the row of the grid
-abbrev pub row_of : RowWork → ℕ
+abbrev pub row_of : RowTask → ℕ
 row_of work = work.row

@@ -10,21 +10,21 @@ use Rattle.node_state.specs.Making.{IsMade, IsMakeFault}
 use Rattle.node_state.specs.States.{State}
 use Rattle.overlap_tiles.specs.Work.{first_without_room}
 use Rattle.gossip_core.specs.Finishing.{lacked_work}
-use Rattle.gossip_core.specs.Steps.{IsScheduleFor, Work}
+use Rattle.gossip_core.specs.Steps.{IsScheduleFor, WorldWork}
 use Rattle.gossip_core.specs.declared.fault.StepFault.{StepFault}
 use Rattle.gossip_core.specs.declared.fault.StepFault.TheVariants as faults
 use Rattle.worlds.specs.declared.fault.FinishFault.{FinishFault}
 use Rattle.worlds.specs.declared.fault.FinishFault.TheVariants as finish
 
 -- the fact of the key, by the schedule of node n
-pub record IsMadeBy (u : Work) (n : ℕ) (s : State) (key : Key) (fact : Fact) : Type 0 where
+pub record IsMadeBy (u : WorldWork) (n : ℕ) (s : State) (key : Key) (fact : Fact) : Type 0 where
   pub of_key : fact.key ≡ key
   pub inlining : List Bool
   pub schedule : IsScheduleFor u n key inlining
   pub made : IsMade u.jobs s inlining fact
 
 -- why there is none
-abbrev pub CannotBeMade : Work → ℕ → State → Key → MakeFault → Type 0
+abbrev pub CannotBeMade : WorldWork → ℕ → State → Key → MakeFault → Type 0
 CannotBeMade u n s key makes.Foreign = (i : ℕ) → ¬ (StandsAt u.jobs (ids_in key) i)
 CannotBeMade u n s key fault = (inlining : List Bool) × IsScheduleFor u n key inlining × IsMakeFault u.jobs s inlining key fault
 

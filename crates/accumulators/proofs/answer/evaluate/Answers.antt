@@ -3,8 +3,8 @@ use Rattle.tile_run.specs.Stored.{stored_tiles}
 use Rattle.accumulators.proofs.OutputsAreMade.{accumulator_needs}
 use Rattle.accumulators.proofs.answer.evaluate.Goals as goal
 
-pub totals-requires-clause-computed : goal.totals-requires-clause-computed
-totals-requires-clause-computed g c κs within =
+pub compute_totals-requires-clause-computed : goal.compute_totals-requires-clause-computed
+compute_totals-requires-clause-computed g c κs within =
     let job = pipeline_in c.args.job.now in
     let inlining = c.args.schedule.now.inlining in
     let given = stored_tiles c.in_ok-stored.stored.stages.items in

@@ -17,7 +17,7 @@ returns-in-Ok-clause-memory g c = λ ends.
     (names_command c.args.words.now c.in-Ok.request c.in-Ok.ensures.asked, c.run_request.ensures.memory ends)
 
 pub returns-in-Err-Memory-clause-memory : goal.returns-in-Err-Memory-clause-memory
-returns-in-Err-Memory-clause-memory g c = λ ends. (inr (c.in-Err-Memory.ensures.memory c.in-Err-Memory.field-0-is), c.tell.ensures)
+returns-in-Err-Memory-clause-memory g c = λ ends. (inr (c.in-Err-Memory.ensures.memory c.in-Err-Memory.field-0-is), c.report_fault.ensures)
 
 pub returns-in-Ok-clause-usage : goal.returns-in-Ok-clause-usage
 returns-in-Ok-clause-usage g c = λ ends. inr (c.in-Ok.request, c.in-Ok.ensures.asked, c.run_request.ensures.usage ends)

@@ -7,8 +7,8 @@ use Rattle.fact_audit.specs.inside.Ready.{IsReady}
 use Rattle.fact_audit.proofs.Pairing.{IsBegun, begun_more}
 use Rattle.fact_audit.proofs.several.audit_all.Goals as goal
 
-pub verdict_among-requires : goal.verdict_among-requires
-verdict_among-requires c =
+pub judge_among_jobs-requires : goal.judge_among_jobs-requires
+judge_among_jobs-requires c =
     let facts = c.args.facts.now in
     let i = c.loop-fact.fact-index in
     let fact = c.fact-item.result in
@@ -24,5 +24,5 @@ loop-fact-preserved c =
     let judges = IsVerdict c.args.catalog.now in
     let there = slice_get_read facts (length facts) i fact refl c.loop-fact-test.true c.fact-item.is in
     subst (λ (verdicts : List Verdict). IsBegun judges facts verdicts (i + 1)) (sym c.in_ok-push.ensures.items)
-    (begun_more judges facts c.loop-fact.verdicts.items i fact c.in_ok-verdict_among.field-0 there c.in_ok-verdict_among.ensures
+    (begun_more judges facts c.loop-fact.verdicts.items i fact c.in_ok-judge_among_jobs.field-0 there c.in_ok-judge_among_jobs.ensures
     c.loop-fact.invariant)

@@ -1,7 +1,8 @@
 use Rattle.std.proofs.Common.{◌∙◌, Err, ap}
 use Rattle.std.proofs.lemmas.Result.{err_from_is_err_and}
-use Rattle.inputs.specs.Outcomes.{refusing_audit, saying_of_audit}
-use Rattle.inputs.proofs.Written.{all_written, part_written}
+use Rattle.fact_commands.specs.FactFaults.{refusing_audit}
+use Rattle.fact_commands.specs.FactSayings.{saying_of_audit}
+use Rattle.command_outcomes.proofs.Written.{all_written, part_written}
 use Rattle.fact_commands.specs.Auditing.{SaysVerdicts}
 use Rattle.fact_commands.specs.Verdicts.{audit_lines}
 use Rattle.fact_commands.proofs.audits.audit_stream.Goals as goal

@@ -1,8 +1,8 @@
 use Rattle.std.proofs.lemmas.Result.{IfErr-weaker, IfOk-weaker, err_from_is_err_and}
-use Rattle.inputs.proofs.Written.{said_of}
+use Rattle.command_outcomes.proofs.Written.{said_of}
 use Rattle.farm_commands.proofs.RunFaults.{fault_of_farm, fault_of_input}
-use Rattle.results.specs.Replies.{reply_bytes}
-use Rattle.results.specs.Results.{SaysResult}
+use Rattle.command_outcomes.specs.Replies.{reply_bytes}
+use Rattle.command_jobs.specs.Results.{SaysResult}
 use Rattle.farm_commands.proofs.stream.run_input.Goals as goal
 
 pub returns-in_err-job-clause-fault : goal.returns-in_err-job-clause-fault
@@ -14,13 +14,13 @@ returns-in_err-job-clause-fault g c =
 pub returns-clause-said : goal.returns-clause-said
 returns-clause-said g c =
     let read = c.in_ok-job.ensures in
-    IfOk-weaker c.farmed.result _ _
+    IfOk-weaker c.run_farm.result _ _
     (λ farmed is. said_of SaysResult c.args.input.items c.args.given.now c.args.options.now.sides c.in_ok-job.job (reply_bytes farmed.reply)
     read.of_input read.job is)
-    c.farmed.ensures.reply
+    c.run_farm.ensures.reply
 
 pub returns-clause-fault : goal.returns-clause-fault
 returns-clause-fault g c =
-    IfErr-weaker c.farmed.result _ _
+    IfErr-weaker c.run_farm.result _ _
     (λ f is. fault_of_farm c.args.input.items c.args.given.now c.args.options.now.sides c.in_ok-job.job f c.in_ok-job.ensures.of_input is)
-    c.farmed.ensures.fault
+    c.run_farm.ensures.fault

@@ -1,11 +1,11 @@
 use Rattle.std.proofs.Common.{◌∙◌, Err, ap}
 use Rattle.std.proofs.lemmas.Result.{err_from_is_err_and}
-use Rattle.inputs.specs.Outcomes.{saying_of_job}
-use Rattle.inputs.proofs.Written.{all_written, part_written}
+use Rattle.command_outcomes.specs.Outcomes.{saying_of_job}
+use Rattle.command_outcomes.proofs.Written.{all_written, part_written}
 use Rattle.farm_commands.specs.RunFaults.{refusing_run}
 use Rattle.farm_commands.proofs.RunFaults.{run_refused}
-use Rattle.results.specs.Replies.{reply_bytes}
-use Rattle.results.specs.Results.{SaysResult}
+use Rattle.command_outcomes.specs.Replies.{reply_bytes}
+use Rattle.command_jobs.specs.Results.{SaysResult}
 use Rattle.farm_commands.proofs.stream.run_stream.Goals as goal
 
 pub returns-in_err-farmed-clause-written : goal.returns-in_err-farmed-clause-written

@@ -4,7 +4,7 @@ use Rattle.std.proofs.lemmas.List.{get_or_default}
 use Rattle.leases.specs.declared.entry.Lease.{Lease}
 use Rattle.leases.specs.Leases.{leases_of, lasts}
 use Rattle.leases.proofs.LeaseLists.{pairs_apart}
-use Rattle.leases.proofs.LegalHistories.{kept}
+use Rattle.leases.proofs.LegalHistories.{legal_is_kept}
 use Rattle.leases.proofs.laws.leases_are_disjoint.Goals as goal
 
 -- a time at which a lease lasts is one from its beginning on and before its end
@@ -26,12 +26,12 @@ not_before x ls a b i j apart before inside at_a at_b in_a in_b =
     omega arith
 
 pub returns-clause-apart : goal.returns-clause-apart
-returns-clause-apart c = λ h t q legal. pairs_apart (leases_of q h) ((kept h t legal).apart q)
+returns-clause-apart c = λ h t q legal. pairs_apart (leases_of q h) ((legal_is_kept h t legal).apart q)
 
 pub returns-clause-one_holder : goal.returns-clause-one_holder
 returns-clause-one_holder c = λ h t x q a b legal has_a has_b in_a in_b.
     let ls = leases_of q h in
-    let apart = pairs_apart ls ((kept h t legal).apart q) in
+    let apart = pairs_apart ls ((legal_is_kept h t legal).apart q) in
     elim (cases_lt has_a.0 has_b.0) [
       | inl before ↦ absurd (not_before x ls a b has_a.0 has_b.0 apart before has_b.1 has_a.2 has_b.2 in_a in_b)
       | inr not_after ↦ elim (cases_lt has_b.0 has_a.0) [

@@ -6,8 +6,8 @@ use Rattle.one_tile.proofs.LayoutsPrepare.{keys_given}
 use Rattle.one_tile.proofs.TrueTilesGiveValues.{layout_true}
 use Rattle.one_tile.proofs.run.run_tile.Goals as goal
 
-pub run-requires-clause-layout : goal.run-requires-clause-layout
-run-requires-clause-layout g c =
+pub compute_values-requires-clause-layout : goal.compute_values-requires-clause-layout
+compute_values-requires-clause-layout g c =
     let own = c.requires.plan in
     record {
       inlining = own.inlining;
@@ -19,9 +19,9 @@ run-requires-clause-layout g c =
       function = own.function;
     }
 
-pub run-requires-clause-needs : goal.run-requires-clause-needs
-run-requires-clause-needs g c =
-    let given = g.K.Known.given c.args.known.now in
+pub compute_values-requires-clause-needs : goal.compute_values-requires-clause-needs
+compute_values-requires-clause-needs g c =
+    let given = g.K.TileSource.given c.args.known.now in
     let none : first_missing given c.args.plan.now.needs ≡ None = search rules in
     subst (λ (l : Layout). NeedsGiven given l.needs) (sym c.layout.ensures.same) (keys_given given c.args.plan.now.needs none)
 
@@ -33,7 +33,7 @@ returns-clause-values g c = λ inlining k i j is.
 pub returns-clause-right : goal.returns-clause-right
 returns-clause-right g c = λ right inlining k i j is.
     let job = pipeline_in c.args.job.now in
-    let given = g.K.Known.given c.args.known.now in
+    let given = g.K.TileSource.given c.args.known.now in
     let layout = c.layout.ensures.tile (program_id_in c.args.job.now) job inlining k i j is in
     let none : first_missing given c.args.plan.now.needs ≡ None = search rules in
     let are_given = subst (λ (l : Layout). NeedsGiven given l.needs) (sym c.layout.ensures.same)

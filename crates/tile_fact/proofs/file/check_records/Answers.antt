@@ -16,20 +16,20 @@ returns-in-Err c =
     (fails (fact_read c.args.total retired) c.loop.invariant.1.0 c.args.count c.loop.counter _ _ _ c.loop.invariant.1.1 _ c.loop-test.true
     (fact_err c.args.total retired _ _ _ c.in-Err.ensures.read))
 
-pub returns-then-not-is_above : goal.returns-then-not-is_above
-returns-then-not-is_above c =
+pub returns-then-not-is_above_last_record : goal.returns-then-not-is_above_last_record
+returns-then-not-is_above_last_record c =
     let retired = first_pairs c.args.retired.now.count c.args.retired.now.bytes.now in
     body_fails c.args.total retired c.args.count c.args.bytes.now _
     (fails (fact_read c.args.total retired) c.loop.invariant.1.0 c.args.count c.loop.counter _ _ _ c.loop.invariant.1.1 _ c.loop-test.true
-    (fact_low c.args.total retired _ _ _ c.in-Ok.ensures.read (sym c.if-not-is_above.ensures)))
+    (fact_low c.args.total retired _ _ _ c.in-Ok.ensures.read (sym c.if-not-is_above_last_record.ensures)))
 
-pub returns-then-names : goal.returns-then-names
-returns-then-names c =
+pub returns-then-has_job : goal.returns-then-has_job
+returns-then-has_job c =
     let retired = first_pairs c.args.retired.now.count c.args.retired.now.bytes.now in
     body_fails c.args.total retired c.args.count c.args.bytes.now _
     (fails (fact_read c.args.total retired) c.loop.invariant.1.0 c.args.count c.loop.counter _ _ _ c.loop.invariant.1.1 _ c.loop-test.true
-    (fact_gone c.args.total retired _ _ _ c.in-Ok.ensures.read (sym c.if-not-is_above.ensures)
-    (ap (λ (i : Ids). list_any (eq_by_cmp ids_cmp i) retired) (sym c.of_key.ensures) ∙ sym c.if-names.ensures)))
+    (fact_gone c.args.total retired _ _ _ c.in-Ok.ensures.read (sym c.if-not-is_above_last_record.ensures)
+    (ap (λ (i : Ids). list_any (eq_by_cmp ids_cmp i) retired) (sym c.of_key.ensures) ∙ sym c.if-has_job.ensures)))
 
 pub loop-preserved : goal.loop-preserved
 loop-preserved c =
@@ -40,8 +40,8 @@ loop-preserved c =
         c.loop.invariant.1.0 ++ fact ∷ [],
         goes_on (fact_read c.args.total retired) c.loop.invariant.1.0 c.args.count c.loop.counter _ _ _ c.loop.invariant.1.1 fact _
             c.loop-test.true
-            (fact_next c.args.total retired _ _ (fact, _) c.in-Ok.ensures.read (sym c.if-not-is_above.ensures)
-            (ap (λ (i : Ids). list_any (eq_by_cmp ids_cmp i) retired) (sym c.of_key.ensures) ∙ sym c.if-names.ensures)),
+            (fact_next c.args.total retired _ _ (fact, _) c.in-Ok.ensures.read (sym c.if-not-is_above_last_record.ensures)
+            (ap (λ (i : Ids). list_any (eq_by_cmp ids_cmp i) retired) (sym c.of_key.ensures) ∙ sym c.if-has_job.ensures)),
       ),
     )
 

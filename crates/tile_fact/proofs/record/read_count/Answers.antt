@@ -3,8 +3,8 @@ use Rattle.tile_fact.proofs.PartLaws.{part_takes}
 use Rattle.tile_fact.proofs.RecordLaws.{part_shorter}
 use Rattle.tile_fact.proofs.record.read_count.Goals as goal
 
-pub number_at-requires : goal.number_at-requires
-number_at-requires c = omega (arith, (part_takes c.args.total 4 c.args.bytes.now _ _ c.in_ok-part.ensures).len_is)
+pub decode_number-requires : goal.decode_number-requires
+decode_number-requires c = omega (arith, (part_takes c.args.total 4 c.args.bytes.now _ _ c.in_ok-part.ensures).len_is)
 
 pub returns-clause-behind : goal.returns-clause-behind
 returns-clause-behind c = part_shorter _ 4 _ _ (part_takes c.args.total 4 c.args.bytes.now _ _ c.in_ok-part.ensures)

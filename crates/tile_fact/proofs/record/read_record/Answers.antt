@@ -3,8 +3,8 @@ use Rattle.tile_fact.proofs.PartLaws.{part_takes}
 use Rattle.tile_fact.proofs.RecordLaws.{length_takes, body_within, most_bytes, part_shorter, kind_shorter, length_shorter}
 use Rattle.tile_fact.proofs.record.read_record.Goals as goal
 
-pub key_of-key-requires : goal.key_of-key-requires
-key_of-key-requires c = (part_takes c.args.total 74 c.args.bytes.now _ _ c.in_ok-part.ensures).len_is
+pub decode_key-key-requires : goal.decode_key-key-requires
+decode_key-key-requires c = (part_takes c.args.total 74 c.args.bytes.now _ _ c.in_ok-part.ensures).len_is
 
 pub read_kind-requires : goal.read_kind-requires
 read_kind-requires c = omega (arith, part_shorter _ _ _ _ (part_takes c.args.total 74 c.args.bytes.now _ _ c.in_ok-part.ensures))
@@ -20,13 +20,13 @@ read_length-requires c =
 pub overflow_mul-len : goal.overflow_mul-len
 overflow_mul-len c =
     let fits = (length_takes c.args.total c.in_ok-kind.kind _ c.in_ok-len.len _ c.in_ok-len.ensures).1 in
-    rw c.bytes_each.ensures (record { fits = most_bytes c.in_ok-kind.kind c.in_ok-len.len fits })
+    rw c.count_number_bytes.ensures (record { fits = most_bytes c.in_ok-kind.kind c.in_ok-len.len fits })
 
 pub returns-clause-within : goal.returns-clause-within
 returns-clause-within c =
     let fits = (length_takes c.args.total c.in_ok-kind.kind _ c.in_ok-len.len _ c.in_ok-len.ensures).1 in
     let part = part_takes c.args.total _ _ _ _ c.in_ok-numbers.ensures in
-    body_within c.in_ok-kind.kind c.in_ok-numbers.numbers.now c.in_ok-len.len (rw (← c.bytes_each.ensures) part.len_is) fits
+    body_within c.in_ok-kind.kind c.in_ok-numbers.numbers.now c.in_ok-len.len (rw (← c.count_number_bytes.ensures) part.len_is) fits
 
 pub returns-clause-behind : goal.returns-clause-behind
 returns-clause-behind c =

@@ -12,5 +12,5 @@ returns-in_err-put_head g c =
 pub returns : goal.returns
 returns g c =
     let node = c.args.node.now in
-    puts_then c.put_line.result (node_head node.node) (written node.retired.items node.facts.items) _ _ _ _ _ _ _ _ _ c.in_ok-put_head.ensures
-    (rw (c.deref.ensures.value, c.deref-2.ensures.value) at c.put_line.ensures)
+    puts_then c.put_fact_line.result (node_head node.node) (written node.retired.items node.facts.items) _ _ _ _ _ _ _ _ _ c.in_ok-put_head.ensures
+    (rw (c.deref.ensures.value, c.deref-2.ensures.value) at c.put_fact_line.ensures)

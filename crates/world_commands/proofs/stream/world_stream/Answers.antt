@@ -1,6 +1,6 @@
 use Rattle.std.proofs.Common.{◌∙◌, Err, ap}
 use Rattle.std.proofs.lemmas.Result.{err_from_is_err_and}
-use Rattle.inputs.proofs.Written.{part_written}
+use Rattle.command_outcomes.proofs.Written.{part_written}
 use Rattle.world_commands.specs.WorldFaults.{refusing_world}
 use Rattle.world_commands.specs.inside.Outcomes.{outcome_lines}
 use Rattle.world_commands.specs.WorldSayings.{saying_of_world}

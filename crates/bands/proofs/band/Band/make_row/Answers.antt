@@ -12,7 +12,7 @@ invariant_of-self c =
     let is : IsRowOf job c.args.stage c.args.row c.in-Some.tiles =
     subst (λ (o : Option TileRow). IfSome o (IsRowOf job c.args.stage c.args.row)) c.in-Some.is c.in_ok-tiles.ensures in
     record {
-      right = true_after job (kept_tiles self.kept.stages.items) (kept_tiles c.replace.new.self.stages.items) c.args.stage c.args.row
-          c.in-Some.tiles self.right c.replace.ensures
+      right = true_after job (kept_tiles self.kept.stages.items) (kept_tiles c.replace_row.new.self.stages.items) c.args.stage c.args.row
+          c.in-Some.tiles self.right c.replace_row.ensures
           (made_row job c.args.stage c.args.row c.in-Some.tiles self.job.now.well is);
     }

@@ -1,21 +1,21 @@
 use Rattle.std.proofs.Common.{◌≡◌, ◌∙◌, Some, All, ap, sym, subst, length}
 use Rattle.std.specs.Option.{option_map}
 use Rattle.std.specs.Prelude.{List, slice_get}
-use Rattle.books.specs.declared.event.Event.{Event}
+use Rattle.live_nodes.specs.declared.event.Event.{Event}
 use Rattle.catalog.specs.Entries.{entry_of, ids_of}
 use Rattle.fact_store.specs.Facts.{FactSet}
-use Rattle.farm_answers.specs.Answering.{lacked_of}
+use Rattle.farm_answers.specs.Answering.{missing_work}
 use Rattle.held_facts.specs.Facts.{lent}
 use Rattle.held_facts.specs.HeldFacts.{HoldsTrueFacts}
 use Rattle.identity.specs.declared.key.Key.{Key}
 use Rattle.overlap_tiles.specs.Work.{work_keys}
 use Rattle.farm.specs.Reports.{IsSoundEnd, all_held}
 use Rattle.farm.proofs.Ends.{true_gathered}
-use Rattle.farm.proofs.Gathering.{lacked_of_lent}
+use Rattle.farm.proofs.Gathering.{missing_work_of_lent}
 use Rattle.farm.proofs.farm.Farm.run.Goals as goal
 
-pub finish-requires-clause-is_true : goal.finish-requires-clause-is_true
-finish-requires-clause-is_true g c =
+pub complete_answer-requires-clause-is_true : goal.complete_answer-requires-clause-is_true
+complete_answer-requires-clause-is_true g c =
     let same : c.deref-3.result.now ≡ c.in_ok-closed.closed.items = c.deref-3.ensures.value in
     subst (HoldsTrueFacts c.args.catalog.now) (sym c.in_ok-held.ensures)
     (true_gathered c.args.catalog.now c.deref-3.result.now c.deref-2.result.now
@@ -32,7 +32,7 @@ returns-clause-by_caller g c =
     c.deref-2.ensures.value ∙ c.in_ok-keys.ensures in
     let ends = c.deref-3.result.now in
     c.in_ok-done.ensures.made
-    ∙ ap (λ (s : FactSet). length (lacked_of jobs c.args.job inlining s))
+    ∙ ap (λ (s : FactSet). length (missing_work jobs c.args.job inlining s))
     (c.in_ok-held.ensures ∙ ap (λ (ks : List Key). lent (all_held ends) ks) keys)
-    ∙ ap length (lacked_of_lent jobs c.args.job entry inlining (all_held ends) there)
-    ∙ ap (λ (hs : List (List Event)). length (lacked_of jobs c.args.job inlining (all_held hs))) c.deref-3.ensures.value
+    ∙ ap length (missing_work_of_lent jobs c.args.job entry inlining (all_held ends) there)
+    ∙ ap (λ (hs : List (List Event)). length (missing_work jobs c.args.job inlining (all_held hs))) c.deref-3.ensures.value

@@ -9,9 +9,9 @@ loop-key-init g c f = rw c.new-state.ensures (lent_none c.args.self.now f)
 pub loop-key-preserved : goal.loop-key-preserved
 loop-key-preserved g c =
     let keys = c.args.keys.now in
-    lent_more c.args.self.now c.loop-key.state c.take_of_key.new.self keys c.loop-key.key-index c.key-item.result
+    lent_more c.args.self.now c.loop-key.state c.copy_facts_of_key.new.self keys c.loop-key.key-index c.key-item.result
     (slice_get_read keys (length keys) c.loop-key.key-index c.key-item.result refl c.loop-key-test.true c.key-item.is) c.loop-key.invariant
-    c.in_ok-take_of_key.ensures
+    c.in_ok-copy_facts_of_key.ensures
 
 pub returns-clause-lent : goal.returns-clause-lent
 returns-clause-lent g c =

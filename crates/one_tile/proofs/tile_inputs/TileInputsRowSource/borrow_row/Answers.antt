@@ -19,14 +19,14 @@ borrow_row-requires g c = λ k h.
     let tile = c.args.self.now.tile in
     let job = pipeline_in tile.job.now in
     let inlining = tile.layout.now.inlining in
-    let given = g.K.Known.given tile.known.now in
+    let given = g.K.TileSource.given tile.known.now in
     let Inner : ℕ → ℤ → ℤ → Type 0 = IsBoxed job tile.layout.now given c.args.self.now.boxes in
     let s = stage_view c.in_ok-found.found.now in
     let row : FitsSigned w32 c.args.row = search rules in
     let first : FitsSigned w32 c.args.first = search rules in
     let there : slice_get job.stages c.args.stage ≡ Some s = sym c.in_ok-found.ensures in
-    given_by given (g.K.Known.given c.given.result.known.now) c.args.stage c.given.result.stage (grid_of job s) c.given.result.grid
-    c.args.row (c.args.first +ℤ pos k) _ _ (ap g.K.Known.given c.given.ensures.known) c.given.ensures.stage c.given.ensures.grid
+    given_by given (g.K.TileSource.given c.view_supplied_tiles.result.known.now) c.args.stage c.view_supplied_tiles.result.stage (grid_of job s) c.view_supplied_tiles.result.grid
+    c.args.row (c.args.first +ℤ pos k) _ _ (ap g.K.TileSource.given c.view_supplied_tiles.ensures.known) c.view_supplied_tiles.ensures.stage c.view_supplied_tiles.ensures.grid
     (to_z-of_z w32 c.args.row row) (ap (λ (z : ℤ). z +ℤ pos k) (to_z-of_z w32 c.args.first first))
     (of_stored job inlining given Inner c.args.stage c.args.row (c.args.first +ℤ pos k) s there (c.requires k h) _ _
     (function_body c.in_ok-found.found.now c.body.result.now c.in-Function-2.field-0 c.body.ensures c.in-Function-2.is)
@@ -37,7 +37,7 @@ returns-in-Function-2 g c =
     let tile = c.args.self.now.tile in
     let job = pipeline_in tile.job.now in
     let inlining = tile.layout.now.inlining in
-    let given = g.K.Known.given tile.known.now in
+    let given = g.K.TileSource.given tile.known.now in
     let Inner : ℕ → ℤ → ℤ → Type 0 = IsBoxed job tile.layout.now given c.args.self.now.boxes in
     let s = stage_view c.in_ok-found.found.now in
     let row : FitsSigned w32 c.args.row = search rules in
@@ -47,9 +47,9 @@ returns-in-Function-2 g c =
       is.0,
       λ k h.
           is.1 k h
-          ∙ number_by given (g.K.Known.given c.given.result.known.now) c.args.stage c.given.result.stage (grid_of job s)
-          c.given.result.grid c.args.row (c.args.first +ℤ pos k) _ _ (ap g.K.Known.given c.given.ensures.known) c.given.ensures.stage
-          c.given.ensures.grid (to_z-of_z w32 c.args.row row) (ap (λ (z : ℤ). z +ℤ pos k) (to_z-of_z w32 c.args.first first))
+          ∙ number_by given (g.K.TileSource.given c.view_supplied_tiles.result.known.now) c.args.stage c.view_supplied_tiles.result.stage (grid_of job s)
+          c.view_supplied_tiles.result.grid c.args.row (c.args.first +ℤ pos k) _ _ (ap g.K.TileSource.given c.view_supplied_tiles.ensures.known) c.view_supplied_tiles.ensures.stage
+          c.view_supplied_tiles.ensures.grid (to_z-of_z w32 c.args.row row) (ap (λ (z : ℤ). z +ℤ pos k) (to_z-of_z w32 c.args.first first))
           ∙ sym (read_stored job inlining given (local_value job inlining given) c.args.stage s there c.args.row
           (c.args.first +ℤ pos k) _ _ (function_body c.in_ok-found.found.now c.body.result.now c.in-Function-2.field-0 c.body.ensures
           c.in-Function-2.is) (sym c.inlined.ensures ∙ c.if-inlined.false)),
@@ -59,7 +59,7 @@ pub slice-requires : goal.slice-requires
 slice-requires g c =
     let tile = c.args.self.now.tile in
     let job = pipeline_in tile.job.now in
-    let given = g.K.Known.given tile.known.now in
+    let given = g.K.TileSource.given tile.known.now in
     let s = stage_view c.in_ok-found.found.now in
     let row : FitsSigned w32 c.args.row = search rules in
     let first : FitsSigned w32 c.args.first = search rules in
@@ -73,7 +73,7 @@ pub returns-in-Some : goal.returns-in-Some
 returns-in-Some g c =
     let tile = c.args.self.now.tile in
     let job = pipeline_in tile.job.now in
-    let given = g.K.Known.given tile.known.now in
+    let given = g.K.TileSource.given tile.known.now in
     let s = stage_view c.in_ok-found.found.now in
     let row : FitsSigned w32 c.args.row = search rules in
     let first : FitsSigned w32 c.args.first = search rules in
@@ -93,14 +93,14 @@ returns-in-Plane g c =
     let tile = c.args.self.now.tile in
     let job = pipeline_in tile.job.now in
     let inlining = tile.layout.now.inlining in
-    let given = g.K.Known.given tile.known.now in
+    let given = g.K.TileSource.given tile.known.now in
     let s = stage_view c.in_ok-found.found.now in
     let row : FitsSigned w32 c.args.row = search rules in
     let first : FitsSigned w32 c.args.first = search rules in
     let there : slice_get job.stages c.args.stage ≡ Some s = sym c.in_ok-found.ensures in
     let body = plane_body c.in_ok-found.found.now c.body.result.now c.in-Plane.plane c.body.ensures c.in-Plane.is in
-    some_then c.row.result
-    (some_both _ _ c.row.result c.row.ensures.count (c.row.ensures.samples job.picture c.args.self.now.wide)) (λ line is. (
+    some_then c.borrow_plane_row.result
+    (some_both _ _ c.borrow_plane_row.result c.borrow_plane_row.ensures.count (c.borrow_plane_row.ensures.samples job.picture c.args.self.now.wide)) (λ line is. (
       is.0,
       λ k h.
           is.1 k h

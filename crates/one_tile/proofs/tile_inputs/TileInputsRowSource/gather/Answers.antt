@@ -18,8 +18,8 @@ use Rattle.tile_eval.specs.Buffer.{place_of}
 use Rattle.tile_eval.specs.Rows.{at}
 use Rattle.one_tile.proofs.tile_inputs.TileInputsRowSource.gather.Goals as goal
 
-pub plane_gather-requires-clause-plane : goal.plane_gather-requires-clause-plane
-plane_gather-requires-clause-plane g c =
+pub gather_plane_row-requires-clause-plane : goal.gather_plane_row-requires-clause-plane
+gather_plane_row-requires-clause-plane g c =
     let tile = c.args.self.now.tile in
     let job = pipeline_in tile.job.now in
     let s = stage_view c.in-Some.found.now in
@@ -27,12 +27,12 @@ plane_gather-requires-clause-plane g c =
     (planes_lie job tile.job.now.well c.args.stage c.in-Plane.plane s (sym c.in-Some.ensures)
     (plane_body c.in-Some.found.now c.body.result.now c.in-Plane.plane c.body.ensures c.in-Plane.is)).0
 
-pub plane_gather-requires-clause-there : goal.plane_gather-requires-clause-there
-plane_gather-requires-clause-there g c =
+pub gather_plane_row-requires-clause-there : goal.gather_plane_row-requires-clause-there
+gather_plane_row-requires-clause-there g c =
     let tile = c.args.self.now.tile in
     let job = pipeline_in tile.job.now in
     let inlining = tile.layout.now.inlining in
-    let given = g.K.Known.given tile.known.now in
+    let given = g.K.TileSource.given tile.known.now in
     let Inner : ℕ → ℤ → ℤ → Type 0 = IsBoxed job tile.layout.now given c.args.self.now.boxes in
     let s = stage_view c.in-Some.found.now in
     let row : FitsSigned w32 c.args.row = search rules in
@@ -52,14 +52,14 @@ gather-requires-in-Function-2-clause-there g c = λ k h.
     let tile = c.args.self.now.tile in
     let job = pipeline_in tile.job.now in
     let inlining = tile.layout.now.inlining in
-    let given = g.K.Known.given tile.known.now in
+    let given = g.K.TileSource.given tile.known.now in
     let Inner : ℕ → ℤ → ℤ → Type 0 = IsBoxed job tile.layout.now given c.args.self.now.boxes in
     let s = stage_view c.in-Some.found.now in
     let row : FitsSigned w32 c.args.row = search rules in
     let there : slice_get job.stages c.args.stage ≡ Some s = sym c.in-Some.ensures in
-    given_by given (g.K.Known.given c.given.result.known.now) c.args.stage c.given.result.stage (grid_of job s) c.given.result.grid
-    c.args.row (index_at c.args.col.now (c.args.points.now.col +ℤ pos k)) _ _ (ap g.K.Known.given c.given.ensures.known)
-    c.given.ensures.stage c.given.ensures.grid (to_z-of_z w32 c.args.row row) refl
+    given_by given (g.K.TileSource.given c.view_supplied_tiles.result.known.now) c.args.stage c.view_supplied_tiles.result.stage (grid_of job s) c.view_supplied_tiles.result.grid
+    c.args.row (index_at c.args.col.now (c.args.points.now.col +ℤ pos k)) _ _ (ap g.K.TileSource.given c.view_supplied_tiles.ensures.known)
+    c.view_supplied_tiles.ensures.stage c.view_supplied_tiles.ensures.grid (to_z-of_z w32 c.args.row row) refl
     (of_stored job inlining given Inner c.args.stage c.args.row (index_at c.args.col.now (c.args.points.now.col +ℤ pos k)) s
     there (c.requires.there k h) _ _ (function_body c.in-Some.found.now c.body.result.now c.in-Function-2.field-0 c.body.ensures
     c.in-Function-2.is) (sym c.inlined.ensures ∙ c.if-inlined.false))
@@ -69,15 +69,15 @@ returns-in-Function-2 g c = λ k h.
     let tile = c.args.self.now.tile in
     let job = pipeline_in tile.job.now in
     let inlining = tile.layout.now.inlining in
-    let given = g.K.Known.given tile.known.now in
+    let given = g.K.TileSource.given tile.known.now in
     let Inner : ℕ → ℤ → ℤ → Type 0 = IsBoxed job tile.layout.now given c.args.self.now.boxes in
     let s = stage_view c.in-Some.found.now in
     let row : FitsSigned w32 c.args.row = search rules in
     let there : slice_get job.stages c.args.stage ≡ Some s = sym c.in-Some.ensures in
     c.gather-in-Function-2.ensures k h
-    ∙ number_by given (g.K.Known.given c.given.result.known.now) c.args.stage c.given.result.stage (grid_of job s) c.given.result.grid
-    c.args.row (index_at c.args.col.now (c.args.points.now.col +ℤ pos k)) _ _ (ap g.K.Known.given c.given.ensures.known)
-    c.given.ensures.stage c.given.ensures.grid (to_z-of_z w32 c.args.row row) refl
+    ∙ number_by given (g.K.TileSource.given c.view_supplied_tiles.result.known.now) c.args.stage c.view_supplied_tiles.result.stage (grid_of job s) c.view_supplied_tiles.result.grid
+    c.args.row (index_at c.args.col.now (c.args.points.now.col +ℤ pos k)) _ _ (ap g.K.TileSource.given c.view_supplied_tiles.ensures.known)
+    c.view_supplied_tiles.ensures.stage c.view_supplied_tiles.ensures.grid (to_z-of_z w32 c.args.row row) refl
     ∙ sym (read_stored job inlining given (local_value job inlining given) c.args.stage s there c.args.row
     (index_at c.args.col.now (c.args.points.now.col +ℤ pos k)) _ _
     (function_body c.in-Some.found.now c.body.result.now c.in-Function-2.field-0 c.body.ensures c.in-Function-2.is)
@@ -88,12 +88,12 @@ returns-in-Plane g c = λ k h.
     let tile = c.args.self.now.tile in
     let job = pipeline_in tile.job.now in
     let inlining = tile.layout.now.inlining in
-    let given = g.K.Known.given tile.known.now in
+    let given = g.K.TileSource.given tile.known.now in
     let Inner : ℕ → ℤ → ℤ → Type 0 = IsBoxed job tile.layout.now given c.args.self.now.boxes in
     let s = stage_view c.in-Some.found.now in
     let row : FitsSigned w32 c.args.row = search rules in
     let there : slice_get job.stages c.args.stage ≡ Some s = sym c.in-Some.ensures in
-    c.plane_gather.ensures k h
+    c.gather_plane_row.ensures k h
     ∙ (λ i. sample_at (c.picture.ensures i) c.in-Plane.plane (to_z-of_z w32 c.args.row row i)
     (index_at c.args.col.now (c.args.points.now.col +ℤ pos k)))
     ∙ sym (read_plane job inlining given (local_value job inlining given) c.args.stage s there c.args.row
@@ -104,36 +104,36 @@ pub gather-requires-clause-there : goal.gather-requires-clause-there
 gather-requires-clause-there g c =
     let tile = c.args.self.now.tile in
     let job = pipeline_in tile.job.now in
-    let given = g.K.Known.given tile.known.now in
+    let given = g.K.TileSource.given tile.known.now in
     let s = stage_view c.in-Some.found.now in
     let row : FitsSigned w32 c.args.row = search rules in
     let there : slice_get job.stages c.args.stage ≡ Some s = sym c.in-Some.ensures in
     let body = function_body c.in-Some.found.now c.body.result.now c.in-Function.field-0 c.body.ensures c.in-Function.is in
     let flag = sym c.inlined.ensures ∙ c.if-inlined.true in
     rw (to_z-of_z w32 c.args.row row) (λ k h.
-    view_holds job tile.layout.now given c.args.self.now.boxes c.args.stage s there _ _ body flag c.args.row (index_at c.args.col.now (c.args.points.now.col +ℤ pos k)) (c.requires.there k h) c.in-Some-boxed.view c.in-Some-boxed.ensures.some)
+    view_holds job tile.layout.now given c.args.self.now.boxes c.args.stage s there _ _ body flag c.args.row (index_at c.args.col.now (c.args.points.now.col +ℤ pos k)) (c.requires.there k h) c.in-Some-view_box.view c.in-Some-view_box.ensures.some)
 
-pub returns-in-Some-boxed : goal.returns-in-Some-boxed
-returns-in-Some-boxed g c = λ k h.
+pub returns-in-Some-view_box : goal.returns-in-Some-view_box
+returns-in-Some-view_box g c = λ k h.
     let tile = c.args.self.now.tile in
     let job = pipeline_in tile.job.now in
-    let given = g.K.Known.given tile.known.now in
+    let given = g.K.TileSource.given tile.known.now in
     let s = stage_view c.in-Some.found.now in
     let row : FitsSigned w32 c.args.row = search rules in
     let there : slice_get job.stages c.args.stage ≡ Some s = sym c.in-Some.ensures in
     let body = function_body c.in-Some.found.now c.body.result.now c.in-Function.field-0 c.body.ensures c.in-Function.is in
     let flag = sym c.inlined.ensures ∙ c.if-inlined.true in
     c.gather.ensures k h
-    ∙ (λ i. at c.in-Some-boxed.view.values.now (place_of c.in-Some-boxed.view.area (to_z-of_z w32 c.args.row row i) (index_at c.args.col.now (c.args.points.now.col +ℤ pos k))))
-    ∙ view_reads job tile.layout.now given c.args.self.now.boxes c.args.stage s there _ _ body flag c.args.row (index_at c.args.col.now (c.args.points.now.col +ℤ pos k)) (c.requires.there k h) c.in-Some-boxed.view c.in-Some-boxed.ensures.some
+    ∙ (λ i. at c.in-Some-view_box.view.values.now (place_of c.in-Some-view_box.view.area (to_z-of_z w32 c.args.row row i) (index_at c.args.col.now (c.args.points.now.col +ℤ pos k))))
+    ∙ view_reads job tile.layout.now given c.args.self.now.boxes c.args.stage s there _ _ body flag c.args.row (index_at c.args.col.now (c.args.points.now.col +ℤ pos k)) (c.requires.there k h) c.in-Some-view_box.view c.in-Some-view_box.ensures.some
 
-pub returns-in_default-boxed : goal.returns-in_default-boxed
-returns-in_default-boxed g c = λ k h.
+pub returns-in_default-view_box : goal.returns-in_default-view_box
+returns-in_default-view_box g c = λ k h.
     let tile = c.args.self.now.tile in
     let job = pipeline_in tile.job.now in
-    let given = g.K.Known.given tile.known.now in
+    let given = g.K.TileSource.given tile.known.now in
     let s = stage_view c.in-Some.found.now in
     let there : slice_get job.stages c.args.stage ≡ Some s = sym c.in-Some.ensures in
     let body = function_body c.in-Some.found.now c.body.result.now c.in-Function.field-0 c.body.ensures c.in-Function.is in
     let flag = sym c.inlined.ensures ∙ c.if-inlined.true in
-    absurd (some_view job tile.layout.now given c.args.self.now.boxes c.args.stage s there _ _ body flag c.args.row (index_at c.args.col.now (c.args.points.now.col +ℤ pos k)) (c.requires.there k h) c.in_default-boxed.ensures.none)
+    absurd (some_view job tile.layout.now given c.args.self.now.boxes c.args.stage s there _ _ body flag c.args.row (index_at c.args.col.now (c.args.points.now.col +ℤ pos k)) (c.requires.there k h) c.in_default-view_box.ensures.none)

@@ -13,20 +13,20 @@ use Rattle.tile_eval.specs.Buffer.{place_of}
 use Rattle.tile_eval.specs.Rows.{at}
 use Rattle.one_tile.proofs.tile_inputs.TileInputsRowSource.read_row.Goals as goal
 
-pub read_plane-requires-clause-plane : goal.read_plane-requires-clause-plane
-read_plane-requires-clause-plane g c =
+pub copy_plane_row-requires-clause-plane : goal.copy_plane_row-requires-clause-plane
+copy_plane_row-requires-clause-plane g c =
     let tile = c.args.self.now.tile in
     let job = pipeline_in tile.job.now in
     let s = stage_view c.in-Some.found.now in
     (planes_lie job tile.job.now.well c.args.stage c.in-Plane.plane s (sym c.in-Some.ensures)
     (plane_body c.in-Some.found.now c.body.result.now c.in-Plane.plane c.body.ensures c.in-Plane.is)).0
 
-pub read_plane-requires-clause-there : goal.read_plane-requires-clause-there
-read_plane-requires-clause-there g c =
+pub copy_plane_row-requires-clause-there : goal.copy_plane_row-requires-clause-there
+copy_plane_row-requires-clause-there g c =
     let tile = c.args.self.now.tile in
     let job = pipeline_in tile.job.now in
     let inlining = tile.layout.now.inlining in
-    let given = g.K.Known.given tile.known.now in
+    let given = g.K.TileSource.given tile.known.now in
     let Inner : ℕ → ℤ → ℤ → Type 0 = IsBoxed job tile.layout.now given c.args.self.now.boxes in
     let s = stage_view c.in-Some.found.now in
     let row : FitsSigned w32 c.args.row = search rules in
@@ -42,14 +42,14 @@ read_row-requires-in-Function-2 g c = λ k h.
     let tile = c.args.self.now.tile in
     let job = pipeline_in tile.job.now in
     let inlining = tile.layout.now.inlining in
-    let given = g.K.Known.given tile.known.now in
+    let given = g.K.TileSource.given tile.known.now in
     let Inner : ℕ → ℤ → ℤ → Type 0 = IsBoxed job tile.layout.now given c.args.self.now.boxes in
     let s = stage_view c.in-Some.found.now in
     let row : FitsSigned w32 c.args.row = search rules in
     let first : FitsSigned w32 c.args.first = search rules in
     let there : slice_get job.stages c.args.stage ≡ Some s = sym c.in-Some.ensures in
-    given_by given (g.K.Known.given c.given.result.known.now) c.args.stage c.given.result.stage (grid_of job s) c.given.result.grid
-    c.args.row (c.args.first +ℤ pos k) _ _ (ap g.K.Known.given c.given.ensures.known) c.given.ensures.stage c.given.ensures.grid
+    given_by given (g.K.TileSource.given c.view_supplied_tiles.result.known.now) c.args.stage c.view_supplied_tiles.result.stage (grid_of job s) c.view_supplied_tiles.result.grid
+    c.args.row (c.args.first +ℤ pos k) _ _ (ap g.K.TileSource.given c.view_supplied_tiles.ensures.known) c.view_supplied_tiles.ensures.stage c.view_supplied_tiles.ensures.grid
     (to_z-of_z w32 c.args.row row) (ap (λ (z : ℤ). z +ℤ pos k) (to_z-of_z w32 c.args.first first))
     (of_stored job inlining given Inner c.args.stage c.args.row (c.args.first +ℤ pos k) s there (c.requires k h) _ _
     (function_body c.in-Some.found.now c.body.result.now c.in-Function-2.field-0 c.body.ensures c.in-Function-2.is)
@@ -60,15 +60,15 @@ returns-in-Function-2 g c = λ k h.
     let tile = c.args.self.now.tile in
     let job = pipeline_in tile.job.now in
     let inlining = tile.layout.now.inlining in
-    let given = g.K.Known.given tile.known.now in
+    let given = g.K.TileSource.given tile.known.now in
     let Inner : ℕ → ℤ → ℤ → Type 0 = IsBoxed job tile.layout.now given c.args.self.now.boxes in
     let s = stage_view c.in-Some.found.now in
     let row : FitsSigned w32 c.args.row = search rules in
     let first : FitsSigned w32 c.args.first = search rules in
     let there : slice_get job.stages c.args.stage ≡ Some s = sym c.in-Some.ensures in
     c.read_row-in-Function-2.ensures k h
-    ∙ number_by given (g.K.Known.given c.given.result.known.now) c.args.stage c.given.result.stage (grid_of job s) c.given.result.grid
-    c.args.row (c.args.first +ℤ pos k) _ _ (ap g.K.Known.given c.given.ensures.known) c.given.ensures.stage c.given.ensures.grid
+    ∙ number_by given (g.K.TileSource.given c.view_supplied_tiles.result.known.now) c.args.stage c.view_supplied_tiles.result.stage (grid_of job s) c.view_supplied_tiles.result.grid
+    c.args.row (c.args.first +ℤ pos k) _ _ (ap g.K.TileSource.given c.view_supplied_tiles.ensures.known) c.view_supplied_tiles.ensures.stage c.view_supplied_tiles.ensures.grid
     (to_z-of_z w32 c.args.row row) (ap (λ (z : ℤ). z +ℤ pos k) (to_z-of_z w32 c.args.first first))
     ∙ sym (read_stored job inlining given (local_value job inlining given) c.args.stage s there c.args.row
     (c.args.first +ℤ pos k) _ _ (function_body c.in-Some.found.now c.body.result.now c.in-Function-2.field-0 c.body.ensures
@@ -78,7 +78,7 @@ pub read_row-requires : goal.read_row-requires
 read_row-requires g c =
     let tile = c.args.self.now.tile in
     let job = pipeline_in tile.job.now in
-    let given = g.K.Known.given tile.known.now in
+    let given = g.K.TileSource.given tile.known.now in
     let s = stage_view c.in-Some.found.now in
     let row : FitsSigned w32 c.args.row = search rules in
     let first : FitsSigned w32 c.args.first = search rules in
@@ -86,13 +86,13 @@ read_row-requires g c =
     let body = function_body c.in-Some.found.now c.body.result.now c.in-Function.field-0 c.body.ensures c.in-Function.is in
     let flag = sym c.inlined.ensures ∙ c.if-inlined.true in
     rw (to_z-of_z w32 c.args.row row) (rw (to_z-of_z w32 c.args.first first) (λ k h.
-    view_holds job tile.layout.now given c.args.self.now.boxes c.args.stage s there _ _ body flag c.args.row (c.args.first +ℤ pos k) (c.requires k h) c.in-Some-boxed.view c.in-Some-boxed.ensures.some))
+    view_holds job tile.layout.now given c.args.self.now.boxes c.args.stage s there _ _ body flag c.args.row (c.args.first +ℤ pos k) (c.requires k h) c.in-Some-view_box.view c.in-Some-view_box.ensures.some))
 
-pub returns-in-Some-boxed : goal.returns-in-Some-boxed
-returns-in-Some-boxed g c = λ k h.
+pub returns-in-Some-view_box : goal.returns-in-Some-view_box
+returns-in-Some-view_box g c = λ k h.
     let tile = c.args.self.now.tile in
     let job = pipeline_in tile.job.now in
-    let given = g.K.Known.given tile.known.now in
+    let given = g.K.TileSource.given tile.known.now in
     let s = stage_view c.in-Some.found.now in
     let row : FitsSigned w32 c.args.row = search rules in
     let first : FitsSigned w32 c.args.first = search rules in
@@ -100,17 +100,17 @@ returns-in-Some-boxed g c = λ k h.
     let body = function_body c.in-Some.found.now c.body.result.now c.in-Function.field-0 c.body.ensures c.in-Function.is in
     let flag = sym c.inlined.ensures ∙ c.if-inlined.true in
     c.read_row.ensures k h
-    ∙ (λ i. at c.in-Some-boxed.view.values.now (place_of c.in-Some-boxed.view.area (to_z-of_z w32 c.args.row row i)
+    ∙ (λ i. at c.in-Some-view_box.view.values.now (place_of c.in-Some-view_box.view.area (to_z-of_z w32 c.args.row row i)
     (to_z-of_z w32 c.args.first first i +ℤ pos k)))
-    ∙ view_reads job tile.layout.now given c.args.self.now.boxes c.args.stage s there _ _ body flag c.args.row (c.args.first +ℤ pos k) (c.requires k h) c.in-Some-boxed.view c.in-Some-boxed.ensures.some
+    ∙ view_reads job tile.layout.now given c.args.self.now.boxes c.args.stage s there _ _ body flag c.args.row (c.args.first +ℤ pos k) (c.requires k h) c.in-Some-view_box.view c.in-Some-view_box.ensures.some
 
-pub returns-in_default-boxed : goal.returns-in_default-boxed
-returns-in_default-boxed g c = λ k h.
+pub returns-in_default-view_box : goal.returns-in_default-view_box
+returns-in_default-view_box g c = λ k h.
     let tile = c.args.self.now.tile in
     let job = pipeline_in tile.job.now in
-    let given = g.K.Known.given tile.known.now in
+    let given = g.K.TileSource.given tile.known.now in
     let s = stage_view c.in-Some.found.now in
     let there : slice_get job.stages c.args.stage ≡ Some s = sym c.in-Some.ensures in
     let body = function_body c.in-Some.found.now c.body.result.now c.in-Function.field-0 c.body.ensures c.in-Function.is in
     let flag = sym c.inlined.ensures ∙ c.if-inlined.true in
-    absurd (some_view job tile.layout.now given c.args.self.now.boxes c.args.stage s there _ _ body flag c.args.row (c.args.first +ℤ pos k) (c.requires k h) c.in_default-boxed.ensures.none)
+    absurd (some_view job tile.layout.now given c.args.self.now.boxes c.args.stage s there _ _ body flag c.args.row (c.args.first +ℤ pos k) (c.requires k h) c.in_default-view_box.ensures.none)

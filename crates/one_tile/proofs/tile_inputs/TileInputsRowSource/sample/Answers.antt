@@ -13,8 +13,8 @@ use Rattle.tile_eval.specs.Buffer.{place_of}
 use Rattle.tile_eval.specs.Rows.{at}
 use Rattle.one_tile.proofs.tile_inputs.TileInputsRowSource.sample.Goals as goal
 
-pub plane_sample-requires-clause-plane : goal.plane_sample-requires-clause-plane
-plane_sample-requires-clause-plane g c =
+pub read_plane_sample-requires-clause-plane : goal.read_plane_sample-requires-clause-plane
+read_plane_sample-requires-clause-plane g c =
     let tile = c.args.self.now.tile in
     let job = pipeline_in tile.job.now in
     let s = stage_view c.in-Some.found.now in
@@ -22,12 +22,12 @@ plane_sample-requires-clause-plane g c =
     (planes_lie job tile.job.now.well c.args.stage c.in-Plane.plane s (sym c.in-Some.ensures)
     (plane_body c.in-Some.found.now c.body.result.now c.in-Plane.plane c.body.ensures c.in-Plane.is)).0
 
-pub plane_sample-requires-clause-there : goal.plane_sample-requires-clause-there
-plane_sample-requires-clause-there g c =
+pub read_plane_sample-requires-clause-there : goal.read_plane_sample-requires-clause-there
+read_plane_sample-requires-clause-there g c =
     let tile = c.args.self.now.tile in
     let job = pipeline_in tile.job.now in
     let inlining = tile.layout.now.inlining in
-    let given = g.K.Known.given tile.known.now in
+    let given = g.K.TileSource.given tile.known.now in
     let Inner : ℕ → ℤ → ℤ → Type 0 = IsBoxed job tile.layout.now given c.args.self.now.boxes in
     let s = stage_view c.in-Some.found.now in
     let row : FitsSigned w32 c.args.row = search rules in
@@ -44,7 +44,7 @@ pub sample-requires : goal.sample-requires
 sample-requires g c =
     let tile = c.args.self.now.tile in
     let job = pipeline_in tile.job.now in
-    let given = g.K.Known.given tile.known.now in
+    let given = g.K.TileSource.given tile.known.now in
     let s = stage_view c.in-Some.found.now in
     let row : FitsSigned w32 c.args.row = search rules in
     let col : FitsSigned w32 c.args.col = search rules in
@@ -52,13 +52,13 @@ sample-requires g c =
     let body = function_body c.in-Some.found.now c.body.result.now c.in-Function.field-0 c.body.ensures c.in-Function.is in
     let flag = sym c.inlined.ensures ∙ c.if-inlined.true in
     rw (to_z-of_z w32 c.args.row row) (rw (to_z-of_z w32 c.args.col col)
-    (view_holds job tile.layout.now given c.args.self.now.boxes c.args.stage s there _ _ body flag c.args.row c.args.col c.requires c.in-Some-boxed.view c.in-Some-boxed.ensures.some))
+    (view_holds job tile.layout.now given c.args.self.now.boxes c.args.stage s there _ _ body flag c.args.row c.args.col c.requires c.in-Some-view_box.view c.in-Some-view_box.ensures.some))
 
-pub returns-in-Some-boxed : goal.returns-in-Some-boxed
-returns-in-Some-boxed g c =
+pub returns-in-Some-view_box : goal.returns-in-Some-view_box
+returns-in-Some-view_box g c =
     let tile = c.args.self.now.tile in
     let job = pipeline_in tile.job.now in
-    let given = g.K.Known.given tile.known.now in
+    let given = g.K.TileSource.given tile.known.now in
     let s = stage_view c.in-Some.found.now in
     let row : FitsSigned w32 c.args.row = search rules in
     let col : FitsSigned w32 c.args.col = search rules in
@@ -67,15 +67,15 @@ returns-in-Some-boxed g c =
     let flag = sym c.inlined.ensures ∙ c.if-inlined.true in
     let fits : FitsSigned w32 c.sample.result = search rules in
     to_z-of_z w32 c.sample.result fits ∙ c.sample.ensures
-    ∙ (λ i. at c.in-Some-boxed.view.values.now (place_of c.in-Some-boxed.view.area (to_z-of_z w32 c.args.row row i)
+    ∙ (λ i. at c.in-Some-view_box.view.values.now (place_of c.in-Some-view_box.view.area (to_z-of_z w32 c.args.row row i)
     (to_z-of_z w32 c.args.col col i)))
-    ∙ view_reads job tile.layout.now given c.args.self.now.boxes c.args.stage s there _ _ body flag c.args.row c.args.col c.requires c.in-Some-boxed.view c.in-Some-boxed.ensures.some
+    ∙ view_reads job tile.layout.now given c.args.self.now.boxes c.args.stage s there _ _ body flag c.args.row c.args.col c.requires c.in-Some-view_box.view c.in-Some-view_box.ensures.some
 
 pub returns-in-None : goal.returns-in-None
 returns-in-None g c =
     let tile = c.args.self.now.tile in
     let job = pipeline_in tile.job.now in
-    let given = g.K.Known.given tile.known.now in
+    let given = g.K.TileSource.given tile.known.now in
     let s = stage_view c.in-Some.found.now in
     let there : slice_get job.stages c.args.stage ≡ Some s = sym c.in-Some.ensures in
     let body = function_body c.in-Some.found.now c.body.result.now c.in-Function.field-0 c.body.ensures c.in-Function.is in

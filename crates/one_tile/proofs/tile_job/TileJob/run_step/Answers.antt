@@ -11,7 +11,7 @@ pub bounds-ranges-place : goal.bounds-ranges-place
 bounds-ranges-place g c =
     let job = pipeline_in c.args.self.now.job.now in
     let l = c.args.self.now.layout.now in
-    let given = g.K.Known.given c.args.self.now.known.now in
+    let given = g.K.TileSource.given c.args.self.now.known.now in
     let some = c.requires.layout in
     let ss = c.steps.result.now in
     let rs = c.ranges-2.result.now in
@@ -22,7 +22,7 @@ pub write_box-requires-clause-area : goal.write_box-requires-clause-area
 write_box-requires-clause-area g c =
     let job = pipeline_in c.args.self.now.job.now in
     let l = c.args.self.now.layout.now in
-    let given = g.K.Known.given c.args.self.now.known.now in
+    let given = g.K.TileSource.given c.args.self.now.known.now in
     let some = c.requires.layout in
     let ss = c.steps.result.now in
     let rs = c.ranges-2.result.now in
@@ -33,7 +33,7 @@ pub write_box-requires-clause-inside : goal.write_box-requires-clause-inside
 write_box-requires-clause-inside g c =
     let job = pipeline_in c.args.self.now.job.now in
     let l = c.args.self.now.layout.now in
-    let given = g.K.Known.given c.args.self.now.known.now in
+    let given = g.K.TileSource.given c.args.self.now.known.now in
     let some = c.requires.layout in
     let ss = c.steps.result.now in
     let rs = c.ranges-2.result.now in
@@ -46,7 +46,7 @@ pub write_box-requires-clause-prepared : goal.write_box-requires-clause-prepared
 write_box-requires-clause-prepared g c =
     let job = pipeline_in c.args.self.now.job.now in
     let l = c.args.self.now.layout.now in
-    let given = g.K.Known.given c.args.self.now.known.now in
+    let given = g.K.TileSource.given c.args.self.now.known.now in
     let some = c.requires.layout in
     let ss = c.steps.result.now in
     let rs = c.ranges-2.result.now in
@@ -58,7 +58,7 @@ pub write_box-requires-clause-room : goal.write_box-requires-clause-room
 write_box-requires-clause-room g c =
     let job = pipeline_in c.args.self.now.job.now in
     let l = c.args.self.now.layout.now in
-    let given = g.K.Known.given c.args.self.now.known.now in
+    let given = g.K.TileSource.given c.args.self.now.known.now in
     let some = c.requires.layout in
     let ss = c.steps.result.now in
     let rs = c.ranges-2.result.now in
@@ -70,7 +70,7 @@ pub returns-in-Some-clause-size : goal.returns-in-Some-clause-size
 returns-in-Some-clause-size g c =
     let job = pipeline_in c.args.self.now.job.now in
     let l = c.args.self.now.layout.now in
-    let given = g.K.Known.given c.args.self.now.known.now in
+    let given = g.K.TileSource.given c.args.self.now.known.now in
     let some = c.requires.layout in
     let ss = c.steps.result.now in
     let rs = c.ranges-2.result.now in
@@ -82,7 +82,7 @@ pub returns-in-Some-clause-computed : goal.returns-in-Some-clause-computed
 returns-in-Some-clause-computed g c =
     let job = pipeline_in c.args.self.now.job.now in
     let l = c.args.self.now.layout.now in
-    let given = g.K.Known.given c.args.self.now.known.now in
+    let given = g.K.TileSource.given c.args.self.now.known.now in
     let some = c.requires.layout in
     let ss = c.steps.result.now in
     let rs = c.ranges-2.result.now in
@@ -94,7 +94,7 @@ pub returns-in_default-clause-computed : goal.returns-in_default-clause-computed
 returns-in_default-clause-computed g c =
     let job = pipeline_in c.args.self.now.job.now in
     let l = c.args.self.now.layout.now in
-    let given = g.K.Known.given c.args.self.now.known.now in
+    let given = g.K.TileSource.given c.args.self.now.known.now in
     let some = c.requires.layout in
     let ss = c.steps.result.now in
     let rs = c.ranges-2.result.now in

@@ -13,8 +13,8 @@ use Rattle.tile_eval.specs.inside.Cases.{IsReady, IsRoomy}
 use Rattle.tile_eval.proofs.Grid.{rows_more, row_len, line_within, same_place}
 use Rattle.tile_eval.proofs.source_row.SourceRow.fill_rows.Goals as goal
 
-pub by_cases-requires-clause-ready : goal.by_cases-requires-clause-ready
-by_cases-requires-clause-ready g c =
+pub evaluate_cases-requires-clause-ready : goal.evaluate_cases-requires-clause-ready
+evaluate_cases-requires-clause-ready g c =
     let lt : c.loop-i.i < c.args.rows = omega arith in
     let len : length c.loop-i.out ≡ c.args.rows * c.args.self.now.points.len = c.loop-i.auto.out ∙ c.requires.len in
     let whole : c.loop-i.i * c.args.self.now.points.len + c.args.self.now.points.len ≤ length c.loop-i.out =
@@ -63,12 +63,12 @@ loop-i-preserved g c =
     line_within c.loop-i.i c.args.rows c.args.self.now.points.len (length c.loop-i.out) lt len in
     let from : c.loop-i.i * c.args.self.now.points.len ≤ length c.loop-i.out = omega arith in
     let cut = row_len (c.loop-i.i * c.args.self.now.points.len) c.args.self.now.points.len c.loop-i.out whole in
-    let long : length c.by_cases.new.out ≡ c.args.self.now.points.len = c.by_cases.auto.out ∙ cut in
-    rows_more f c.loop-i.i c.args.self.now.points.len c.loop-i.out c.by_cases.new.out from long c.loop-i.invariant
+    let long : length c.evaluate_cases.new.out ≡ c.args.self.now.points.len = c.evaluate_cases.auto.out ∙ cut in
+    rows_more f c.loop-i.i c.args.self.now.points.len c.loop-i.out c.evaluate_cases.new.out from long c.loop-i.invariant
     (λ k h. let within : k
     < length (take (c.loop-i.i * c.args.self.now.points.len + c.args.self.now.points.len - c.loop-i.i * c.args.self.now.points.len)
     (drop (c.loop-i.i * c.args.self.now.points.len) c.loop-i.out)) = rw cut h in
-    c.by_cases.ensures k within
+    c.evaluate_cases.ensures k within
     ∙ ap (λ (ps : List KeptCase). function_value (g.S.RowSource.samples c.args.self.now.source.now) (map case_view ps)
     (option_map formula_view c.otherwise.result.now) c.below-points.result.row (c.below-points.result.col +ℤ pos k)) c.cases.ensures
     ∙ ap (λ (o : Option KeptFormula). function_value (g.S.RowSource.samples c.args.self.now.source.now)

@@ -8,11 +8,11 @@ use Rattle.tile_eval.proofs.source_row.SourceRow.sums_of_five.Goals as goal
 pub returns-in-Some-Some-Some-Some-Some : goal.returns-in-Some-Some-Some-Some-Some
 returns-in-Some-Some-Some-Some-Some g c = λ t k h.
     let lines = c.in-Some-Some-Some-Some-Some in
-    let first = rw lines.is-0 at c.borrowed_line-a.ensures in
-    let second = rw lines.is-1 at c.borrowed_line-b.ensures in
-    let third = rw lines.is-2 at c.borrowed_line-c.ensures in
-    let fourth = rw lines.is-3 at c.borrowed_line-d.ensures in
-    let fifth = rw lines.is-4 at c.borrowed_line-e.ensures in
+    let first = rw lines.is-0 at c.borrow_kernel_line-a.ensures in
+    let second = rw lines.is-1 at c.borrow_kernel_line-b.ensures in
+    let third = rw lines.is-2 at c.borrow_kernel_line-c.ensures in
+    let fourth = rw lines.is-3 at c.borrow_kernel_line-d.ensures in
+    let fifth = rw lines.is-4 at c.borrow_kernel_line-e.ensures in
     c.write_sums.ensures k h
     ∙ ap (λ (ks : List (List ℤ)). wrapped
     (tap_sum (factors ks 0) lines.a.now k +ℤ tap_sum (factors ks 1) lines.b.now k +ℤ tap_sum (factors ks 2) lines.c.now k +ℤ tap_sum (factors ks 3) lines.d.now k +ℤ tap_sum (factors ks 4) lines.e.now k)) c.in-Some.ensures.is

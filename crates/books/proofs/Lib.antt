@@ -1,3 +1,0 @@
-pub mod UpdateLaws
-pub mod HistoryLaws
-pub mod LoanLaws

@@ -1,4 +1,0 @@
-pub mod Updates
-pub mod Histories
-pub mod Loans
-pub mod Books

@@ -1,0 +1,4 @@
+pub mod FaultLines
+pub mod Statuses
+pub mod StepFaults
+pub mod Taking

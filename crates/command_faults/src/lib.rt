@@ -1,0 +1,16 @@
+//! The faults of commands, and the one line that reports each.
+#![tactic(auto)]
+
+mod bind_lines;
+mod check_lines;
+mod facts_lines;
+mod fault_lines;
+mod faults;
+mod lines;
+mod script_lines;
+mod texts;
+
+pub use fault_lines::write_line;
+pub use faults::StreamFault;
+pub use lines::{BindLine, CheckLine, FarmLine, ParamLine, StageNames};
+pub use texts::write_texts;

@@ -1,0 +1,6 @@
+pub mod Accepting
+pub mod Handing
+pub mod Known
+pub mod Listed
+pub mod Refused
+pub mod TableLines

@@ -1,0 +1,87 @@
+-- What the steps from an input to its job give, and their faults.
+use Rattle.std.specs.Prelude.{◌≡◌, ◌≢◌, ◌⊎◌, ℕ, ◌≤◌, List, length, drop, string_bytes}
+use Rattle.pipe_tree.specs.Faults.{IsText}
+use Rattle.pipe_tree.specs.Tree.{Declaration}
+use Rattle.pipe_checks.specs.declared.symbol.Symbol.{Symbol}
+use Rattle.pipe_bounds.specs.declared.fault.ParamFault.{ParamFault}
+use Rattle.pipe_bounds.specs.declared.params.Setting.{Setting}
+use Rattle.binding.specs.declared.fault.BindFault.{BindFault}
+use Rattle.binding.specs.declared.fault.BindFault.TheVariants as binding
+use Rattle.command_faults.specs.declared.faults.StreamFault.{StreamFault}
+use Rattle.command_faults.specs.declared.faults.StreamFault.TheVariants as faults
+use Rattle.command_inputs.specs.Faults.{IsCheckLine, blamed}
+use Rattle.command_inputs.specs.Giving.{Given, IsFirstRefused}
+use Rattle.command_inputs.specs.Sections.{IsParted}
+use Rattle.command_inputs.specs.Tables.{AreTableLines, BeginsWithLine, IsFirstLacking, LacksTable}
+use Rattle.pipe_checks.specs.Names.{tables_of}
+use Rattle.tables.specs.Lines.{IsTableLine}
+use Rattle.tables.specs.declared.table.Table.{Table}
+
+-- ---- what is read
+
+-- the first section is a program of this tree, and what follows its separator line starts at this place
+pub record IsProgramBefore (input : List ℕ) (tree : List Declaration) (start : ℕ) : Type 0 where
+  pub text : List ℕ
+  pub parted : IsParted input text (drop start input)
+  pub program : IsText text tree
+  pub within : start ≤ length input
+
+-- the section begins with a line of this table, and what follows it starts at this place
+pub record BeginsWithTable (section : List ℕ) (t : Table) (start : ℕ) : Type 0 where
+  pub line : List ℕ
+  pub begins : BeginsWithLine section line (drop start section)
+  pub is : IsTableLine line t
+  pub within : start ≤ length section
+
+-- `count` lines of tables are at the head of the section, and what follows them starts at this place
+pub record AreTablesBefore (section : List ℕ) (count : ℕ) (tables : List Table) (start : ℕ) : Type 0 where
+  pub each : length tables ≡ count
+  pub lines : AreTableLines section tables (drop start section)
+  pub within : start ≤ length section
+
+-- The first section is a program of this tree, and the last one begins with a line for each of its tables. What follows them
+-- starts at this place of the input.
+pub record IsHeadBefore (input : List ℕ) (tree : List Declaration) (tables : List Table) (start : ℕ) : Type 0 where
+  pub text : List ℕ
+  pub last : List ℕ
+  pub parted : IsParted input text last
+  pub program : IsText text tree
+  pub each : length tables ≡ length (tables_of tree)
+  pub lines : AreTableLines last tables (drop start input)
+  pub within : start ≤ length input
+
+-- ---- faults of the steps: memory may be refused in each
+
+-- the first line is missing, or is no table's
+abbrev pub IsLineRefusal : List ℕ → ℕ → StreamFault → Type 0
+IsLineRefusal section line fault = (fault ≡ faults.Memory) ⊎ ((fault ≡ faults.Tables line) × LacksTable section)
+
+-- the first of `count` lines that is missing, or is no table's
+abbrev pub IsTablesRefusal : List ℕ → ℕ → StreamFault → Type 0
+IsTablesRefusal section count fault =
+    (fault ≡ faults.Memory) ⊎ ((line : ℕ) × (fault ≡ faults.Tables line) × IsFirstLacking section count line)
+
+-- a rejected program
+abbrev pub IsRefusal : List Declaration → StreamFault → Type 0
+IsRefusal tree (faults.Check line) = IsCheckLine tree line
+IsRefusal tree faults.Memory = Unit {0}
+IsRefusal tree _ = ⊥
+
+-- how a rejected parameter of this name is reported
+abbrev pub TellsParam : ParamFault → List ℕ → StreamFault → Type 0
+TellsParam fault name (faults.Param line) = (line.fault ≡ fault) × (string_bytes line.name ≡ name)
+TellsParam fault name faults.Memory = Unit {0}
+TellsParam fault name _ = ⊥
+
+-- the first rejected parameter
+abbrev pub IsParamRefusal : List Setting → List Given → StreamFault → Type 0
+IsParamRefusal ss given (faults.Param line) = IsFirstRefused ss given line
+IsParamRefusal ss given faults.Memory = Unit {0}
+IsParamRefusal ss given _ = ⊥
+
+-- how a fault of binding is reported by the names of these parameters, tables and stages
+abbrev pub TellsBind : List Symbol → List Symbol → List Symbol → BindFault → StreamFault → Type 0
+TellsBind params tables stages fault (faults.Bind line) =
+    (line.fault ≡ fault) × (fault ≢ binding.Memory) × (line.blamed ≡ blamed params tables stages fault)
+TellsBind params tables stages fault faults.Memory = Unit {0}
+TellsBind params tables stages fault _ = ⊥

@@ -1,0 +1,143 @@
+//! From the bytes of an input to its job.
+
+ghost use Rattle.std.specs.Prelude.{◌≡◌, IfOk, IfErr, List};
+ghost use Rattle.domains.specs.Sides.{Sides};
+ghost use Rattle.pipe_print.specs.Canonical.{canonical};
+ghost use Rattle.pipe_tree.specs.Content.{content};
+ghost use Rattle.job.specs.Kept.{pipeline_in, program_text_in};
+ghost use Rattle.job.specs.WellFormed.{IsJob, IsSmall};
+ghost use Rattle.command_inputs.specs.Faults.{IsFaultAround, IsFaultOf, IsJobFault, IsSpellingFault};
+ghost use Rattle.command_inputs.specs.Giving.{Given};
+ghost use Rattle.command_inputs.specs.Input.{IsInput, IsJobAt, IsReadAround, IsReadJob, IsSpelled};
+ghost use Rattle.command_inputs.specs.inside.Steps.{IsHeadBefore, IsProgramBefore};
+
+use crate::bind_faults::report_bind_fault;
+use crate::programs::accept;
+use crate::sections::{SEPARATOR, find_separator, split_sections};
+use crate::settings::choose;
+use crate::table_lines::read_tables;
+use binding::bind;
+use command_faults::StreamFault;
+use domains::TileSides;
+use job::Job;
+use netpbm::Picture;
+use pipe_lang::parse;
+use pipe_tree::Tree;
+use std::alloc::Global;
+use tables::Table;
+
+/// The job of the program, its tables and the picture that the input spells. The job of a raw picture keeps the input's bytes. If
+/// the picture is spelled in digits, they are freed once it is read.
+pub fn read_job(
+    alloc: Global,
+    sides: TileSides,
+    given: &[(String, i32)],
+    input: Vec<u8>,
+) -> Result<Job, StreamFault>
+    ensures of_input { IfOk result (IsReadJob input.items given.now sides) }
+    ensures job { IfOk result (λ job. IsJob (pipeline_in job)) }
+    ensures small { IfOk result (λ job. IsSmall (pipeline_in job)) }
+    ensures fault { IfErr result (IsFaultOf input.items given.now sides) }
+{
+    let (tree, tables, picture) = read_all(alloc, input)?;
+    make_job(alloc, sides, given, tree, tables, picture)
+}
+
+/// The job of the program, its tables and the picture that an input of three sections spells; and the section between them, which
+/// is not judged.
+pub fn read_job_and_middle<'a>(
+    alloc: Global,
+    sides: TileSides,
+    given: &[(String, i32)],
+    input: &'a [u8],
+) -> Result<(Job, &'a [u8]), StreamFault>
+    ensures of_input { IfOk result
+        (λ read. IsReadAround input.now given.now sides read.0 read.1.now) }
+    ensures job { IfOk result (λ read. IsJob (pipeline_in read.0)) }
+    ensures small { IfOk result (λ read. IsSmall (pipeline_in read.0)) }
+    ensures fault { IfErr result (IsFaultAround input.now given.now sides) }
+{
+    let Some((text, middle, last)) = split_sections(input) else {
+        return Err(StreamFault::NoSeparator);
+    };
+    let (tree, tables, picture) = read_spelled(alloc, text, last)?;
+    let job = make_job(alloc, sides, given, tree, tables, picture)?;
+    Ok((job, middle))
+}
+
+/// The program, its tables and the picture that the input spells. A raw picture keeps the input's bytes, so that no sample is
+/// copied.
+fn read_all(alloc: Global, input: Vec<u8>) -> Result<(Tree, Vec<Table>, Picture), StreamFault>
+    ensures ok { IfOk result (λ read. IsInput input.items (content read.0) read.1.items read.2) }
+    ensures fault { (given : List Given) (sides : Sides)
+        → IfErr result (IsFaultOf input.items given sides) }
+{
+    let (tree, tables, start) = read_head(alloc, input.as_slice())?;
+    let picture = netpbm::read_owned(alloc, input, start)?;
+    Ok((tree, tables, picture))
+}
+
+/// The program of the first section, its tables, and where the spelling of the picture starts.
+fn read_head(alloc: Global, input: &[u8]) -> Result<(Tree, Vec<Table>, usize), StreamFault>
+    ensures ok { IfOk result
+        (λ read. IsHeadBefore input.now (content read.0) read.1.items read.2) }
+    ensures fault { (given : List Given) (sides : Sides)
+        → IfErr result (IsFaultOf input.now given sides) }
+{
+    let (tree, start) = read_program(alloc, input)?;
+    let (tables, length) = read_tables(alloc, tree.items(), &input[start..])?;
+    Ok((tree, tables, start + length))
+}
+
+/// The program of the first section, and where the last section starts.
+fn read_program(alloc: Global, input: &[u8]) -> Result<(Tree, usize), StreamFault>
+    ensures ok { IfOk result (λ read. IsProgramBefore input.now (content read.0) read.1) }
+    ensures fault { (given : List Given) (sides : Sides)
+        → IfErr result (IsFaultOf input.now given sides) }
+{
+    let Some(at) = find_separator(input) else {
+        return Err(StreamFault::NoSeparator);
+    };
+    let tree = parse(alloc, &input[..at])?;
+    Ok((tree, at + SEPARATOR.len()))
+}
+
+/// The program of a text, and the tables and the picture that the last section spells.
+fn read_spelled(
+    alloc: Global,
+    text: &[u8],
+    last: &[u8],
+) -> Result<(Tree, Vec<Table>, Picture), StreamFault>
+    ensures ok { IfOk result
+        (λ read. IsSpelled text.now last.now (content read.0) read.1.items read.2) }
+    ensures fault { IfErr result (IsSpellingFault text.now last.now) }
+{
+    let tree = parse(alloc, text)?;
+    let (tables, start) = read_tables(alloc, tree.items(), last)?;
+    let picture = netpbm::read(alloc, &last[start..])?;
+    Ok((tree, tables, picture))
+}
+
+/// The job of a program, its tables and a picture at the supplied values.
+fn make_job(
+    alloc: Global,
+    sides: TileSides,
+    given: &[(String, i32)],
+    tree: Tree,
+    tables: Vec<Table>,
+    picture: Picture,
+) -> Result<Job, StreamFault>
+    ensures made { IfOk result
+        (λ job. IsJobAt (content tree) tables.items picture given.now sides (pipeline_in job)) }
+    ensures text { IfOk result (λ job. program_text_in job ≡ canonical (content tree)) }
+    ensures job { IfOk result (λ job. IsJob (pipeline_in job)) }
+    ensures fault { IfErr result
+        (IsJobFault (content tree) tables.items picture given.now sides) }
+{
+    let checked = accept(alloc, tree)?;
+    let params = choose(alloc, &checked, given)?;
+    match bind(alloc, checked, &params, tables, picture, sides) {
+        Ok(job) => Ok(job),
+        Err((program, _, _, fault)) => Err(report_bind_fault(&program, fault)),
+    }
+}

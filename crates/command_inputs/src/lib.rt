@@ -1,0 +1,14 @@
+//! From the bytes of an input to its job, or to its fault; and the catalog that has the job alone.
+#![tactic(auto)]
+
+mod bind_faults;
+mod job_catalog;
+mod jobs;
+mod programs;
+mod sections;
+mod settings;
+mod table_lines;
+
+pub use job_catalog::make_catalog;
+pub use jobs::{read_job, read_job_and_middle};
+pub use sections::{split_section, split_sections};

@@ -1,0 +1,4 @@
+pub mod Evaluation
+pub mod RequestedSchedule
+pub mod Results
+pub mod inside

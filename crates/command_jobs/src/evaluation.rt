@@ -1,0 +1,92 @@
+//! The tiles in which a job is evaluated, and the schedule of its evaluation.
+
+ghost use Rattle.std.specs.Prelude.{IfOk};
+ghost use Rattle.job.specs.Kept.{pipeline_in};
+ghost use Rattle.command_jobs.specs.Evaluation.{IsRetiled, IsEvaluationSchedule};
+
+use crate::schedule::make_evaluation_schedule;
+use command_line::Options;
+use domains::TileSides;
+use grouping::Schedule;
+use job::Job;
+use std::alloc::{AllocError, Global};
+
+/// The rows and columns of a tile where no others are requested.
+const USUAL_SIDE: u32 = 64;
+
+/// The columns of a tile where a job is evaluated instead: with long rows there are fewer steps for each point.
+const LONG_ROW: u32 = 1024;
+
+/// The rows of a tile where low tiles recompute few points: what is stored stays in the cache until it is read.
+const LOW_SIDE: u32 = 16;
+
+/// A job in the tiles in which it is evaluated, and the schedule of its evaluation.
+#[derive(Debug, Drop)]
+pub struct Evaluation {
+    pub job: Job,
+    pub schedule: Schedule,
+}
+
+// The points that a schedule computes for functions and accumulators, as far as they can be counted.
+fn count_points(job: &Job, schedule: &Schedule) -> u64 {
+    let mut points = 0u64;
+    for stage in 0..job.stages().len() {
+        points = points.saturating_add(schedule.cost(stage).unwrap_or(0));
+    }
+    points
+}
+
+// The job in tiles of `height` rows and 1,024 columns, or as it is if these are too many.
+fn lengthen_rows(job: Job, height: u32) -> Job
+    ensures { IsRetiled (pipeline_in job) (pipeline_in result) }
+{
+    let Some(sides) = TileSides::new(height, LONG_ROW) else {
+        return job;
+    };
+    match job.with_tiles(sides) {
+        Ok(tiled) => tiled,
+        Err(job) => job,
+    }
+}
+
+// Whether the first number of points is at most a sixteenth more than the second.
+fn is_cheap_enough(low: u64, high: u64) -> bool {
+    low <= high.saturating_add(high / 16)
+}
+
+impl Evaluation {
+    // The evaluation in the job's own tiles.
+    fn new(alloc: Global, job: Job, options: &Options) -> Result<Evaluation, AllocError>
+        ensures job { IfOk result (λ e. IsRetiled (pipeline_in job) (pipeline_in e.job)) }
+        ensures schedule { IfOk result (λ e. IsEvaluationSchedule options.now.stored options.now.percent
+            (pipeline_in e.job) e.schedule) }
+    {
+        let schedule = make_evaluation_schedule(alloc, &job, options)?;
+        Ok(Evaluation { job, schedule })
+    }
+}
+
+/// The job in the tiles in which it is evaluated, and the schedule of its evaluation. A job in tiles of the usual sides gets
+/// tiles of 1,024 columns. They have 16 rows if these are not too many tiles and have at most a sixteenth more points to compute,
+/// else 64.
+///
+/// # Errors
+///
+/// Fails only where memory is refused.
+pub fn plan_evaluation(alloc: Global, job: Job, options: &Options) -> Result<Evaluation, AllocError>
+    ensures job { IfOk result (λ e. IsRetiled (pipeline_in job) (pipeline_in e.job)) }
+    ensures schedule { IfOk result (λ e. IsEvaluationSchedule options.now.stored options.now.percent
+        (pipeline_in e.job) e.schedule) }
+{
+    let sides = job.sides();
+    if sides.height() != USUAL_SIDE || sides.width() != USUAL_SIDE {
+        return Evaluation::new(alloc, job, options);
+    }
+    let high = Evaluation::new(alloc, lengthen_rows(job, USUAL_SIDE), options)?;
+    let most = count_points(&high.job, &high.schedule);
+    let low = Evaluation::new(alloc, lengthen_rows(high.job, LOW_SIDE), options)?;
+    if is_cheap_enough(count_points(&low.job, &low.schedule), most) {
+        return Ok(low);
+    }
+    Evaluation::new(alloc, lengthen_rows(low.job, USUAL_SIDE), options)
+}

@@ -1,0 +1,19 @@
+use Rattle.std.proofs.Common.{[]}
+use Rattle.std.specs.Option.{option_map_or}
+use Rattle.netpbm.specs.Spelling.{spelling}
+use Rattle.command_faults.proofs.Taken.{part_front, takes_err, takes_of, takes_then}
+use Rattle.command_outcomes.proofs.reply.write_reply.Goals as goal
+
+pub returns-in_err-write_picture : goal.returns-in_err-write_picture
+returns-in_err-write_picture g c =
+    let reply = c.args.reply.now in
+    takes_err c.from_residual.result _ _ _ _ _ c.from_residual.ensures.0
+    (part_front (option_map_or spelling reply.picture []) reply.lines.items _ _ _ _ c.in_err-write_picture.ensures)
+
+pub returns : goal.returns
+returns g c =
+    let reply = c.args.reply.now in
+    let wrote = c.write_whole.ensures in
+    takes_then c.write_whole.result (option_map_or spelling reply.picture []) reply.lines.items _ _ _ _ _ _
+    c.in_ok-write_picture.ensures
+    (rw c.as_slice.ensures.value at (takes_of c.write_whole.result _ _ _ _ _ wrote.ok wrote.part wrote.failed))

@@ -1,0 +1,8 @@
+//! What a command reads and writes: the bytes of its input, its reply, and what is written at each ending.
+#![tactic(auto)]
+
+mod input;
+mod reply;
+
+pub use input::read_input;
+pub use reply::{Reply, write_reply};

@@ -1,5 +1,0 @@
-use Rattle.fact_audit.proofs.Judging.{one_true}
-use Rattle.fact_audit.proofs.laws.one_true_fact.Goals as goal
-
-pub returns : goal.returns
-returns c = one_true

@@ -1,5 +1,0 @@
-use Rattle.fact_audit.proofs.Judging as judging
-use Rattle.fact_audit.proofs.laws.one_verdict.Goals as goal
-
-pub returns : goal.returns
-returns c = judging.one_verdict

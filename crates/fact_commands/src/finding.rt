@@ -1,0 +1,25 @@
+//! Whether an audit found a fact that is not true.
+
+ghost use Rattle.fact_commands.specs.Verdicts.{IsFinding};
+
+use fact_audit::Verdict;
+
+/// Whether a verdict is that a fact is false.
+#[derive(Clone, Copy, Debug, PartialEq, Eq)]
+pub enum Finding {
+    /// No verdict is, or nothing was judged.
+    NoFalse,
+    /// At least one is.
+    AFalse,
+}
+
+/// What the verdicts found.
+pub fn find_false(verdicts: &[Verdict]) -> Finding
+    ensures { IsFinding result verdicts.now }
+{
+    if verdicts.contains(&Verdict::False) {
+        Finding::AFalse
+    } else {
+        Finding::NoFalse
+    }
+}

@@ -1,0 +1,39 @@
+//! One of every n.
+
+ghost use Rattle.std.specs.Prelude.{◌≡◌, ◌<◌, max};
+ghost use Rattle.farm_turns.specs.Periods.{is_selected, count_after};
+
+/// Counts, and selects one of every `period`; none if this is 0.
+#[derive(Debug, Drop)]
+pub struct PeriodCounter {
+    period: u32,
+    passed: u32,
+    ghost below: { passed < max 1 period },
+}
+
+impl PeriodCounter {
+    /// Selects one of every `period`, and has counted none yet.
+    pub fn new(period: u32) -> PeriodCounter
+        ensures period { result.period ≡ period }
+        ensures passed { result.passed ≡ 0 }
+    {
+        PeriodCounter { period, passed: 0 }
+    }
+
+    /// Counts one more, and returns whether it is selected, as the last of `period`.
+    pub fn count_next(&mut self) -> bool
+        ensures told { result ≡ is_selected self.old.period self.old.passed }
+        ensures passed { self.new.passed ≡ count_after self.old.period self.old.passed }
+        ensures same { self.new.period ≡ self.old.period }
+    {
+        if self.period == 0 {
+            return false;
+        }
+        if self.passed + 1 < self.period {
+            self.passed += 1;
+            return false;
+        }
+        self.passed = 0;
+        true
+    }
+}

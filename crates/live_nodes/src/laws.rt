@@ -1,0 +1,21 @@
+//! Consequences of the definitions, proved once for dependent crates. A law is a function whose clauses are the law.
+
+ghost use Rattle.live_nodes.specs.Accounts.{AccountFor};
+ghost use Rattle.live_nodes.specs.Histories.{IsLegal, MayFollow, node_after, replay};
+ghost use Rattle.live_nodes.specs.declared.event.Event.{Event as EventType};
+ghost use Rattle.live_nodes.specs.declared.receipt.Receipt.{Receipt};
+ghost use Rattle.std.specs.Prelude.{◌≡◌, ◌↔◌, ◌++◌, ◌∷◌, [], List, length, sum_by};
+
+/// A history grows at its end: its last event happens to the node that the events before it leave, and is allowed there.
+pub fn events_come_one_by_one()
+    ensures replay { (h : List EventType) (e : EventType) →
+        replay (h ++ e ∷ []) ≡ node_after (replay h) e }
+    ensures legal { (h : List EventType) (e : EventType) →
+        IsLegal (h ++ e ∷ []) ↔ (IsLegal h × MayFollow (replay h) e) }
+{}
+
+/// If lists of receipts account for a history, they have together as many receipts as it has events.
+pub fn accounts_are_as_long()
+    ensures { (history : List EventType) (lists : List (List Receipt)) → AccountFor history lists
+        → length history ≡ sum_by length lists }
+{}

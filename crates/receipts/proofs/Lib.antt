@@ -1,2 +1,0 @@
-pub mod SeenReceipts
-pub mod LongAccounts

@@ -1,5 +1,0 @@
-use Rattle.receipts.proofs.LongAccounts.{as_long}
-use Rattle.receipts.proofs.laws.accounts_are_as_long.Goals as goal
-
-pub returns : goal.returns
-returns c = as_long

@@ -1,3 +1,0 @@
-pub mod Replies
-pub mod Results
-pub mod inside

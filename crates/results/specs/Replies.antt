@@ -1,9 +1,0 @@
--- What a command has to write, in bytes.
-use Rattle.std.specs.Prelude.{ℕ, List, [], ◌++◌}
-use Rattle.std.specs.Option.{option_map_or}
-use Rattle.netpbm.specs.Spelling.{spelling}
-use Rattle.results.specs.declared.reply.Reply.{Reply}
-
--- the raw spelling of the picture, if there is one, then the lines
-abbrev pub reply_bytes : Reply → List ℕ
-reply_bytes r = option_map_or spelling r.picture [] ++ r.lines.items
