@@ -26,7 +26,7 @@ class Entry(NamedTuple):
 
 FORMAT = Entry(
     "format", ("tests/test_format",), TEXT,
-    "Each crate's text is as `rt fmt` writes it, without which it is not proved; reported at once",
+    "The text of each crate, of `tests/native` and of `bench/timed` is as `rt fmt` writes it. No crate is proved otherwise; reported at once",
 )
 PROVE = Entry(
     "proofs", ("rt", "ci"), TEXT,
@@ -66,7 +66,7 @@ CHECKS = tuple(Entry(*it) for it in (
      "`make quick` makes a program, which answers the examples as they are stored, and says what it is"),
     ("tests without proofs", ("tests/native/run",), TEXT,
      "Worked rows, histories, edges and comparisons of all crates, and threads that meet: compiled without proofs, with a test at each "
-     "place where a proof would be owed, each in a process of its own"),
+     "place where a proof would be owed, each in a process of its own. The parts of `bench/timed` compile, and stores are timed by few facts"),
     ("out of memory in each call", ("tests/native/sweep",), TEXT,
      "Each call of [this table](OOM.md) is made on a worked example, where each allocation fails in turn. It answers what it does with "
      "ample memory, or `Memory`. Then its object is unchanged, its arguments are handed back, and the same call succeeds. Allocations of "
