@@ -1,7 +1,15 @@
 """Tests of what tf says to words and files that were mistaken for others."""
+import os
 import re
 
+from tf_lib.running import FEATURES, fastest_built
+
 from .shared import COPY, PROGRAM, InRoom, tf
+
+
+def flags(features: set[str]) -> bytes:
+    """How the system tells a processor's features."""
+    return f"flags\t\t: fpu {' '.join(sorted(features))}\n".encode()
 
 
 class Words(InRoom):
@@ -21,6 +29,22 @@ class Words(InRoom):
     def test_version(self):
         _, written, _ = self.tf("--version")
         self.assertRegex(written.decode(), rf"^tilefarm, commit (unknown|[0-9a-f]+ of [0-9-]+); the program is {re.escape(PROGRAM)}\n$")
+
+    def test_the_program_for_avx2(self):
+        """It runs where the processor has all features, and where it is not older than the program for all processors."""
+        plain, wide, processors = (f"{self.room}/{name}" for name in ("tilefarm", "tilefarm.x86-64-v3", "cpuinfo"))
+        self.write("cpuinfo", flags(FEATURES))
+        for path in (plain, wide):
+            self.assertEqual(fastest_built(plain, wide, processors), plain)
+            self.write(os.path.basename(path), b"#!/bin/sh\n")
+            os.chmod(path, 0o755)
+        self.assertEqual(fastest_built(plain, wide, processors), wide)
+        self.assertEqual(fastest_built(plain, wide, f"{self.room}/none"), plain)
+        self.write("cpuinfo", flags(FEATURES - {"avx2"}))
+        self.assertEqual(fastest_built(plain, wide, processors), plain)
+        self.write("cpuinfo", flags(FEATURES))
+        os.utime(wide, (1, 1))
+        self.assertEqual(fastest_built(plain, wide, processors), plain)
 
     def test_blanks_round_an_equal_sign(self):
         for words in ("R = 4", "R= 4", "R =4"):

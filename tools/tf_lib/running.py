@@ -1,4 +1,5 @@
 """Running `tilefarm`: where it is, how long it takes, and how much memory it holds."""
+import contextlib
 import functools
 import os
 import shutil
@@ -14,6 +15,9 @@ from .text import Refused
 
 TOP = os.path.dirname(os.path.dirname(os.path.dirname(os.path.realpath(__file__))))
 BUILT = f"{TOP}/crates/tilefarm/out/tilefarm"
+# the same for processors with AVX2, which `make build` leaves beside it, and what the system calls the features of these
+WIDE = f"{BUILT}.x86-64-v3"
+FEATURES = {"avx2", "bmi1", "bmi2", "f16c", "fma", "abm", "movbe"}
 # what `make quick` leaves: the same text, of which nothing is proved
 QUICK = f"{TOP}/out/quick/tilefarm"
 # A small process of its own runs the program: what a process has held before it begins another counts as the other's.
@@ -43,13 +47,26 @@ class Ended(NamedTuple):
 def program() -> str:
     """The program: the one that TILEFARM names, else the built one, else one on the path, else what `make quick` made, with a word."""
     named = os.environ.get("TILEFARM")
-    found = next(filter(is_program, [named] if named else [BUILT, shutil.which("tilefarm"), QUICK]), None)
+    found = next(filter(is_program, [named] if named else [fastest_built(), shutil.which("tilefarm"), QUICK]), None)
     if found == QUICK and not named:
         tell(f"{os.path.relpath(QUICK)} answers, which is not proved: it stops at an index out of bounds, an overflow or a failed unwrap, "
              "where a proof shows that there is none (`make build` makes the proved program)")
     if named and not found:
         raise Refused(f"TILEFARM names {named}, which is no program")
     return found or none_is_there()
+
+
+def fastest_built(plain: str = BUILT, wide: str = WIDE, processors: str = "/proc/cpuinfo") -> str:
+    """The built program for processors with AVX2, where this machine's has it and the program is of the same build; else the one for all."""
+    is_current = is_program(plain) and is_program(wide) and os.path.getmtime(wide) >= os.path.getmtime(plain)
+    return wide if is_current and has_features(processors) else plain
+
+
+def has_features(processors: str) -> bool:
+    """Whether the processor runs what is compiled for those with AVX2, as the system tells."""
+    with contextlib.suppress(OSError), open(processors, encoding="utf-8") as told:
+        return any(line.startswith("flags") and FEATURES.issubset(line.split()) for line in told)
+    return False
 
 
 def none_is_there() -> str:

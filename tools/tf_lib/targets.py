@@ -3,7 +3,7 @@ import os
 import stat
 
 from .output import PICTURES, ending
-from .running import BUILT, QUICK
+from .running import BUILT, QUICK, WIDE
 from .text import Refused
 from .words import Asked
 
@@ -37,7 +37,7 @@ def refuse_own(asked: Asked, target: str) -> None:
     for path, kind in kinds.items():
         if is_same(path, target):
             raise Refused(f"{target}: the {kind} is read from this file, which -o would replace; name another one", 1)
-    if any(it and is_same(it, target) for it in (os.environ.get("TILEFARM"), BUILT, QUICK)):
+    if any(it and is_same(it, target) for it in (os.environ.get("TILEFARM"), BUILT, WIDE, QUICK)):
         raise Refused(f"{target}: this is the program tilefarm itself; name another file", 1)
 
 

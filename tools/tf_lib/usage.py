@@ -179,8 +179,8 @@ def help_text() -> str:
     lines += ["", "Options of tf:", *(row(f"{it.name} {it.value}", it.says) for it in OWN_OPTIONS)]
     when = {it.number: it.when.replace("`", "") for it in (*FACT_STATUSES, *STATUSES)}
     lines += ["", "Exit status:", *(row(str(it), when[it]) for it in sorted(when)), "",
-              "The program is $TILEFARM, or crates/tilefarm/out/tilefarm of this repository, or tilefarm on the path, or",
-              "what `make quick` made, which is not proved: that is told."]
+              "The program is $TILEFARM, or crates/tilefarm/out/tilefarm of this repository (the one for AVX2 beside it, where",
+              "the processor has that), or tilefarm on the path, or what `make quick` made, which is not proved: that is told."]
     return "\n".join(lines) + "\n"
 
 
