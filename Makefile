@@ -15,7 +15,7 @@ demo:
 	@echo '(run without proofs, by rt try; "make test" checks the proofs and leaves the proved program in'
 	@echo ' crates/tilefarm/out/tilefarm)'
 
-# The gate: every proof, every test, every stored run, the conformance cases, the examples, and mutants for 45 minutes of
+# The gate: every proof, every test, every stored run, the conformance cases, the examples, and mutants for 30 minutes of
 # processor time.
 test:
 	@tests/gate

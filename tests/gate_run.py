@@ -15,6 +15,8 @@ TROUBLE = re.compile(r"\bNOT [A-Z]+|\bBAD EDIT|\bFAIL|\bkilled\b")
 REFUSED = re.compile(r"rt: .* NOT PROVED$")
 # How many lines that tell of failures are told once more at the end, of each step that failed.
 TOLD = 12
+# The seconds that what a step started has, once the step itself has ended, to end as well.
+GRACE = 20.0
 PRINTING = threading.Lock()
 
 
@@ -68,11 +70,20 @@ class Running:
     def __init__(self, folder: str, words: list[str], limit: Optional[float]):
         how = {"stdin": subprocess.DEVNULL, "stdout": subprocess.PIPE, "stderr": subprocess.STDOUT, "errors": "replace"}
         self.ran = subprocess.Popen(words, cwd=folder, start_new_session=True, **how)
-        self.was_ended = False
+        self.was_ended, self.is_over = False, threading.Event()
+        threading.Thread(target=self.end_what_is_left, daemon=True).start()
         self.watch = threading.Timer(limit, self.end) if limit is not None else None
         if self.watch:
             self.watch.daemon = True
             self.watch.start()
+
+    def end_what_is_left(self) -> None:
+        """What a command started holds its output open, and nobody would wait for it once the command has ended."""
+        os.waitid(os.P_PID, self.ran.pid, os.WEXITED | os.WNOWAIT)
+        for number in (signal.SIGTERM, signal.SIGKILL):
+            if self.is_over.wait(GRACE):
+                return
+            self.stop(number)
 
     def end(self) -> None:
         self.was_ended = True
@@ -86,6 +97,7 @@ class Running:
 
     def wait(self) -> tuple[int, float]:
         """The exit status, and the processor time that the command and all that it started took."""
+        self.is_over.set()
         self.ran.stdout.close()
         _, status, used = os.wait4(self.ran.pid, 0)
         if self.watch:

@@ -3,7 +3,7 @@
 usage: tests/gate [--minutes N] [--mutants MINUTES | --all-mutants] [--anew]
 
 --minutes N        a clock: proofs and tests that it leaves no time for have failed; mutants that it leaves are counted as skipped
---mutants MINUTES  the budget of mutants in processor time, 45 minutes by default; those that it leaves are counted as skipped
+--mutants MINUTES  the budget of mutants in processor time, 30 minutes by default; those that it leaves are counted as skipped
 --all-mutants      judges all mutants, however long that takes: before a release
 --anew             uses nothing that an earlier run on this machine proved or judged
 
@@ -35,7 +35,7 @@ JUDGED = re.compile(r"mutants: (\w+): (\d+) of (\d+) refused, (\d+) checks, ([\d
 # Seconds of the clock that are kept for what is told at the end.
 LAST = 20
 # Minutes of processor that mutants may take, where nothing else is said.
-FOR_MUTANTS = 45.0
+FOR_MUTANTS = 30.0
 # Where the names of mutants that were not judged are left.
 NOT_JUDGED = "out/mutants_not_judged"
 

@@ -1,11 +1,14 @@
 #!/usr/bin/env python3
 """Tests of tests/gate, in a repository of their own with stubs for all that it runs. The last line is 'N passed, M failed'."""
+import contextlib
 import importlib.machinery
+import io
 import os
 import shutil
 import subprocess
 import sys
 import tempfile
+import time
 import types
 import unittest
 
@@ -14,6 +17,7 @@ TESTS = os.path.dirname(os.path.realpath(__file__))
 sys.path.insert(0, TESTS)
 
 import counted_tests
+import gate_run
 import gate_table
 
 PROVES = """#!/bin/sh
@@ -53,6 +57,22 @@ def write(path: str, text: str) -> None:
     with open(path, "w", encoding="utf-8") as file:
         file.write(text)
     os.chmod(path, 0o755)
+
+
+class Left(unittest.TestCase):
+    """What a step started and left behind is ended, and the step is counted by its own last line."""
+
+    def setUp(self):
+        self.addCleanup(setattr, gate_run, "GRACE", gate_run.GRACE)
+        gate_run.GRACE = 0.3
+
+    def test_what_a_step_leaves_behind_is_ended(self):
+        for left in ("sleep 300", "python3 -c 'import signal, time; signal.signal(15, signal.SIG_IGN); time.sleep(300)'"):
+            with self.subTest(left), contextlib.redirect_stdout(io.StringIO()):
+                began = time.monotonic()
+                step = gate_run.run("stub", "/", ["sh", "-c", f"{left} & echo '2 passed, 0 failed'"], gate_run.Clock(None))
+                self.assertEqual((step.passed, step.failed), (2, 0))
+                self.assertLess(time.monotonic() - began, 30)
 
 
 class Gate(unittest.TestCase):
@@ -112,7 +132,7 @@ class Gate(unittest.TestCase):
         _, lines = self.gate(PROVES)
         head = subprocess.run(["git", "rev-parse", "HEAD"], cwd=self.top, capture_output=True, text=True).stdout.strip()
         words = f"words: --as-built --order {head} --left {os.path.realpath(self.top)}/out/mutants_not_judged"
-        self.assertIn(f"{words} --budget 45", lines)
+        self.assertIn(f"{words} --budget 30", lines)
         begun = [it for it in lines if it.startswith("== gate: ") and "/" in it]
         self.assertTrue(begun[-1].startswith("== gate: mutants: "))
 
