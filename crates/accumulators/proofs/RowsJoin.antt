@@ -3,11 +3,11 @@ use Rattle.std.proofs.Common.{ℕ, ℤ, ◌≡◌, List, [], ◌∷◌, map, ref
 use Rattle.std.specs.Prelude.{fold}
 use Rattle.std.proofs.lemmas.List.Sums.{fold-append}
 use Rattle.domains.specs.Pairs.{pairs}
-use Rattle.operators.specs.declared.operator.Fold.{Fold}
+use Rattle.operators.specs.declared.operator.ReductionOp.{ReductionOp}
 use Rattle.reductions.specs.Bins.{joined_bins}
 use Rattle.reductions.proofs.GatherOnto.{joined_bins-assoc, still_kept}
 
-module _ (way : Fold) (totals : ℕ × ℕ → List ℤ) where
+module _ (way : ReductionOp) (totals : ℕ × ℕ → List ℤ) where
   -- the bins once the totals over a tile came in
   abbrev took : List ℤ → ℕ × ℕ → List ℤ
   took bins t = joined_bins way bins (totals t)

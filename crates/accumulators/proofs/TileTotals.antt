@@ -6,7 +6,7 @@ use Rattle.domains.specs.Span.{Ends}
 use Rattle.domains.specs.Tiles.{HasTile, tile_area}
 use Rattle.domains.specs.declared.area.Area.{Area}
 use Rattle.domains.specs.declared.grid.Grid.{Grid}
-use Rattle.operators.specs.declared.operator.Fold.{Fold}
+use Rattle.operators.specs.declared.operator.ReductionOp.{ReductionOp}
 use Rattle.job.specs.Answers.{grid_of, has_tiles}
 use Rattle.job.specs.Identity.{HasTileAt}
 use Rattle.job.specs.Pipeline.{Pipeline}
@@ -25,7 +25,7 @@ use Rattle.partials.specs.Partials.{AreLocalTotals}
 use Rattle.accumulators.proofs.TotalsOfAnswer.{grid_there, is_wanted}
 use Rattle.partials.proofs.TrueTilesGiveTotals.{layout_totals_true}
 
-module _ (job : Pipeline) (g : ℕ) (way : Fold) (bins : Ends) (grid : Grid) (is : IsGathered job g way bins grid) (i j : ℕ) where
+module _ (job : Pipeline) (g : ℕ) (way : ReductionOp) (bins : Ends) (grid : Grid) (is : IsGathered job g way bins grid) (i j : ℕ) where
   -- ---- a tile of the grid
 
   pub has_tile : HasTile grid i j → HasTileAt job g i j

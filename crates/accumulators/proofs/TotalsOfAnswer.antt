@@ -9,7 +9,7 @@ use Rattle.domains.proofs.Spans.{length-numbers_from}
 use Rattle.domains.specs.Span.{Ends, len_of, numbers_of}
 use Rattle.domains.specs.Tiles.{tiles_of}
 use Rattle.domains.specs.declared.grid.Grid.{Grid}
-use Rattle.operators.specs.declared.operator.Fold.{Fold}
+use Rattle.operators.specs.declared.operator.ReductionOp.{ReductionOp}
 use Rattle.job.specs.Answers.{grid_of, has_tiles, is_accumulator}
 use Rattle.job.specs.Pipeline.{Body, plane, function, accumulator, Pipeline, Stage}
 use Rattle.job.specs.Readers.{fold_of, bins_of, stage_fold, stage_bins, stage_grid, grid_at}
@@ -62,7 +62,7 @@ module _ (job : Pipeline) (g : ℕ) where
       by (Some s) e = by_body s s.body e
 
   -- what has them is an accumulator
-  pub is_gathered : (way : Fold) (bins : Ends) (grid : Grid) → stage_fold (slice_get job.stages g) ≡ Some way
+  pub is_gathered : (way : ReductionOp) (bins : Ends) (grid : Grid) → stage_fold (slice_get job.stages g) ≡ Some way
       → stage_bins (slice_get job.stages g) ≡ Some bins → grid_at job g ≡ Some grid → IsGathered job g way bins grid
   is_gathered way bins grid = by (slice_get job.stages g) refl
     where
@@ -84,7 +84,7 @@ module _ (job : Pipeline) (g : ℕ) where
       by None there e f h = absurd (none-some way e)
       by (Some s) there e f h = by_body s s.body there refl e f h
 
-module _ (job : Pipeline) (g : ℕ) (way : Fold) (bins : Ends) (grid : Grid) (is : IsGathered job g way bins grid) where
+module _ (job : Pipeline) (g : ℕ) (way : ReductionOp) (bins : Ends) (grid : Grid) (is : IsGathered job g way bins grid) where
   -- ---- by its parts
 
   pub grid_there : grid_at job g ≡ Some grid
@@ -107,5 +107,5 @@ module _ (job : Pipeline) (g : ℕ) (way : Fold) (bins : Ends) (grid : Grid) (is
       ∙ ap (λ (d : Grid). joined_over job g d (tiles_of d)) is.parted
       ∙ partials_join job g is.stage (tiles_of (grid_of job is.stage)) good is.there (IsPermutation-refl (tiles_of (grid_of job is.stage)))
 
-pub length-starts : (way : Fold) (bins : Ends) → length (starts way bins) ≡ len_of bins
+pub length-starts : (way : ReductionOp) (bins : Ends) → length (starts way bins) ≡ len_of bins
 length-starts way bins = length-map (numbers_of bins) _ ∙ length-numbers_from bins.lo (len_of bins)

@@ -2,7 +2,7 @@
 use Rattle.std.specs.Prelude.{ℕ, ℤ, ◌≡◌, Some, List, [], ◌∷◌, fold, slice_get}
 use Rattle.std.specs.Option.{option_map_or}
 use Rattle.domains.specs.Span.{Ends}
-use Rattle.operators.specs.declared.operator.Fold.{Fold}
+use Rattle.operators.specs.declared.operator.ReductionOp.{ReductionOp}
 use Rattle.job.specs.Pipeline.{Body, plane, function, accumulator, Pipeline}
 use Rattle.job.specs.Readers.{stage_fold, stage_bins}
 use Rattle.accumulators.specs.Answers.{Gathered}
@@ -10,7 +10,7 @@ use Rattle.reductions.specs.Bins.{starts, joined_bins}
 use Rattle.accumulators.specs.declared.running.RunningTotal.{RunningTotal}
 
 -- the bins after these partials came in, in this order
-abbrev pub taken : Fold → Ends → List (List ℤ) → List ℤ
+abbrev pub taken : ReductionOp → Ends → List (List ℤ) → List ℤ
 taken way bins partials = fold (joined_bins way) (starts way bins) partials
 
 -- the totals of stage g from them, if it is an accumulator

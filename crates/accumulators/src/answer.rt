@@ -12,7 +12,7 @@ ghost use Rattle.tile_run.specs.Work.{first_too_big, is_accumulator_at, is_store
 ghost use Rattle.accumulators.specs.Answers.{IsAnswer, IsEvaluationFault};
 
 use crate::computed::ComputedJob;
-use crate::outputs::OutputRun;
+use crate::outputs::OutputAssembly;
 use grouping::Schedule;
 use job::Job;
 use netpbm::Picture;
@@ -20,7 +20,8 @@ use pictures::assemble_image;
 use std::alloc::Global;
 use std::thread::Threads;
 use tile_run::{
-    LastReads, RunFault, StageSelection, StoredTiles, find_first_oversized_tile, run_used_functions,
+    LastReads, RunFault, StoredTiles, TiledStages, find_first_oversized_tile,
+    make_used_function_tiles,
 };
 
 /// The totals of an accumulator: its stage, its first bin, and the values of its bins from there on.
@@ -63,12 +64,7 @@ pub fn assemble_answer(
     ensures fault { IfErr result (IsRunFault (program_id_in job.now) (pipeline_in job.now)
         schedule.now.inlining (is_accumulator_at (pipeline_in job.now))) }
 {
-    if let Some(key) = find_first_oversized_tile(
-        alloc,
-        job,
-        schedule,
-        StageSelection::Accumulators,
-    )? {
+    if let Some(key) = find_first_oversized_tile(alloc, job, schedule, TiledStages::Accumulators)? {
         return Err(RunFault::ScratchTooBig(key));
     }
     let computed = ComputedJob {
@@ -90,7 +86,7 @@ pub fn assemble_answer(
 /// Fails before anything is computed if a tile of a stored function takes too much scratch memory. The fault names the first such
 /// tile by dependence order, row and column. If all of these fit, it names the first tile of an accumulator that does not. Fails
 /// also where memory is refused.
-pub fn evaluate(
+pub fn evaluate_job(
     rt: &(impl Threads + Sync),
     alloc: Global,
     job: &Job,
@@ -107,25 +103,20 @@ pub fn evaluate(
     ensures fault { IfErr result (IsEvaluationFault (program_id_in job.now) (pipeline_in job.now)
         schedule.now.inlining) }
 {
-    if let Some(key) = find_first_oversized_tile(alloc, job, schedule, StageSelection::Functions)? {
+    if let Some(key) = find_first_oversized_tile(alloc, job, schedule, TiledStages::Functions)? {
         return Err(RunFault::ScratchTooBig(key));
     }
-    if let Some(key) = find_first_oversized_tile(
-        alloc,
-        job,
-        schedule,
-        StageSelection::Accumulators,
-    )? {
+    if let Some(key) = find_first_oversized_tile(alloc, job, schedule, TiledStages::Accumulators)? {
         return Err(RunFault::ScratchTooBig(key));
     }
     let uses = LastReads::from_schedule(alloc, job, schedule)?;
-    let stored = run_used_functions(rt, alloc, job, schedule, &uses)?;
+    let stored = make_used_function_tiles(rt, alloc, job, schedule, &uses)?;
     let computed = ComputedJob {
         job,
         schedule,
         stored: &stored,
     };
-    let outputs = OutputRun {
+    let outputs = OutputAssembly {
         of: computed,
         uses: &uses,
     };

@@ -14,7 +14,7 @@ use crate::answer::Total;
 use crate::running::RunningTotal;
 use domains::Span;
 use job::Job;
-use operators::Fold;
+use operators::ReductionOp;
 use reductions::{create_start_bins, join_into};
 use std::alloc::{AllocError, Global};
 
@@ -23,7 +23,7 @@ impl RunningTotal {
     pub(crate) fn new(
         alloc: Global,
         stage: usize,
-        op: Fold,
+        op: ReductionOp,
         span: &Span,
     ) -> Result<RunningTotal, AllocError>
         ensures stage { IfOk result (λ begun. begun.stage ≡ stage) }

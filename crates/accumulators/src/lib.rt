@@ -10,10 +10,11 @@ mod running;
 mod totals;
 mod totals_scratch;
 
-pub use answer::{Answer, Total, assemble_answer, evaluate};
+pub use answer::{Answer, Total, assemble_answer, evaluate_job};
 pub use partials::partial;
 pub use pictures::{
-    OpenPlane, Sheet, SuppliedJob, assemble_image, build_picture, compute_row_area,
+    OutputPlane, OutputSheet, SuppliedJob, assemble_image, build_output_picture,
+    compute_output_tile_row_area,
 };
-pub use reductions::{compute_true_partial, find_accumulator_tile, join_into, whole};
+pub use reductions::{compute_true_partial, find_accumulator_tile_area, join_into, whole};
 pub use running::RunningTotal;

@@ -15,20 +15,20 @@ ghost use Rattle.accumulators.specs.inside.Planes.{IsKept, IsOutputStage};
 
 use crate::computed::ComputedJob;
 use job::Output;
-use netpbm::{Picture, Plane};
-use pictures::{StreamedOutput, SuppliedJob, build_picture};
+use netpbm::{PackedPlane, Picture};
+use pictures::{StreamedOutput, SuppliedJob, build_output_picture};
 use std::alloc::{AllocError, Global};
 use std::thread::Threads;
 use tile_run::{LastReads, StageRun};
 
 /// A job whose output is made, and which of its stored functions are read.
 #[derive(Clone, Copy)]
-pub(crate) struct OutputRun<'a> {
+pub(crate) struct OutputAssembly<'a> {
     pub(crate) of: ComputedJob<'a>,
     pub(crate) uses: &'a LastReads,
 }
 
-impl OutputRun<'_> {
+impl OutputAssembly<'_> {
     /// The picture of a job that has an output.
     ///
     /// # Errors
@@ -68,7 +68,7 @@ impl OutputRun<'_> {
         ensures image { IfOk result IsImage }
     {
         let planes = self.assemble_planes(rt, alloc, output.stages(), output.max() as u16)?;
-        Ok(build_picture(self.of.job, output, planes))
+        Ok(build_output_picture(self.of.job, output, planes))
     }
 
     // The planes of functions of the output.
@@ -78,7 +78,7 @@ impl OutputRun<'_> {
         alloc: Global,
         stages: &[usize],
         max: u16,
-    ) -> Result<Vec<Plane>, AllocError>
+    ) -> Result<Vec<PackedPlane>, AllocError>
         requires kept { IsKept (pipeline_in self.now.of.job.now) self.now.of.schedule.now
             self.now.uses.now.lasts.items (stored_tiles self.now.of.stored.now.stages.items) }
         requires outputs { All (IsOutputStage (pipeline_in self.now.of.job.now)
@@ -100,7 +100,7 @@ impl OutputRun<'_> {
         alloc: Global,
         stage: usize,
         max: u16,
-    ) -> Result<Plane, AllocError>
+    ) -> Result<PackedPlane, AllocError>
         requires kept { IsKept (pipeline_in self.now.of.job.now) self.now.of.schedule.now
             self.now.uses.now.lasts.items (stored_tiles self.now.of.stored.now.stages.items) }
         requires output { IsOutputStage (pipeline_in self.now.of.job.now)
@@ -125,7 +125,7 @@ impl OutputRun<'_> {
         alloc: Global,
         stage: usize,
         max: u16,
-    ) -> Result<Plane, AllocError>
+    ) -> Result<PackedPlane, AllocError>
         requires kept { IsKept (pipeline_in self.now.of.job.now) self.now.of.schedule.now
             self.now.uses.now.lasts.items (stored_tiles self.now.of.stored.now.stages.items) }
         requires output { IsOutputStage (pipeline_in self.now.of.job.now)

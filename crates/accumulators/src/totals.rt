@@ -17,13 +17,13 @@ use crate::totals_scratch::TotalsScratch;
 use domains::Grid;
 use job::{Accumulator, Body, Job};
 use overlap_tiles::{Layout, PlanFault};
-use partials::accumulate_tile;
-use pictures::is_one_thread_enough;
+use partials::accumulate_tile_values;
+use pictures::is_one_thread_enough_for_rows;
 use rayon::prelude::*;
-use reductions::{create_start_bins, join_all_bins};
+use reductions::{create_start_bins, join_lists_of_bins};
 use std::alloc::{AllocError, Global};
 use std::thread::Threads;
-use tile_run::{TileJob, estimate_rows_per_thread};
+use tile_run::{TileJob, estimate_tile_rows_per_thread};
 
 // Least number of points per bin in a row of tiles at which the rows are split among threads.
 const POINTS_OF_BIN: u64 = 16;
@@ -53,13 +53,13 @@ impl ComputedJob<'_> {
         let mut room = TotalsScratch::new(alloc);
         let mut all = Vec::new(alloc);
         for stage in 0..self.job.stages().len() {
-            self.push_total(&mut all, rt, alloc, &mut room, stage)?;
+            self.push_accumulator_total(&mut all, rt, alloc, &mut room, stage)?;
         }
         Ok(all)
     }
 
     // Adds the total of a stage, if it is an accumulator.
-    fn push_total(
+    fn push_accumulator_total(
         &self,
         all: &mut Vec<Total>,
         rt: &(impl Threads + Sync),
@@ -75,7 +75,7 @@ impl ComputedJob<'_> {
         let Some(tally) = self.find_accumulation(stage) else {
             return Ok(());
         };
-        let total = tally.compute_total(rt, alloc, room)?;
+        let total = tally.compute_accumulator_total(rt, alloc, room)?;
         all.push(total)?;
         Ok(())
     }
@@ -90,7 +90,7 @@ impl ComputedJob<'_> {
         ensures none { IfNone result (gathered_at (pipeline_in self.now.job.now) stage ≡ []) }
     {
         let grid = self.job.grid(stage)?;
-        let accumulator = find_accumulator(self.job, stage)?;
+        let accumulator = find_accumulator_for_totals(self.job, stage)?;
         Some(Accumulation {
             of: *self,
             stage,
@@ -101,7 +101,7 @@ impl ComputedJob<'_> {
 }
 
 // The accumulator of this number.
-fn find_accumulator(job: &Job, stage: usize) -> Option<&Accumulator>
+fn find_accumulator_for_totals(job: &Job, stage: usize) -> Option<&Accumulator>
     ensures some { IfSome result
         (λ accumulator. IsAccumulatorOf (pipeline_in job.now) stage accumulator.now) }
     ensures none { IfNone result (gathered_at (pipeline_in job.now) stage ≡ []) }
@@ -114,7 +114,7 @@ fn find_accumulator(job: &Job, stage: usize) -> Option<&Accumulator>
 
 impl Accumulation<'_> {
     // Its totals over all tiles.
-    fn compute_total(
+    fn compute_accumulator_total(
         &self,
         rt: &(impl Threads + Sync),
         alloc: Global,
@@ -148,17 +148,19 @@ impl Accumulation<'_> {
             ≡ fold (with_tile (pipeline_in self.now.of.job.now) self.now.stage
             self.now.accumulator.now.fold self.now.grid) bins.old (tiles_of self.now.grid)) }
     {
-        let least = estimate_rows_per_thread(self.of.job, self.of.schedule, self.stage);
-        if self.has_many_bins() || is_one_thread_enough(rt, self.grid.tile_rows(), least) {
+        let least = estimate_tile_rows_per_thread(self.of.job, self.of.schedule, self.stage);
+        if self.has_few_points_per_bin()
+            || is_one_thread_enough_for_rows(rt, self.grid.tile_rows(), least)
+        {
             return self.accumulate_rows_in_turn(alloc, room, bins);
         }
         let all = self.compute_totals_by_row(rt, alloc, least)?;
-        join_all_bins(self.accumulator.fold(), bins, &all);
+        join_lists_of_bins(self.accumulator.fold(), bins, &all);
         Ok(())
     }
 
     // Whether a row of tiles has few points per bin. Clearing and joining the bins of each row then costs more than threads gain.
-    fn has_many_bins(&self) -> bool {
+    fn has_few_points_per_bin(&self) -> bool {
         let bins = u64::from(self.accumulator.bins().len());
         let rows = u64::from(self.grid.tile_rows());
         self.grid.area.points() < POINTS_OF_BIN.saturating_mul(bins).saturating_mul(rows)
@@ -266,13 +268,13 @@ impl Accumulation<'_> {
             self.now.accumulator.now.fold self.now.grid bins.old (row, col)) }
     {
         let of = &self.of;
-        let layout = self.build_layout(alloc, row, col)?;
+        let layout = self.build_tile_layout(alloc, row, col)?;
         let tile = TileJob {
             job: of.job,
             layout: &layout,
             known: of.stored,
         };
-        accumulate_tile(
+        accumulate_tile_values(
             alloc,
             &tile,
             self.accumulator,
@@ -283,14 +285,14 @@ impl Accumulation<'_> {
     }
 
     // The layout of a tile.
-    fn build_layout(&self, alloc: Global, row: u32, col: u32) -> Result<Layout<'_>, AllocError>
+    fn build_tile_layout(&self, alloc: Global, row: u32, col: u32) -> Result<Layout<'_>, AllocError>
         requires tally { IsTally self.now }
         requires tile { HasTile self.now.grid row col }
         ensures { IfOk result (IsTileLayout (pipeline_in self.now.of.job.now)
             self.now.of.schedule.now.inlining self.now.stage row col) }
     {
         let of = &self.of;
-        match Layout::of(alloc, of.job, of.schedule, self.stage, row, col) {
+        match Layout::new(alloc, of.job, of.schedule, self.stage, row, col) {
             Ok(layout) => Ok(layout),
             Err(PlanFault::NoSuchTile) => unreachable!(),
             Err(PlanFault::ScratchTooBig) => unreachable!(),

@@ -1,6 +1,6 @@
 //! Memory in which totals are computed.
 
-use reductions::RowBuffers;
+use reductions::AccumulatorBuffers;
 use std::alloc::Global;
 use tile_run::TileScratch;
 
@@ -8,7 +8,7 @@ use tile_run::TileScratch;
 #[derive(Drop)]
 pub(crate) struct TotalsScratch {
     pub(crate) scratch: TileScratch,
-    pub(crate) rows: RowBuffers,
+    pub(crate) rows: AccumulatorBuffers,
 }
 
 impl TotalsScratch {
@@ -16,7 +16,7 @@ impl TotalsScratch {
     pub(crate) fn new(alloc: Global) -> TotalsScratch {
         TotalsScratch {
             scratch: TileScratch::new(alloc),
-            rows: RowBuffers::new(alloc),
+            rows: AccumulatorBuffers::new(alloc),
         }
     }
 }

@@ -19,8 +19,8 @@ use rayon::current_num_threads;
 use std::alloc::{AllocError, Global};
 use std::thread::Threads;
 use tile_run::{
-    LastReads, RunFault, StageSelection, WORK_OF_TILE, count_point_work, estimate_rows_per_thread,
-    find_first_oversized_tile,
+    LastReads, RunFault, TiledStages, WORK_OF_TILE, count_point_run_work,
+    estimate_tile_rows_per_thread, find_first_oversized_tile,
 };
 
 /// Least work in all, in reads and operators, at which several threads pay off: about three milliseconds.
@@ -29,7 +29,7 @@ const WORK_WORTH_THREADS: u64 = 16_777_216;
 /// Least work per output sample at which several threads pay off. Less is done sooner than strips are joined.
 const WORK_WORTH_JOINING: u64 = 12;
 
-/// The answer of a job, as of `accumulators::evaluate`, and under the same clauses. It is made band by band if the job has no
+/// The answer of a job, as of `accumulators::evaluate_job`, and under the same clauses. It is made band by band if the job has no
 /// accumulator, and no other stage reads an output. A band is a row of tiles of each output, made after those rows of other
 /// functions that it needs. Each row is freed after its last reader. Where there is work for several threads, each makes a strip
 /// of the rows.
@@ -56,19 +56,25 @@ pub fn evaluate_in_bands_or_whole(
     ensures fault { IfErr result (IsEvaluationFault (program_id_in job.now) (pipeline_in job.now)
         schedule.now.inlining) }
 {
-    let found = if is_one_thread_as_fast(rt, job, schedule) {
+    let found = if is_job_as_fast_on_one_thread(rt, job, schedule) {
         evaluate_in_bands(alloc, job, schedule)?
     } else {
-        evaluate_in_strips(rt, alloc, job, schedule, count_rows_per_thread(rt, job))?
+        evaluate_in_strips(
+            rt,
+            alloc,
+            job,
+            schedule,
+            count_strip_rows_per_thread(rt, job),
+        )?
     };
     match found {
         Some(answer) => Ok(answer),
-        None => accumulators::evaluate(rt, alloc, job, schedule),
+        None => accumulators::evaluate_job(rt, alloc, job, schedule),
     }
 }
 
 // How many rows of tiles of an output each thread makes.
-fn count_rows_per_thread(rt: &impl Threads, job: &Job) -> u32 {
+fn count_strip_rows_per_thread(rt: &impl Threads, job: &Job) -> u32 {
     match job.outputs().first() {
         Some(output) => {
             let threads = u32::try_from(current_num_threads(rt)).unwrap_or(u32::MAX);
@@ -80,33 +86,33 @@ fn count_rows_per_thread(rt: &impl Threads, job: &Job) -> u32 {
 
 // Whether one thread answers as soon as several: there is one processor, or no stage has rows of tiles for two threads. The same
 // holds where there is little work, in all or per sample.
-fn is_one_thread_as_fast(rt: &impl Threads, job: &Job, schedule: &Schedule) -> bool {
+fn is_job_as_fast_on_one_thread(rt: &impl Threads, job: &Job, schedule: &Schedule) -> bool {
     current_num_threads(rt) == 1
-        || has_only_small_stages(job, schedule)
-        || has_little_work(job, schedule)
+        || has_job_few_tile_rows(job, schedule)
+        || has_job_little_run_work(job, schedule)
 }
 
 // Whether the work of a job is little, by an estimate.
-fn has_little_work(job: &Job, schedule: &Schedule) -> bool {
-    let work = estimate_job_work(job, schedule);
+fn has_job_little_run_work(job: &Job, schedule: &Schedule) -> bool {
+    let work = estimate_job_run_work(job, schedule);
     work < WORK_WORTH_THREADS || work < count_output_samples(job).saturating_mul(WORK_WORTH_JOINING)
 }
 
 // The work of the tiles of all stages. The schedule gives the number of points that they take together; each counts as one of the
 // stage's own.
-fn estimate_job_work(job: &Job, schedule: &Schedule) -> u64 {
+fn estimate_job_run_work(job: &Job, schedule: &Schedule) -> u64 {
     let mut work = 0u64;
     for stage in 0..job.stages().len() {
-        work = work.saturating_add(estimate_stage_work(job, schedule, stage));
+        work = work.saturating_add(estimate_stage_run_work(job, schedule, stage));
     }
     work
 }
 
 // The work of the tiles of a stage.
-fn estimate_stage_work(job: &Job, schedule: &Schedule, stage: usize) -> u64 {
+fn estimate_stage_run_work(job: &Job, schedule: &Schedule, stage: usize) -> u64 {
     match (job.stage(stage), job.grid(stage), schedule.cost(stage)) {
         (Some(found), Some(grid), Some(points)) => points
-            .saturating_mul(count_point_work(found))
+            .saturating_mul(count_point_run_work(found))
             .saturating_add(grid.tiles().saturating_mul(WORK_OF_TILE)),
         _ => 0,
     }
@@ -124,9 +130,9 @@ fn count_output_samples(job: &Job) -> u64 {
 }
 
 // Whether no stage has rows of tiles for two threads.
-fn has_only_small_stages(job: &Job, schedule: &Schedule) -> bool {
+fn has_job_few_tile_rows(job: &Job, schedule: &Schedule) -> bool {
     for stage in 0..job.stages().len() {
-        if !is_small_stage(job, schedule, stage) {
+        if !has_stage_few_tile_rows(job, schedule, stage) {
             return false;
         }
     }
@@ -134,11 +140,12 @@ fn has_only_small_stages(job: &Job, schedule: &Schedule) -> bool {
 }
 
 // Whether a stage has rows of tiles for one thread only.
-fn is_small_stage(job: &Job, schedule: &Schedule, stage: usize) -> bool {
+fn has_stage_few_tile_rows(job: &Job, schedule: &Schedule, stage: usize) -> bool {
     match job.grid(stage) {
         Some(grid) => {
             schedule.inlined(stage)
-                || grid.tile_rows() as usize / 2 < estimate_rows_per_thread(job, schedule, stage)
+                || grid.tile_rows() as usize / 2
+                    < estimate_tile_rows_per_thread(job, schedule, stage)
         }
         None => true,
     }
@@ -166,7 +173,7 @@ pub fn evaluate_in_bands(
         (λ answer. first_too_big (pipeline_in job.now) schedule.now.inlining
         (is_accumulator_at (pipeline_in job.now)) ≡ None)) }
 {
-    if !can_evaluate_by_rows(alloc, job, schedule)? {
+    if !can_evaluate_in_bands(alloc, job, schedule)? {
         return Ok(None);
     }
     let Some(picture) = make_picture_in_bands(alloc, job, schedule)? else {
@@ -198,7 +205,7 @@ pub fn evaluate_in_strips(
         (λ answer. first_too_big (pipeline_in job.now) schedule.now.inlining
         (is_accumulator_at (pipeline_in job.now)) ≡ None)) }
 {
-    if len == 0 || !can_evaluate_by_rows(alloc, job, schedule)? {
+    if len == 0 || !can_evaluate_in_bands(alloc, job, schedule)? {
         return Ok(None);
     }
     let Some(picture) = make_picture_in_strips(rt, alloc, job, schedule, len)? else {
@@ -220,7 +227,7 @@ fn build_picture_answer(alloc: Global, picture: Picture) -> Answer
 
 // Whether a job may be answered row by row: it has no accumulator, nothing reads an output, and each tile fits into scratch
 // memory.
-fn can_evaluate_by_rows(alloc: Global, job: &Job, schedule: &Schedule) -> Result<bool, AllocError>
+fn can_evaluate_in_bands(alloc: Global, job: &Job, schedule: &Schedule) -> Result<bool, AllocError>
     requires schedule { IsScheduleOf (pipeline_in job.now) schedule.now }
     ensures none { IfOk result (λ goes. goes ≡ true → all_gathered (pipeline_in job.now) ≡ []) }
     ensures functions { IfOk result (λ goes. goes ≡ true → first_too_big (pipeline_in job.now)
@@ -229,22 +236,22 @@ fn can_evaluate_by_rows(alloc: Global, job: &Job, schedule: &Schedule) -> Result
     ensures accumulators { IfOk result (λ goes. goes ≡ true → first_too_big (pipeline_in job.now)
         schedule.now.inlining (is_accumulator_at (pipeline_in job.now)) ≡ None) }
 {
-    if has_accumulators(job) || has_read_outputs(alloc, job, schedule)? {
+    if has_answer_totals(job) || has_outputs_with_readers(alloc, job, schedule)? {
         return Ok(false);
     }
-    if find_first_oversized_tile(alloc, job, schedule, StageSelection::Functions)?.is_some() {
+    if find_first_oversized_tile(alloc, job, schedule, TiledStages::Functions)?.is_some() {
         return Ok(false);
     }
-    Ok(find_first_oversized_tile(alloc, job, schedule, StageSelection::Accumulators)?.is_none())
+    Ok(find_first_oversized_tile(alloc, job, schedule, TiledStages::Accumulators)?.is_none())
 }
 
 // Whether a job has accumulators.
 #[tactic(auto, using(tile_boxes::proofs::Lists::flat_map_range_more))]
-fn has_accumulators(job: &Job) -> bool
+fn has_answer_totals(job: &Job) -> bool
     ensures { result ≡ false → all_gathered (pipeline_in job.now) ≡ [] }
 {
     for stage in 0..job.stages().len() {
-        if is_accumulator(job, stage) {
+        if has_stage_totals(job, stage) {
             return true;
         }
     }
@@ -252,7 +259,7 @@ fn has_accumulators(job: &Job) -> bool
 }
 
 // Whether the stage of this number is an accumulator.
-fn is_accumulator(job: &Job, stage: usize) -> bool
+fn has_stage_totals(job: &Job, stage: usize) -> bool
     ensures { result ≡ false → gathered_at (pipeline_in job.now) stage ≡ [] }
 {
     match job.stage(stage) {
@@ -265,7 +272,11 @@ fn is_accumulator(job: &Job, stage: usize) -> bool
 }
 
 // Whether anything reads an output.
-fn has_read_outputs(alloc: Global, job: &Job, schedule: &Schedule) -> Result<bool, AllocError> {
+fn has_outputs_with_readers(
+    alloc: Global,
+    job: &Job,
+    schedule: &Schedule,
+) -> Result<bool, AllocError> {
     let uses = LastReads::from_schedule(alloc, job, schedule)?;
     for output in job.outputs() {
         if uses.is_used(*output) {

@@ -7,9 +7,9 @@ ghost use Rattle.tile_sources.specs.KnownTiles.{AreTrue};
 ghost use Rattle.bands.specs.Kept.{kept_tiles, IsRowOf};
 
 use crate::band_run::BandRun;
-use crate::kept_rows::{KeptRows, create_empty_row};
-use crate::row_range::RowRange;
-use crate::windows::Windows;
+use crate::kept_rows::{KeptTileRows, create_empty_tile_row};
+use crate::row_range::TileRowRange;
+use crate::windows::TileRowWindows;
 use grouping::Schedule;
 use job::Job;
 use std::alloc::{AllocError, Global};
@@ -20,7 +20,7 @@ use tile_run::{TileRow, TileScratch};
 pub(crate) struct Band<'a> {
     job: &'a Job,
     schedule: &'a Schedule,
-    kept: KeptRows,
+    kept: KeptTileRows,
     ghost right: { AreTrue (pipeline_in job.now) (kept_tiles kept.stages.items) },
 }
 
@@ -37,7 +37,7 @@ impl<'a> Band<'a> {
     ) -> Result<Band<'a>, AllocError>
         ensures { IfOk result (λ band. band.job.now ≡ job.now) }
     {
-        let kept = KeptRows::new(alloc, job)?;
+        let kept = KeptTileRows::new(alloc, job)?;
         Ok(Band {
             job,
             schedule,
@@ -53,7 +53,7 @@ impl<'a> Band<'a> {
     pub(crate) fn request_reads(
         &self,
         alloc: Global,
-        windows: &mut Windows,
+        windows: &mut TileRowWindows,
         stage: usize,
         row: u32,
     ) -> Result<(), AllocError> {
@@ -62,7 +62,7 @@ impl<'a> Band<'a> {
             self.job,
             self.schedule,
             stage,
-            RowRange::from_row(row),
+            TileRowRange::from_row(row),
         )
     }
 
@@ -71,7 +71,7 @@ impl<'a> Band<'a> {
     /// # Errors
     ///
     /// Fails only where memory is refused.
-    pub(crate) fn compute_row(
+    pub(crate) fn compute_tile_row(
         &self,
         alloc: Global,
         stage: usize,
@@ -86,11 +86,11 @@ impl<'a> Band<'a> {
             schedule: self.schedule,
             kept: &self.kept,
         };
-        run.compute_row(alloc, stage, row, scratch)
+        run.compute_tile_row(alloc, stage, row, scratch)
     }
 
     // Makes a row of tiles and keeps it, and returns whether it could.
-    fn make_row(
+    fn make_kept_row(
         &mut self,
         alloc: Global,
         stage: usize,
@@ -99,7 +99,7 @@ impl<'a> Band<'a> {
     ) -> Result<bool, AllocError>
         ensures { self.new.job ≡ self.old.job }
     {
-        let Some(tiles) = self.compute_row(alloc, stage, row, scratch)? else {
+        let Some(tiles) = self.compute_tile_row(alloc, stage, row, scratch)? else {
             return Ok(false);
         };
         let _ = self.kept.replace_row(stage, row, tiles);
@@ -107,17 +107,17 @@ impl<'a> Band<'a> {
     }
 
     // Makes rows of tiles and keeps them, and returns whether it could.
-    fn make_rows(
+    fn make_kept_rows(
         &mut self,
         alloc: Global,
         stage: usize,
-        rows: RowRange,
+        rows: TileRowRange,
         scratch: &mut TileScratch,
     ) -> Result<bool, AllocError>
         ensures { self.new.job ≡ self.old.job }
     {
         for row in rows.first..rows.end {
-            if !self.make_row(alloc, stage, row, scratch)? {
+            if !self.make_kept_row(alloc, stage, row, scratch)? {
                 return Ok(false);
             }
         }
@@ -125,10 +125,10 @@ impl<'a> Band<'a> {
     }
 
     // Makes the wanted rows of a stage, and returns whether it could.
-    fn make_stage_rows(
+    fn make_wanted_stage_rows(
         &mut self,
         alloc: Global,
-        windows: &mut Windows,
+        windows: &mut TileRowWindows,
         stage: usize,
         scratch: &mut TileScratch,
     ) -> Result<bool, AllocError>
@@ -137,7 +137,7 @@ impl<'a> Band<'a> {
         let Some(rows) = windows.find_missing_rows(stage) else {
             return Ok(true);
         };
-        let is_made = self.make_rows(alloc, stage, rows, scratch)?;
+        let is_made = self.make_kept_rows(alloc, stage, rows, scratch)?;
         windows.mark_rows_made(stage, rows.end);
         Ok(is_made)
     }
@@ -150,14 +150,19 @@ impl<'a> Band<'a> {
     pub(crate) fn make_wanted_rows(
         &mut self,
         alloc: Global,
-        windows: &mut Windows,
+        windows: &mut TileRowWindows,
         scratch: &mut TileScratch,
     ) -> Result<bool, AllocError>
         ensures { self.new.job ≡ self.old.job }
     {
         windows.request_all_reads(alloc, self.job, self.schedule)?;
         for at in 0..windows.len() {
-            if !self.make_stage_rows(alloc, windows, windows.find_stage_at(at), scratch)? {
+            if !self.make_wanted_stage_rows(
+                alloc,
+                windows,
+                windows.find_stage_in_order(at),
+                scratch,
+            )? {
                 return Ok(false);
             }
         }
@@ -165,11 +170,20 @@ impl<'a> Band<'a> {
     }
 
     // Frees rows of tiles. Their memory is recycled for those that are made next.
-    fn free_rows(&mut self, alloc: Global, stage: usize, rows: RowRange, scratch: &mut TileScratch)
+    fn free_rows(
+        &mut self,
+        alloc: Global,
+        stage: usize,
+        rows: TileRowRange,
+        scratch: &mut TileScratch,
+    )
         ensures { self.new.job ≡ self.old.job }
     {
         for row in rows.first..rows.end {
-            scratch.recycle_row(self.kept.replace_row(stage, row, create_empty_row(alloc)));
+            scratch.recycle_tile_row(
+                self.kept
+                    .replace_row(stage, row, create_empty_tile_row(alloc)),
+            );
         }
     }
 
@@ -181,12 +195,12 @@ impl<'a> Band<'a> {
     pub(crate) fn free_unread_rows(
         &mut self,
         alloc: Global,
-        windows: &mut Windows,
+        windows: &mut TileRowWindows,
         scratch: &mut TileScratch,
     ) -> Result<(), AllocError>
         ensures { self.new.job ≡ self.old.job }
     {
-        let past = windows.pass_unread_rows(alloc)?;
+        let past = windows.list_rows_to_free(alloc)?;
         for at in 0..past.len() {
             let (stage, rows) = past[at];
             self.free_rows(alloc, stage, rows, scratch);

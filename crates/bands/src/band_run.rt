@@ -3,17 +3,17 @@
 
 ghost use Rattle.std.specs.Prelude.{◌≡◌, true, IfOk, IfSome};
 ghost use Rattle.std.specs.List.{list_all};
-ghost use Rattle.tile_boxes.specs.Schedules.{is_function};
+ghost use Rattle.tile_boxes.specs.Schedules.{is_function_stage};
 ghost use Rattle.job.specs.Kept.{pipeline_in};
 ghost use Rattle.overlap_tiles.specs.Views.{need_view};
 ghost use Rattle.tile_sources.specs.KnownTiles.{AreTrue};
 ghost use Rattle.one_tile.specs.Runs.{AreValuesOn};
 ghost use Rattle.bands.specs.Kept.{is_given, kept_tiles, IsRowOf};
 
-use crate::kept_rows::KeptRows;
+use crate::kept_rows::KeptTileRows;
 use grouping::Schedule;
 use job::{Job, StageKind};
-use overlap_tiles::{Layout, Need, PlanFault};
+use overlap_tiles::{Layout, NeededTile, PlanFault};
 use std::alloc::{AllocError, Global};
 use tile_run::{TileJob, TileRow, TileScratch, TileSource};
 
@@ -22,12 +22,12 @@ use tile_run::{TileJob, TileRow, TileScratch, TileSource};
 pub(crate) struct BandRun<'a> {
     pub(crate) job: &'a Job,
     pub(crate) schedule: &'a Schedule,
-    pub(crate) kept: &'a KeptRows,
+    pub(crate) kept: &'a KeptTileRows,
 }
 
 impl BandRun<'_> {
     // Whether this tile is kept.
-    fn has_tile(&self, need: &Need) -> bool
+    fn has_needed_tile(&self, need: &NeededTile) -> bool
         ensures { result ≡ is_given (kept_tiles self.now.kept.now.stages.items)
             (need_view need.now) }
     {
@@ -37,12 +37,12 @@ impl BandRun<'_> {
     }
 
     // Whether each of these tiles is kept.
-    fn has_all_tiles(&self, needs: &[Need]) -> bool
+    fn has_all_needed_tiles(&self, needs: &[NeededTile]) -> bool
         ensures { result
             ≡ list_all (λ need. is_given (kept_tiles self.now.kept.now.stages.items)
             (need_view need)) needs.now }
     {
-        needs.iter().all(|need| self.has_tile(need))
+        needs.iter().all(|need| self.has_needed_tile(need))
     }
 
     // The values of a tile of a function, if all that it needs is kept.
@@ -56,16 +56,16 @@ impl BandRun<'_> {
     ) -> Result<Option<Vec<i32>>, AllocError>
         requires right { AreTrue (pipeline_in self.now.job.now)
             (kept_tiles self.now.kept.now.stages.items) }
-        requires function { is_function (pipeline_in self.now.job.now) stage ≡ true }
+        requires function { is_function_stage (pipeline_in self.now.job.now) stage ≡ true }
         ensures { IfOk result (λ found. IfSome found (λ values.
             AreValuesOn (pipeline_in self.now.job.now) stage row col values.items)) }
     {
-        let layout = match Layout::of(alloc, self.job, self.schedule, stage, row, col) {
+        let layout = match Layout::new(alloc, self.job, self.schedule, stage, row, col) {
             Ok(layout) => layout,
             Err(PlanFault::Memory) => return Err(AllocError),
             Err(PlanFault::NoSuchTile | PlanFault::ScratchTooBig) => return Ok(None),
         };
-        if !self.has_all_tiles(layout.needs()) {
+        if !self.has_all_needed_tiles(layout.needs()) {
             return Ok(None);
         }
         let tile = TileJob {
@@ -82,7 +82,7 @@ impl BandRun<'_> {
     /// # Errors
     ///
     /// Fails only where memory is refused.
-    pub(crate) fn compute_row(
+    pub(crate) fn compute_tile_row(
         &self,
         alloc: Global,
         stage: usize,

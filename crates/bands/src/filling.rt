@@ -5,9 +5,9 @@ ghost use Rattle.std.specs.Prelude.{◌≡◌, IfOk, IfSome, OnOk};
 ghost use Rattle.bands.specs.Filling.{AreOf};
 
 use crate::band::Band;
-use crate::row_range::RowRange;
+use crate::row_range::TileRowRange;
 use crate::strip::OutputStrip;
-use crate::windows::Windows;
+use crate::windows::TileRowWindows;
 use grouping::Schedule;
 use job::Job;
 use std::alloc::{AllocError, Global};
@@ -18,12 +18,12 @@ use tile_run::TileScratch;
 /// # Errors
 ///
 /// Fails only where memory is refused.
-pub(crate) fn create_strips<'a>(
+pub(crate) fn create_output_strips<'a>(
     alloc: Global,
     job: &'a Job,
     stages: &[usize],
     max: u16,
-    rows: RowRange,
+    rows: TileRowRange,
 ) -> Result<Option<Vec<OutputStrip<'a>>>, AllocError>
     ensures { IfOk result (λ found. IfSome found (λ strips. AreOf job.now strips.items)) }
 {
@@ -42,21 +42,21 @@ pub(crate) fn create_strips<'a>(
 /// # Errors
 ///
 /// Fails only where memory is refused.
-pub(crate) fn fill_strips(
+pub(crate) fn fill_output_strips(
     alloc: Global,
     job: &Job,
     schedule: &Schedule,
     strips: &mut [OutputStrip<'_>],
-    rows: RowRange,
+    rows: TileRowRange,
     scratch: &mut TileScratch,
 ) -> Result<bool, AllocError>
     requires { AreOf job.now strips.old }
     ensures { OnOk result (AreOf job.now strips.new) }
 {
     let mut band = Band::new(alloc, job, schedule)?;
-    let mut windows = Windows::new(alloc, job)?;
+    let mut windows = TileRowWindows::new(alloc, job)?;
     for row in rows.first..rows.end {
-        if !fill_row(alloc, &mut band, &mut windows, scratch, strips, row)? {
+        if !fill_tile_row_of_strips(alloc, &mut band, &mut windows, scratch, strips, row)? {
             return Ok(false);
         }
     }
@@ -64,10 +64,10 @@ pub(crate) fn fill_strips(
 }
 
 // Adds a row of tiles to each of these outputs, and returns whether it could.
-fn fill_row(
+fn fill_tile_row_of_strips(
     alloc: Global,
     band: &mut Band<'_>,
-    windows: &mut Windows,
+    windows: &mut TileRowWindows,
     scratch: &mut TileScratch,
     strips: &mut [OutputStrip<'_>],
     row: u32,
@@ -76,23 +76,23 @@ fn fill_row(
     ensures job { OnOk result (band.new.job ≡ band.old.job) }
     ensures of { OnOk result (AreOf band.old.job.now strips.new) }
 {
-    request_row_reads(alloc, band, windows, strips, row)?;
+    request_reads_of_strip_row(alloc, band, windows, strips, row)?;
     if !band.make_wanted_rows(alloc, windows, scratch)? {
         return Ok(false);
     }
-    if !add_row_to_strips(alloc, band, scratch, strips, row)? {
+    if !compute_row_into_strips(alloc, band, scratch, strips, row)? {
         return Ok(false);
     }
-    mark_row_made(windows, strips, row);
+    mark_output_tile_row_made(windows, strips, row);
     band.free_unread_rows(alloc, windows, scratch)?;
     Ok(true)
 }
 
 // Wants what a row of tiles of each of these outputs reads.
-fn request_row_reads(
+fn request_reads_of_strip_row(
     alloc: Global,
     band: &Band<'_>,
-    windows: &mut Windows,
+    windows: &mut TileRowWindows,
     strips: &[OutputStrip<'_>],
     row: u32,
 ) -> Result<(), AllocError> {
@@ -103,14 +103,14 @@ fn request_row_reads(
 }
 
 // Records that a row of tiles of each of these outputs is made.
-fn mark_row_made(windows: &mut Windows, strips: &[OutputStrip<'_>], row: u32) {
+fn mark_output_tile_row_made(windows: &mut TileRowWindows, strips: &[OutputStrip<'_>], row: u32) {
     for strip in strips {
         windows.mark_rows_made(strip.stage(), row.saturating_add(1));
     }
 }
 
 // Makes a row of tiles of each of these outputs and adds it, and returns whether it could.
-fn add_row_to_strips(
+fn compute_row_into_strips(
     alloc: Global,
     band: &Band<'_>,
     scratch: &mut TileScratch,
@@ -121,7 +121,7 @@ fn add_row_to_strips(
     ensures { OnOk result (AreOf band.now.job.now strips.new) }
 {
     for at in 0..strips.len() {
-        if !add_row_to_strip(alloc, band, scratch, &mut strips[at], row)? {
+        if !compute_row_into_strip(alloc, band, scratch, &mut strips[at], row)? {
             return Ok(false);
         }
     }
@@ -129,7 +129,7 @@ fn add_row_to_strips(
 }
 
 // Makes a row of tiles of an output and adds it, and returns whether it could.
-fn add_row_to_strip(
+fn compute_row_into_strip(
     alloc: Global,
     band: &Band<'_>,
     scratch: &mut TileScratch,
@@ -139,10 +139,10 @@ fn add_row_to_strip(
     requires { strip.old.job.now ≡ band.now.job.now }
     ensures { strip.new.job ≡ strip.old.job }
 {
-    let Some(tiles) = band.compute_row(alloc, strip.stage(), row, scratch)? else {
+    let Some(tiles) = band.compute_tile_row(alloc, strip.stage(), row, scratch)? else {
         return Ok(false);
     };
     let is_added = strip.add_tile_row(row, &tiles)?;
-    scratch.recycle_row(tiles);
+    scratch.recycle_tile_row(tiles);
     Ok(is_added)
 }

@@ -10,17 +10,17 @@ use tile_run::{TileRow, TileSource};
 
 /// The rows of tiles of one stage, from the first. Rows that were freed, and rows that are not made yet, have no tiles.
 #[derive(Drop)]
-pub(crate) struct StageRows {
+pub(crate) struct KeptStageTileRows {
     pub(crate) rows: Vec<TileRow>,
 }
 
 /// The rows of tiles that are kept of each stage.
 #[derive(Drop)]
-pub(crate) struct KeptRows {
-    pub(crate) stages: Vec<StageRows>,
+pub(crate) struct KeptTileRows {
+    pub(crate) stages: Vec<KeptStageTileRows>,
 }
 
-impl TileSource for KeptRows {
+impl TileSource for KeptTileRows {
     ghost use Rattle.bands.specs.Kept.{kept_tiles};
 
     ghost given = { λ kept. kept_tiles kept.stages.items };
@@ -34,7 +34,7 @@ impl TileSource for KeptRows {
 }
 
 /// A row without tiles.
-pub(crate) fn create_empty_row(alloc: Global) -> TileRow
+pub(crate) fn create_empty_tile_row(alloc: Global) -> TileRow
     ensures { result.tiles.items ≡ [] }
 {
     TileRow {
@@ -42,19 +42,19 @@ pub(crate) fn create_empty_row(alloc: Global) -> TileRow
     }
 }
 
-impl StageRows {
+impl KeptStageTileRows {
     ghost use Rattle.std.specs.Prelude.{IfOk};
     ghost use Rattle.bands.specs.Kept.{IsFromRow, HasNoTiles};
 
     // `count` rows, none of which is made.
-    fn new(alloc: Global, count: u32) -> Result<StageRows, AllocError>
+    fn new(alloc: Global, count: u32) -> Result<KeptStageTileRows, AllocError>
         ensures { IfOk result HasNoTiles }
     {
         let mut rows = Vec::with_capacity(alloc, count as usize)?;
         for row in 0..count {
-            rows.push(create_empty_row(alloc))?;
+            rows.push(create_empty_tile_row(alloc))?;
         }
-        Ok(StageRows { rows })
+        Ok(KeptStageTileRows { rows })
     }
 
     // Replaces the tiles of a row, and returns the former ones. If there is no such row, the new tiles are returned.
@@ -70,19 +70,19 @@ impl StageRows {
     }
 }
 
-impl KeptRows {
+impl KeptTileRows {
     ghost use Rattle.std.specs.Prelude.{IfOk};
     ghost use Rattle.bands.specs.Kept.{kept_tiles, GivesNothing, IsFrom};
 
     /// No row of any stage is made.
-    pub(crate) fn new(alloc: Global, job: &Job) -> Result<KeptRows, AllocError>
+    pub(crate) fn new(alloc: Global, job: &Job) -> Result<KeptTileRows, AllocError>
         ensures { IfOk result (λ kept. GivesNothing (kept_tiles kept.stages.items)) }
     {
         let mut stages = Vec::with_capacity(alloc, job.stages().len())?;
         for stage in 0..job.stages().len() {
-            stages.push(StageRows::new(alloc, count_tile_rows(job, stage))?)?;
+            stages.push(KeptStageTileRows::new(alloc, count_tile_rows(job, stage))?)?;
         }
-        Ok(KeptRows { stages })
+        Ok(KeptTileRows { stages })
     }
 
     /// Replaces the tiles of a stage's row, and returns the former ones. If there is no such row, the new tiles are returned.

@@ -3,7 +3,7 @@
 
 ghost use Rattle.std.specs.Prelude.{◌≡◌, ◌≤◌, [], All, IfOk};
 
-use pictures::Sheet;
+use pictures::OutputSheet;
 use std::alloc::{AllocError, Global};
 
 /// Samples of rows, which are kept until those of the rows before are in the plane.
@@ -40,7 +40,7 @@ impl PendingSamples {
     }
 }
 
-impl Sheet for PendingSamples {
+impl OutputSheet for PendingSamples {
     ghost greatest_of = { λ sheet. sheet.max };
 
     ghost samples = { λ sheet. sheet.samples.items };

@@ -14,8 +14,8 @@ use crate::strip::OutputStrip;
 use crate::strip_job::StripJob;
 use grouping::Schedule;
 use job::{Job, Output};
-use netpbm::{Picture, Plane};
-use pictures::build_picture;
+use netpbm::{PackedPlane, Picture};
+use pictures::build_output_picture;
 use std::alloc::{AllocError, Global};
 use std::thread::Threads;
 
@@ -87,20 +87,20 @@ fn join_strips_to_picture(
         return Ok(None);
     };
     let max = output.max() as u16;
-    let Some(planes) = convert_strips_to_planes(alloc, job, output.stages(), max, strips)? else {
+    let Some(planes) = build_planes_from_strips(alloc, job, output.stages(), max, strips)? else {
         return Ok(None);
     };
-    Ok(Some(build_picture(job, output, planes)))
+    Ok(Some(build_output_picture(job, output, planes)))
 }
 
 // The planes of these outputs, if they are whole.
-fn convert_strips_to_planes(
+fn build_planes_from_strips(
     alloc: Global,
     job: &Job,
     stages: &[usize],
     max: u16,
     strips: Vec<OutputStrip<'_>>,
-) -> Result<Option<Vec<Plane>>, AllocError>
+) -> Result<Option<Vec<PackedPlane>>, AllocError>
     requires { AreOf job.now strips.items }
     ensures { IfOk result (λ found. IfSome found (λ planes. made_samples planes.items
         ≡ map (samples (pipeline_in job.now) max) stages.now)) }

@@ -10,14 +10,14 @@ ghost use Rattle.job.specs.Readers.{grid_at};
 ghost use Rattle.bands.specs.Kept.{IsRowOf};
 ghost use Rattle.bands.specs.Strips.{greatest_on, samples_on, HasRows};
 
-use crate::row_range::RowRange;
+use crate::row_range::TileRowRange;
 use crate::strip_sheet::StripSheet;
 use domains::Grid;
 use job::Job;
-use netpbm::Plane;
-use pictures::{Sheet, SuppliedJob, compute_row_area};
+use netpbm::PackedPlane;
+use pictures::{OutputSheet, SuppliedJob, compute_output_tile_row_area};
 use std::alloc::{AllocError, Global};
-use tile_run::{SuppliedRow, TileRow};
+use tile_run::{SuppliedTileRow, TileRow};
 
 /// Consecutive rows of tiles of an output of a job, as far as they are made.
 #[derive(Drop)]
@@ -49,7 +49,7 @@ impl<'a> OutputStrip<'a> {
         job: &'a Job,
         stage: usize,
         max: u16,
-        rows: RowRange,
+        rows: TileRowRange,
     ) -> Result<Option<OutputStrip<'a>>, AllocError>
         ensures { IfOk result (λ found. IfSome found (λ strip. strip.job.now ≡ job.now)) }
     {
@@ -59,7 +59,7 @@ impl<'a> OutputStrip<'a> {
         if rows.first > grid.tile_rows() {
             return Ok(None);
         }
-        let sheet = create_sheet(alloc, &grid, max, rows)?;
+        let sheet = create_strip_sheet(alloc, &grid, max, rows)?;
         Ok(Some(OutputStrip {
             job,
             stage,
@@ -94,8 +94,8 @@ impl<'a> OutputStrip<'a> {
             return Ok(false);
         }
         self.next = None;
-        let area = compute_row_area(&self.grid, row);
-        let lent = SuppliedRow {
+        let area = compute_output_tile_row_area(&self.grid, row);
+        let lent = SuppliedTileRow {
             stage: self.stage,
             row,
             tiles,
@@ -104,7 +104,7 @@ impl<'a> OutputStrip<'a> {
             job: self.job,
             known: &lent,
         };
-        known.push_area(&mut self.sheet, self.stage, &area)?;
+        known.push_area_samples(&mut self.sheet, self.stage, &area)?;
         self.next = Some(row + 1);
         Ok(true)
     }
@@ -114,7 +114,7 @@ impl<'a> OutputStrip<'a> {
     /// # Errors
     ///
     /// Fails only where memory is refused.
-    pub(crate) fn append_strip(&mut self, behind: OutputStrip<'_>) -> Result<bool, AllocError>
+    pub(crate) fn append_next_strip(&mut self, behind: OutputStrip<'_>) -> Result<bool, AllocError>
         requires { behind.job.now ≡ self.old.job.now }
         ensures { self.new.job ≡ self.old.job }
     {
@@ -133,7 +133,7 @@ impl<'a> OutputStrip<'a> {
     }
 
     /// The plane, if it is that of this output, with this greatest sample, and has all rows.
-    pub(crate) fn into_plane(self, stage: usize, max: u16) -> Option<Plane>
+    pub(crate) fn into_plane(self, stage: usize, max: u16) -> Option<PackedPlane>
         ensures { IfSome result (λ plane. plane
             ≡ made max (samples (pipeline_in self.entry.job.now) max stage)) }
     {
@@ -149,11 +149,11 @@ impl<'a> OutputStrip<'a> {
 }
 
 // Capacity for the samples of rows of tiles. The first rows are in the plane itself, with capacity for all other rows too.
-fn create_sheet(
+fn create_strip_sheet(
     alloc: Global,
     grid: &Grid,
     max: u16,
-    rows: RowRange,
+    rows: TileRowRange,
 ) -> Result<StripSheet, AllocError>
     ensures greatest { IfOk result (λ sheet. greatest_on sheet ≡ max) }
     ensures none { IfOk result (λ sheet. samples_on sheet ≡ []) }
@@ -161,12 +161,12 @@ fn create_sheet(
     if rows.first == 0 {
         StripSheet::with_plane_capacity(alloc, max, grid.area.points() as usize)
     } else {
-        StripSheet::with_pending_capacity(alloc, max, count_row_points(grid, rows))
+        StripSheet::with_pending_capacity(alloc, max, count_points_of_tile_rows(grid, rows))
     }
 }
 
 // How many points these rows of tiles have at most.
-fn count_row_points(grid: &Grid, rows: RowRange) -> usize {
+fn count_points_of_tile_rows(grid: &Grid, rows: TileRowRange) -> usize {
     let count = rows.end.saturating_sub(rows.first);
     let height = count.saturating_mul(grid.sides.height());
     let points = u64::from(height).saturating_mul(u64::from(grid.area.cols.len()));

@@ -7,8 +7,8 @@ ghost use Rattle.job.specs.Views.{output_view};
 ghost use Rattle.job.specs.WellFormed.{IsOutput};
 ghost use Rattle.bands.specs.Filling.{AreOf, PartsAreOf};
 
-use crate::filling::{create_strips, fill_strips};
-use crate::row_range::RowRange;
+use crate::filling::{create_output_strips, fill_output_strips};
+use crate::row_range::TileRowRange;
 use crate::strip::OutputStrip;
 use grouping::Schedule;
 use job::{Job, Output};
@@ -41,7 +41,7 @@ impl<'a> StripJob<'a> {
     }
 
     // How many rows of tiles the first of the functions has.
-    fn count_output_rows(&self) -> u32 {
+    fn count_output_tile_rows(&self) -> u32 {
         match self.stages.first() {
             Some(stage) => count_tile_rows(self.job, *stage),
             None => 0,
@@ -52,16 +52,17 @@ impl<'a> StripJob<'a> {
     fn make_strips(
         &self,
         alloc: Global,
-        rows: RowRange,
+        rows: TileRowRange,
         scratch: &mut TileScratch,
     ) -> Result<Option<Vec<OutputStrip<'a>>>, AllocError>
         ensures { IfOk result (λ found. IfSome found
             (λ strips. AreOf self.now.job.now strips.items)) }
     {
-        let Some(mut strips) = create_strips(alloc, self.job, self.stages, self.max, rows)? else {
+        let Some(mut strips) = create_output_strips(alloc, self.job, self.stages, self.max, rows)?
+        else {
             return Ok(None);
         };
-        if !fill_strips(alloc, self.job, self.schedule, &mut strips, rows, scratch)? {
+        if !fill_output_strips(alloc, self.job, self.schedule, &mut strips, rows, scratch)? {
             return Ok(None);
         }
         Ok(Some(strips))
@@ -82,7 +83,7 @@ impl<'a> StripJob<'a> {
         let mut scratch = TileScratch::new(alloc);
         self.make_strips(
             alloc,
-            RowRange::from_count(self.count_output_rows()),
+            TileRowRange::from_count(self.count_output_tile_rows()),
             &mut scratch,
         )
     }
@@ -102,12 +103,12 @@ impl<'a> StripJob<'a> {
         ensures { IfOk result (λ found. IfSome found
             (λ strips. AreOf self.now.job.now strips.items)) }
     {
-        let parts = self.make_parts(rt, alloc, len)?;
-        self.join_parts(parts)
+        let parts = self.make_strips_of_parts(rt, alloc, len)?;
+        self.join_strips_of_parts(parts)
     }
 
     // The strips of each part of the rows, `len` of them in each part but the last.
-    fn make_parts(
+    fn make_strips_of_parts(
         &self,
         rt: &(impl Threads + Sync),
         alloc: Global,
@@ -116,7 +117,7 @@ impl<'a> StripJob<'a> {
         requires { 0 < len }
         ensures { IfOk result (λ parts. PartsAreOf self.now.job.now parts.items) }
     {
-        let count = self.count_output_rows();
+        let count = self.count_output_tile_rows();
         (0..count.div_ceil(len))
             .into_par_iter()
             .with_min_len(1)
@@ -131,7 +132,7 @@ impl<'a> StripJob<'a> {
                 {
                     self.make_strips(
                         alloc,
-                        RowRange::from_part_number(count, len, number),
+                        TileRowRange::from_part_number(count, len, number),
                         scratch,
                     )
                 },
@@ -140,7 +141,7 @@ impl<'a> StripJob<'a> {
     }
 
     // The strips of all rows, if each part is made and begins where the one before it ends.
-    fn join_parts(
+    fn join_strips_of_parts(
         &self,
         parts: Vec<Option<Vec<OutputStrip<'a>>>>,
     ) -> Result<Option<Vec<OutputStrip<'a>>>, AllocError>
@@ -157,7 +158,7 @@ impl<'a> StripJob<'a> {
             let Some(behind) = part else {
                 return Ok(None);
             };
-            if !self.append_to_each_strip(&mut strips, behind)? {
+            if !self.append_strips_of_next_part(&mut strips, behind)? {
                 return Ok(None);
             }
         }
@@ -165,7 +166,7 @@ impl<'a> StripJob<'a> {
     }
 
     // Adds to each of these strips the next one of the same function, and returns whether it could.
-    fn append_to_each_strip(
+    fn append_strips_of_next_part(
         &self,
         strips: &mut [OutputStrip<'_>],
         behind: Vec<OutputStrip<'_>>,
@@ -180,7 +181,7 @@ impl<'a> StripJob<'a> {
             let Some(strip) = left.pop() else {
                 return Ok(false);
             };
-            if !strips[at].append_strip(strip)? {
+            if !strips[at].append_next_strip(strip)? {
                 return Ok(false);
             }
         }

@@ -6,14 +6,14 @@ ghost use Rattle.netpbm.specs.MadePlane.{made};
 ghost use Rattle.bands.specs.Strips.{greatest_on, samples_on};
 
 use crate::pending_samples::PendingSamples;
-use netpbm::Plane;
-use pictures::{OpenPlane, Sheet};
+use netpbm::PackedPlane;
+use pictures::{OutputPlane, OutputSheet};
 use std::alloc::{AllocError, Global};
 
 /// The samples of a strip: in the output's plane, or apart from it.
 #[derive(Drop)]
 pub(crate) enum StripSheet {
-    Plane(OpenPlane),
+    Plane(OutputPlane),
     Apart(PendingSamples),
 }
 
@@ -31,7 +31,7 @@ impl StripSheet {
         ensures greatest { IfOk result (λ sheet. greatest_on sheet ≡ max) }
         ensures none { IfOk result (λ sheet. samples_on sheet ≡ []) }
     {
-        Ok(StripSheet::Plane(OpenPlane::with_capacity(alloc, max, count)?))
+        Ok(StripSheet::Plane(OutputPlane::with_capacity(alloc, max, count)?))
     }
 
     /// The same, apart from a plane.
@@ -71,7 +71,7 @@ impl StripSheet {
     }
 
     /// The plane, if the samples are in one.
-    pub(crate) fn into_plane(self) -> Option<Plane>
+    pub(crate) fn into_plane(self) -> Option<PackedPlane>
         ensures { IfSome result (λ plane. plane ≡ made (greatest_on self) (samples_on self)) }
     {
         match self {
@@ -81,7 +81,7 @@ impl StripSheet {
     }
 }
 
-impl Sheet for StripSheet {
+impl OutputSheet for StripSheet {
     ghost greatest_of = { greatest_on };
 
     ghost samples = { samples_on };

@@ -2,29 +2,29 @@
 //! Which rows of tiles are kept, and which are made next. No clause specifies this: what a tile needs is looked up before it is
 //! made. If some of it is missing, the tile is not made.
 
-use crate::row_range::RowRange;
-use grouping::{Schedule, in_order};
+use crate::row_range::TileRowRange;
+use grouping::{Schedule, order_stages_by_rank};
 use job::Job;
 use std::alloc::{AllocError, Global};
 
 /// Which rows of a stage's tiles are kept, and which of the others are wanted. Rows are made in their order, each at most once.
 #[derive(Drop)]
-pub(crate) struct Window {
+pub(crate) struct TileRowWindow {
     // The first row that is kept.
     first: u32,
     // The first row that is not made.
     next: u32,
     // The rows that are wanted.
-    wanted: Option<RowRange>,
+    wanted: Option<TileRowRange>,
     // The other stages that the rows made last read, each with the first of its rows that is read.
     reads: Vec<(usize, u32)>,
     // How many rows it has.
     count: u32,
 }
 
-impl Window {
-    fn new(alloc: Global, count: u32) -> Window {
-        Window {
+impl TileRowWindow {
+    fn new(alloc: Global, count: u32) -> TileRowWindow {
+        TileRowWindow {
             first: 0,
             next: 0,
             wanted: None,
@@ -33,7 +33,7 @@ impl Window {
         }
     }
 
-    fn request_rows(&mut self, rows: RowRange) {
+    fn request_rows(&mut self, rows: TileRowRange) {
         self.wanted = match self.wanted {
             Some(wanted) => Some(wanted.include_rows(rows)),
             None => Some(rows),
@@ -41,7 +41,7 @@ impl Window {
     }
 
     // The rows that are wanted and not made.
-    fn find_missing_rows(&self) -> Option<RowRange> {
+    fn find_missing_rows(&self) -> Option<TileRowRange> {
         self.wanted?.drop_rows_before(self.next)
     }
 
@@ -52,32 +52,32 @@ impl Window {
     }
 
     // Whether all rows are made, so that it reads no more.
-    fn is_done(&self) -> bool {
+    fn has_all_rows(&self) -> bool {
         self.next >= self.count
     }
 }
 
 /// Windows over the rows of all stages.
 #[derive(Drop)]
-pub(crate) struct Windows {
-    windows: Vec<Window>,
+pub(crate) struct TileRowWindows {
+    windows: Vec<TileRowWindow>,
     // The stages in dependence order.
     order: Vec<usize>,
 }
 
-impl Windows {
+impl TileRowWindows {
     /// Nothing is made, and nothing wanted.
-    pub(crate) fn new(alloc: Global, job: &Job) -> Result<Windows, AllocError> {
+    pub(crate) fn new(alloc: Global, job: &Job) -> Result<TileRowWindows, AllocError> {
         let mut windows = Vec::with_capacity(alloc, job.stages().len())?;
         for stage in 0..job.stages().len() {
             let count = match job.grid(stage) {
                 Some(grid) => grid.tile_rows(),
                 None => 0,
             };
-            windows.push(Window::new(alloc, count))?;
+            windows.push(TileRowWindow::new(alloc, count))?;
         }
-        let order = in_order(alloc, job.stages())?;
-        Ok(Windows { windows, order })
+        let order = order_stages_by_rank(alloc, job.stages())?;
+        Ok(TileRowWindows { windows, order })
     }
 
     /// How many stages there are.
@@ -86,21 +86,21 @@ impl Windows {
     }
 
     /// The stage at this place of the dependence order.
-    pub(crate) fn find_stage_at(&self, place: usize) -> usize {
+    pub(crate) fn find_stage_in_order(&self, place: usize) -> usize {
         match self.order.get(place) {
             Some(stage) => *stage,
             None => 0,
         }
     }
 
-    fn request_rows(&mut self, stage: usize, rows: RowRange) {
+    fn request_rows(&mut self, stage: usize, rows: TileRowRange) {
         if stage < self.windows.len() {
             self.windows[stage].request_rows(rows);
         }
     }
 
     /// The rows of a stage that are wanted and not made.
-    pub(crate) fn find_missing_rows(&self, stage: usize) -> Option<RowRange> {
+    pub(crate) fn find_missing_rows(&self, stage: usize) -> Option<TileRowRange> {
         self.windows.get(stage)?.find_missing_rows()
     }
 
@@ -118,7 +118,7 @@ impl Windows {
         job: &Job,
         schedule: &Schedule,
         stage: usize,
-        rows: RowRange,
+        rows: TileRowRange,
     ) -> Result<(), AllocError> {
         let Some(region) = rows.compute_region(job, stage) else {
             return Ok(());
@@ -129,7 +129,7 @@ impl Windows {
             if schedule.inlined(*read) {
                 continue;
             }
-            if let Some(rows) = RowRange::from_area(job, *read, area) {
+            if let Some(rows) = TileRowRange::from_area(job, *read, area) {
                 self.request_rows(*read, rows);
                 reads.push((*read, rows.first))?;
             }
@@ -149,7 +149,7 @@ impl Windows {
     ) -> Result<(), AllocError> {
         for behind in 0..self.order.len() {
             let place = self.order.len().saturating_sub(1).saturating_sub(behind);
-            let stage = self.find_stage_at(place);
+            let stage = self.find_stage_in_order(place);
             if let Some(rows) = self.find_missing_rows(stage) {
                 self.request_reads(alloc, job, schedule, stage, rows)?;
             }
@@ -164,18 +164,18 @@ impl Windows {
             floors.push(window.next)?;
         }
         for window in &self.windows {
-            if !window.is_done() {
-                lower_floors(&mut floors, &window.reads);
+            if !window.has_all_rows() {
+                lower_first_needed_rows(&mut floors, &window.reads);
             }
         }
         Ok(floors)
     }
 
     /// The rows of each stage that are read no more, to be freed one after the other.
-    pub(crate) fn pass_unread_rows(
+    pub(crate) fn list_rows_to_free(
         &mut self,
         alloc: Global,
-    ) -> Result<Vec<(usize, RowRange)>, AllocError> {
+    ) -> Result<Vec<(usize, TileRowRange)>, AllocError> {
         let floors = self.find_first_needed_rows(alloc)?;
         let mut past = Vec::new(alloc);
         for stage in 0..self.windows.len().min(floors.len()) {
@@ -183,7 +183,7 @@ impl Windows {
             if first < floors[stage] {
                 past.push((
                     stage,
-                    RowRange {
+                    TileRowRange {
                         first,
                         end: floors[stage],
                     },
@@ -196,7 +196,7 @@ impl Windows {
 }
 
 // Lowers the floors, so that none is above what is read.
-fn lower_floors(floors: &mut [u32], reads: &[(usize, u32)]) {
+fn lower_first_needed_rows(floors: &mut [u32], reads: &[(usize, u32)]) {
     for (stage, first) in reads {
         if *stage < floors.len() {
             floors[*stage] = floors[*stage].min(*first);

@@ -6,7 +6,7 @@ use Rattle.domains.specs.Sides.{Sides, IsSides}
 use Rattle.netpbm.specs.Image.{Image as Picture}
 use Rattle.pipe_tree.specs.Sizes.{KeepsLimits}
 use Rattle.pipe_tree.specs.Tree.{Declaration}
-use Rattle.binding.specs.declared.bound.Parts.{Parts}
+use Rattle.binding.specs.declared.bound.JobParts.{JobParts}
 use Rattle.binding.specs.declared.fault.BindFault.{BindFault}
 use Rattle.job.specs.Pipeline.{Stage, Output, Parameter, Pipeline}
 use Rattle.pipe_checks.specs.declared.symbol.Symbol.{Symbol}
@@ -27,7 +27,7 @@ use Rattle.binding.specs.declared.fault.BindFault.TheVariants.{Memory}
 use Rattle.binding.specs.inside.Parts.{ArePartsOf, AreBoundParts, IsPartsFault}
 use Rattle.job.specs.Views.{stage_view, output_view, parameter_view}
 
-abbrev pub job_from : Parts → List Table → Picture → Sides → Pipeline
+abbrev pub job_from : JobParts → List Table → Picture → Sides → Pipeline
 job_from parts tables picture sides =
     record {
       stages = map stage_view parts.stages.items;
@@ -38,7 +38,7 @@ job_from parts tables picture sides =
       sides = sides;
     }
 
-pub job_from_is : (p : Program) (items : List Declaration) (picture : Picture) (sides : Sides) (parts : Parts) → ArePartsOf p items parts
+pub job_from_is : (p : Program) (items : List Declaration) (picture : Picture) (sides : Sides) (parts : JobParts) → ArePartsOf p items parts
     → job_from parts p.tables picture sides ≡ job_of p items picture sides
 job_from_is p items picture sides parts h =
     let told = job_of p items picture sides in
@@ -72,7 +72,7 @@ job_from_is p items picture sides parts h =
     j)
     h.params
 
-module _ (items : List Declaration) (p : Program) (picture : Picture) (sides : Sides) (parts : Parts) (named : IsNamed items)
+module _ (items : List Declaration) (p : Program) (picture : Picture) (sides : Sides) (parts : JobParts) (named : IsNamed items)
     (own : p.stages ≡ stages_of items) (ranking : IsRanking (graph_of items) p.ranks) (h : AreBoundParts items p picture parts) where
   pub bound_is_job : KeepsLimits items → IsSides sides → ShapesFit (job_from parts p.tables picture sides) → TilesFit (job_from parts p.tables picture sides)
       → IsJob (job_from parts p.tables picture sides)
@@ -101,7 +101,7 @@ module _ (items : List Declaration) (p : Program) (picture : Picture) (sides : S
   }
 
 -- where the sizes fit
-pub bound_is : (items : List Declaration) (p : Program) (picture : Picture) (sides : Sides) (parts : Parts)
+pub bound_is : (items : List Declaration) (p : Program) (picture : Picture) (sides : Sides) (parts : JobParts)
     → AreBoundParts items p picture parts → ShapesFit (job_from parts p.tables picture sides)
     → TilesFit (job_from parts p.tables picture sides) → IsBound items p picture sides (job_from parts p.tables picture sides)
 bound_is items p picture sides parts h shapes tiles = record {
@@ -136,7 +136,7 @@ early_fault items p picture sides fault (inr (inr h)) =
     inr (inr (record { image = h.image; declared = h.declared; first = inl h.early }))
 
 -- a fault of the sizes comes when nothing else is amiss
-pub late_fault : (items : List Declaration) (p : Program) (picture : Picture) (sides : Sides) (parts : Parts) (fault : BindFault)
+pub late_fault : (items : List Declaration) (p : Program) (picture : Picture) (sides : Sides) (parts : JobParts) (fault : BindFault)
     → AreBoundParts items p picture parts → ((told : Pipeline) → job_from parts p.tables picture sides ≡ told → IsSizeFault told fault)
     → IsBindFault items p picture sides fault
 late_fault items p picture sides parts fault h sizes =

@@ -11,7 +11,7 @@ use Rattle.pipe_tree.specs.Sizes.{KeepsLimits}
 use Rattle.pipe_tree.specs.Tree.{Declaration}
 use Rattle.pipe_bounds.specs.declared.params.Setting.{Setting}
 use Rattle.pipe_checks.specs.Graph.{IsRanking}
-use Rattle.pipe_checks.specs.Links.{Links}
+use Rattle.pipe_checks.specs.StageLinks.{StageLinks}
 use Rattle.pipe_checks.specs.Names.{stages_of}
 use Rattle.pipe_bounds.specs.InBounds.{IsInBounds}
 use Rattle.job.specs.Pipeline.{Pipeline}
@@ -55,7 +55,7 @@ lists_same (x ∷ xs) [] e same = absurd (omega arith)
 lists_same (x ∷ xs) (y ∷ ys) e same =
     ap (λ (n : ℕ). n ∷ xs) (same 0) ∙ ap (λ (ns : List ℕ). y ∷ ns) (lists_same xs ys (omega arith) (λ k. same (suc k)))
 
-one_ranking : (g : List Links) (a b : List ℕ) → IsRanking g a → IsRanking g b → a ≡ b
+one_ranking : (g : List StageLinks) (a b : List ℕ) → IsRanking g a → IsRanking g b → a ≡ b
 one_ranking g a b h k = lists_same a b (h.ranked.each ∙ sym k.ranked.each) (λ s. omega (arith, h.least b k.ranked s, k.least a h.ranked s))
 
 pub one_job : (items : List Declaration) (given : List Setting) (tables : List Table) (picture : Picture) (sides : Sides) (a b : Pipeline)

@@ -10,7 +10,7 @@ use Rattle.domains.specs.Span.{Ends}
 use Rattle.domains.specs.Sides.{Sides}
 use Rattle.domains.specs.declared.area.Area.{Area}
 use Rattle.netpbm.specs.Image.{Image as Picture}
-use Rattle.pipe_tree.specs.declared.tree.Term.{Term}
+use Rattle.pipe_tree.specs.declared.tree.AffineTerm.{AffineTerm}
 use Rattle.pipe_tree.specs.declared.tree.Test.{Test as TestText}
 use Rattle.pipe_tree.specs.declared.tree.Test.TheVariants.{Compare, Remainder}
 use Rattle.pipe_tree.specs.declared.tree.AffineSpan.{AffineSpan}
@@ -40,7 +40,7 @@ use Rattle.tables.specs.Entries.{Entries, span_from}
 -- ---- parameters without values
 
 -- an extent that is this parameter alone
-abbrev pub is_exactly : List Term → List ℕ → Bool
+abbrev pub is_exactly : List AffineTerm → List ℕ → Bool
 is_exactly [] x = false
 is_exactly (t ∷ []) x = not t.negative && (t.factor == 1) && option_map_or (λ y. bytes_eq y x) t.name false
 is_exactly (t ∷ u ∷ ts) x = false
@@ -150,7 +150,7 @@ abbrev pub area_of : Program → Variable → Variable → Area
 area_of p x y = record { rows = ends_of p x.span; cols = ends_of p y.span }
 
 -- as many numbers as the extent says, from 0 on
-abbrev pub extent_of : Program → List Term → Ends
+abbrev pub extent_of : Program → List AffineTerm → Ends
 extent_of p terms = record { lo = pos 0; hi = affine_value p.settings terms -ℤ pos 1 }
 
 -- as many rows and columns as the extents say, from 0 on

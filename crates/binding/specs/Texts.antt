@@ -1,7 +1,7 @@
 -- A small program, written out, and its job for a picture of two rows and two columns.
 use Rattle.std.specs.Prelude.{ℕ, ℤ, pos, true, false, Option, Some, None, List, [], ◌∷◌}
 use Rattle.netpbm.specs.Image.{Image, image}
-use Rattle.pipe_tree.specs.declared.tree.Term.{Term}
+use Rattle.pipe_tree.specs.declared.tree.AffineTerm.{AffineTerm}
 use Rattle.pipe_tree.specs.declared.tree.Names.TheVariants.{One}
 use Rattle.pipe_tree.specs.declared.tree.Variable.{Variable}
 use Rattle.pipe_tree.specs.declared.tree.Index.{Index}
@@ -15,13 +15,13 @@ use Rattle.job.specs.Worked.{area, sides, same, plane_stage, everywhere}
 
 -- ---- param R; param C; image I(R, C); func f(x in [0 .. R-1], y in [0 .. C-1]) { else : I(x, y); } output f max 255;
 
-abbrev pub just : ℕ → Term
+abbrev pub just : ℕ → AffineTerm
 just name = record { negative = false; factor = 1; name = Some (name ∷ []) }
 
-abbrev pub zero_term : Term
+abbrev pub zero_term : AffineTerm
 zero_term = record { negative = false; factor = 0; name = None }
 
-abbrev pub less_one : Term
+abbrev pub less_one : AffineTerm
 less_one = record { negative = true; factor = 1; name = None }
 
 abbrev pub below : ℕ → ℕ → Variable

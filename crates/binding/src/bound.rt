@@ -20,16 +20,16 @@ ghost use Rattle.sha2.specs.Sha256.{sha256};
 ghost use Rattle.pipe_print.specs.Canonical.{canonical};
 
 use crate::fault::BindFault;
-use crate::fits::judge_picture;
-use crate::handed::{fit_tables, table_misfit};
-use crate::outputs::{only_image, parameters};
-use crate::resolve::Resolver;
-use crate::settings::settings_for;
-use crate::sizes::size_fault;
+use crate::fits::check_picture_against_program;
+use crate::handed::{find_first_table_mismatch, prove_tables_are_small};
+use crate::outputs::{find_only_image_item, to_job_parameters};
+use crate::resolve::JobResolver;
+use crate::settings::infer_parameters_from_picture;
+use crate::sizes::find_job_size_fault;
 use domains::TileSides;
 use job::{BoundPipeline, Job, Output, Parameter, Stage, Table};
 use netpbm::Picture;
-use pipe_bounds::{BoundFault, Params, StageBounds, bounds_by_stage};
+use pipe_bounds::{BoundFault, Params, StageBounds, find_program_bounds};
 use pipe_checks::Checked;
 use pipe_print::print;
 use pipe_tree::Image;
@@ -37,13 +37,13 @@ use std::alloc::{AllocError, Global};
 
 /// A job without its picture.
 #[derive(Drop)]
-struct Parts {
+struct JobParts {
     stages: Vec<Stage>,
     output: Option<Output>,
     params: Vec<Parameter>,
 }
 
-fn bound_fault(fault: BoundFault) -> BindFault
+fn to_bind_fault(fault: BoundFault) -> BindFault
     ensures { ((fault ≡ BoundFault.Memory) × (result ≡ Memory))
         ⊎ ((fault ≢ BoundFault.Memory) × (result ≡ Bounds fault)) }
 {
@@ -53,13 +53,13 @@ fn bound_fault(fault: BoundFault) -> BindFault
     }
 }
 
-fn resolve(
+fn resolve_job_parts(
     alloc: Global,
     checked: &Checked,
     params: &Params,
     tables: &[Table],
     found: &[StageBounds],
-) -> Result<Parts, AllocError>
+) -> Result<JobParts, AllocError>
     requires found { AreBoundsOf params.now (content (tree_in checked.now))
         (stages_of (content (tree_in checked.now))) found.now }
     requires bounds { IsInBounds params.now (content (tree_in checked.now)) }
@@ -68,7 +68,7 @@ fn resolve(
     ensures { IfOk result
         (ArePartsOf (program_of checked.now params.now tables.now) (content (tree_in checked.now))) }
 {
-    let resolver = Resolver {
+    let resolver = JobResolver {
         alloc,
         checked,
         params,
@@ -76,15 +76,15 @@ fn resolve(
         tables,
     };
     let items = checked.tree().items();
-    Ok(Parts {
-        stages: resolver.stages(items)?,
-        output: resolver.output(items)?,
-        params: parameters(alloc, params.settings())?,
+    Ok(JobParts {
+        stages: resolver.resolve_stages(items)?,
+        output: resolver.resolve_first_output(items)?,
+        params: to_job_parameters(alloc, params.settings())?,
     })
 }
 
 // What is found of the stages, if the program is in bounds and the tables and the picture fit.
-fn judge(
+fn check_bounds_and_inputs(
     alloc: Global,
     checked: &Checked,
     params: &Params,
@@ -105,27 +105,27 @@ fn judge(
         ⊎ IsEarlyFault params.now (content (tree_in checked.now)) tables.now image.now picture.now
         f) }
 {
-    match bounds_by_stage(alloc, checked, params) {
+    match find_program_bounds(alloc, checked, params) {
         Ok(found) => {
-            if let Some(table) = table_misfit(params, checked.tree().items(), tables) {
+            if let Some(table) = find_first_table_mismatch(params, checked.tree().items(), tables) {
                 return Err(BindFault::TableMismatch(table));
             }
-            fit_tables(tables);
-            judge_picture(params, image, picture)?;
+            prove_tables_are_small(tables);
+            check_picture_against_program(params, image, picture)?;
             Ok(found.stages)
         }
-        Err(fault) => Err(bound_fault(fault)),
+        Err(fault) => Err(to_bind_fault(fault)),
     }
 }
 
-fn parts_for(
+fn build_job_parts_for_image(
     alloc: Global,
     checked: &Checked,
     params: &Params,
     tables: &[Table],
     image: &Image,
     picture: &Picture,
-) -> Result<Parts, BindFault>
+) -> Result<JobParts, BindFault>
     requires { flat_map item_images (content (tree_in checked.now)) ≡ image.now ∷ [] }
     ensures ok { IfOk result (AreBoundParts (content (tree_in checked.now))
         (program_of checked.now params.now tables.now) picture.now) }
@@ -134,21 +134,21 @@ fn parts_for(
         (program_of checked.now params.now tables.now)
         picture.now f) }
 {
-    let settled = settings_for(alloc, image, picture, params)?;
-    let found = judge(alloc, checked, &settled, tables, image, picture)?;
-    match resolve(alloc, checked, &settled, tables, &found) {
+    let settled = infer_parameters_from_picture(alloc, image, picture, params)?;
+    let found = check_bounds_and_inputs(alloc, checked, &settled, tables, image, picture)?;
+    match resolve_job_parts(alloc, checked, &settled, tables, &found) {
         Ok(parts) => Ok(parts),
         Err(_) => Err(BindFault::Memory),
     }
 }
 
-fn bound_parts(
+fn build_job_parts(
     alloc: Global,
     checked: &Checked,
     params: &Params,
     tables: &[Table],
     picture: &Picture,
-) -> Result<Parts, BindFault>
+) -> Result<JobParts, BindFault>
     ensures checked { IsCheckedOf (tree_in checked.now) checked.now }
     ensures ok { IfOk result (AreBoundParts (content (tree_in checked.now))
         (program_of checked.now params.now tables.now) picture.now) }
@@ -158,8 +158,8 @@ fn bound_parts(
         (program_of checked.now params.now tables.now)
         picture.now f)) }
 {
-    match only_image(checked.tree().items()) {
-        Some(image) => parts_for(alloc, checked, params, tables, image, picture),
+    match find_only_image_item(checked.tree().items()) {
+        Some(image) => build_job_parts_for_image(alloc, checked, params, tables, image, picture),
         None => Err(BindFault::Planes),
     }
 }
@@ -191,7 +191,7 @@ pub fn bind(
     ensures fault { IfErr result (λ e. IsBindFault (content (tree_in checked))
         (program_of checked params.now tables.items) picture sides e.3) }
 {
-    match bound_parts(alloc, &checked, params, &tables, &picture) {
+    match build_job_parts(alloc, &checked, params, &tables, &picture) {
         Ok(parts) => {
             let _ = sides.height();
             let pipeline = BoundPipeline {
@@ -202,7 +202,7 @@ pub fn bind(
                 picture,
                 sides,
             };
-            match size_fault(&pipeline) {
+            match find_job_size_fault(&pipeline) {
                 Some(fault) => Err((checked, pipeline.tables, pipeline.picture, fault)),
                 None => match print(alloc, checked.tree()) {
                     Ok(text) => Ok(Job::new(pipeline, text)),

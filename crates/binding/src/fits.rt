@@ -13,7 +13,7 @@ use netpbm::Picture;
 use pipe_bounds::{Params, affine_value};
 use pipe_tree::{Affine, Image, Names};
 
-fn count(names: &Names) -> usize
+fn count_plane_names(names: &Names) -> usize
     ensures { result ≡ length (names_in names.now) }
 {
     match names {
@@ -22,28 +22,28 @@ fn count(names: &Names) -> usize
     }
 }
 
-fn is_extent(params: &Params, extent: &Affine, side: u32) -> bool
+fn is_extent_equal_to_side(params: &Params, extent: &Affine, side: u32) -> bool
     ensures { IsTrue result ↔ (affine_value params.now extent.now ≡ pos side) }
 {
     affine_value(params, extent) == i128::from(side)
 }
 
-fn extents_fit(params: &Params, image: &Image, picture: &Picture) -> bool
+fn has_declared_picture_extents(params: &Params, image: &Image, picture: &Picture) -> bool
     ensures { IsTrue result ↔ ExtentsFit params.now image.now picture.now }
 {
-    is_extent(params, &image.rows, picture.rows())
-        && is_extent(params, &image.columns, picture.cols())
+    is_extent_equal_to_side(params, &image.rows, picture.rows())
+        && is_extent_equal_to_side(params, &image.columns, picture.cols())
 }
 
-fn planes_fit(image: &Image, picture: &Picture) -> bool
+fn has_declared_plane_count(image: &Image, picture: &Picture) -> bool
     ensures image { IsImage picture.now }
     ensures fit { IsTrue result ↔ PlanesFit image.now picture.now }
 {
-    count(&image.names) == picture.plane_count()
+    count_plane_names(&image.names) == picture.plane_count()
 }
 
 /// Whether the picture has the planes and the extents of the program.
-pub(crate) fn judge_picture(
+pub(crate) fn check_picture_against_program(
     params: &Params,
     image: &Image,
     picture: &Picture,
@@ -53,10 +53,10 @@ pub(crate) fn judge_picture(
     ensures image { IsImage picture.now }
     ensures fault { IfErr result (IsPictureFault params.now image.now picture.now) }
 {
-    if !planes_fit(image, picture) {
+    if !has_declared_plane_count(image, picture) {
         return Err(BindFault::Planes);
     }
-    if !extents_fit(params, image, picture) {
+    if !has_declared_picture_extents(params, image, picture) {
         return Err(BindFault::ExtentMismatch);
     }
     Ok(())

@@ -11,35 +11,39 @@ ghost use Rattle.binding.specs.BindFaults.{IsFirstMisfit};
 
 use job::Table;
 use pipe_bounds::{Params, affine_value};
-use pipe_checks::is_same;
+use pipe_checks::is_same_name;
 use pipe_tokens::Name;
 use pipe_tree::Item;
 
 // The last index that a table has an entry for.
-fn last_index(table: &Table) -> i128
+fn compute_last_table_index(table: &Table) -> i128
     ensures { result ≡ (table.now.lo +ℤ pos (length table.now.values)) -ℤ pos 1 }
 {
     i128::from(table.lo) + table.values.as_slice().len() as i128 - 1
 }
 
 // Whether the supplied table has the name and the span of the declared one.
-fn table_fits(params: &Params, declared: &pipe_tree::Table, given: &Table) -> bool
+fn is_table_as_declared(params: &Params, declared: &pipe_tree::Table, given: &Table) -> bool
     ensures { IsTrue result ↔ IsTableFit params.now declared.now given.now }
 {
-    is_same(&given.name, &declared.name)
+    is_same_name(&given.name, &declared.name)
         && affine_value(params, &declared.span.first) == i128::from(given.lo)
-        && affine_value(params, &declared.span.last) == last_index(given)
+        && affine_value(params, &declared.span.last) == compute_last_table_index(given)
 }
 
 /// The first of the tables that has this name.
-pub(crate) fn table_named<'a>(tables: &'a [Table], name: &Name) -> Option<&'a Table>
+pub(crate) fn find_table_by_name<'a>(tables: &'a [Table], name: &Name) -> Option<&'a Table>
     ensures { option_map (λ table. table.now) result ≡ table_named tables.now name.now }
 {
-    tables.iter().find(|table| is_same(&table.name, name))
+    tables.iter().find(|table| is_same_name(&table.name, name))
 }
 
 /// The number of the first supplied table that does not match its declaration.
-pub(crate) fn table_misfit(params: &Params, items: &[Item], given: &[Table]) -> Option<usize>
+pub(crate) fn find_first_table_mismatch(
+    params: &Params,
+    items: &[Item],
+    given: &[Table],
+) -> Option<usize>
     ensures some { IfSome result (IsFirstMisfit params.now
         (flat_map item_tables (declarations items.now)) given.now) }
     ensures none { IfNone result
@@ -49,7 +53,7 @@ pub(crate) fn table_misfit(params: &Params, items: &[Item], given: &[Table]) -> 
     for item in items {
         if let Item::Table(declared) = item {
             match given.get(number) {
-                Some(table) if table_fits(params, declared, table) => number += 1,
+                Some(table) if is_table_as_declared(params, declared, table) => number += 1,
                 _ => return Some(number),
             }
         }
@@ -58,7 +62,7 @@ pub(crate) fn table_misfit(params: &Params, items: &[Item], given: &[Table]) -> 
 }
 
 // Each entry fits 32 bits.
-fn fit_entries(entries: &[i32])
+fn prove_table_entries_fit_i32(entries: &[i32])
     ensures { All (FitsSigned w32) entries.now }
 {
     for entry in entries {
@@ -67,18 +71,18 @@ fn fit_entries(entries: &[i32])
 }
 
 // A table has a name, and entries of 32 bits.
-fn fit_table(table: &Table)
+fn prove_table_is_small(table: &Table)
     ensures { IsSmallTable table.now }
 {
     let _name = table.name.as_bytes();
-    fit_entries(table.values.as_slice());
+    prove_table_entries_fit_i32(table.values.as_slice());
 }
 
 /// All tables have names, and entries of 32 bits.
-pub(crate) fn fit_tables(tables: &[Table])
+pub(crate) fn prove_tables_are_small(tables: &[Table])
     ensures { AreSmallTables tables.now }
 {
     for table in tables {
-        fit_table(table);
+        prove_table_is_small(table);
     }
 }

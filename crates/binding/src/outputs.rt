@@ -10,53 +10,53 @@ ghost use Rattle.job.specs.Views.{output_view, parameter_view};
 ghost use Rattle.binding.specs.Binding.{stage_number, names_in, item_outputs, item_images, parameter_of};
 ghost use Rattle.binding.specs.inside.Resolving.{output_of, program_in};
 
-use crate::resolve::Resolver;
+use crate::resolve::JobResolver;
 use job::{Output, Parameter};
 use pipe_bounds::Setting;
 use pipe_tree::{Image, Item, Names};
 use std::alloc::{AllocError, Global};
 
-impl Resolver<'_> {
-    fn numbers(&self, names: &Names) -> Result<Vec<usize>, AllocError>
+impl JobResolver<'_> {
+    fn resolve_stage_numbers(&self, names: &Names) -> Result<Vec<usize>, AllocError>
         ensures { IfOk result
             (λ v. v.items ≡ map (stage_number (program_in self.now)) (names_in names.now)) }
     {
         let mut numbers = Vec::new(self.alloc);
         match names {
             Names::One(name) => {
-                numbers.push(self.stage_number(name))?;
+                numbers.push(self.find_stage_number(name))?;
             }
             Names::Three(red, green, blue) => {
-                numbers.push(self.stage_number(red))?;
-                numbers.push(self.stage_number(green))?;
-                numbers.push(self.stage_number(blue))?;
+                numbers.push(self.find_stage_number(red))?;
+                numbers.push(self.find_stage_number(green))?;
+                numbers.push(self.find_stage_number(blue))?;
             }
         }
         Ok(numbers)
     }
 
-    fn one_output(&self, output: &pipe_tree::Output) -> Result<Output, AllocError>
+    fn resolve_output_item(&self, output: &pipe_tree::Output) -> Result<Output, AllocError>
         ensures { IfOk result (λ o. output_view o ≡ output_of (program_in self.now) output.now) }
     {
-        Ok(Output::new(self.numbers(&output.names)?, output.max))
+        Ok(Output::new(self.resolve_stage_numbers(&output.names)?, output.max))
     }
 
     /// The first output, if there is one.
-    pub fn output(&self, items: &[Item]) -> Result<Option<Output>, AllocError>
+    pub fn resolve_first_output(&self, items: &[Item]) -> Result<Option<Output>, AllocError>
         ensures { IfOk result (λ o. option_map output_view o
             ≡ slice_get (flat_map (item_outputs (program_in self.now)) (declarations items.now))
             0) }
     {
         for item in items {
             if let Item::Output(output) = item {
-                return Ok(Some(self.one_output(output)?));
+                return Ok(Some(self.resolve_output_item(output)?));
             }
         }
         Ok(None)
     }
 }
 
-fn settled_parameter(setting: &Setting) -> Parameter
+fn to_job_parameter(setting: &Setting) -> Parameter
     ensures { parameter_view result ≡ parameter_of setting.now }
 {
     Parameter {
@@ -66,18 +66,21 @@ fn settled_parameter(setting: &Setting) -> Parameter
 }
 
 /// The parameters with their values.
-pub(crate) fn parameters(alloc: Global, settings: &[Setting]) -> Result<Vec<Parameter>, AllocError>
+pub(crate) fn to_job_parameters(
+    alloc: Global,
+    settings: &[Setting],
+) -> Result<Vec<Parameter>, AllocError>
     ensures { IfOk result (λ v. map parameter_view v.items ≡ map parameter_of settings.now) }
 {
     let mut parameters = Vec::new(alloc);
     for setting in settings {
-        parameters.push(settled_parameter(setting))?;
+        parameters.push(to_job_parameter(setting))?;
     }
     Ok(parameters)
 }
 
 /// The image item, where there is exactly one.
-pub(crate) fn only_image(items: &[Item]) -> Option<&Image>
+pub(crate) fn find_only_image_item(items: &[Item]) -> Option<&Image>
     ensures none { IfNone result
         ((i : ImageType) → flat_map item_images (declarations items.now) ≢ i ∷ []) }
     ensures some { IfSome result (λ i. flat_map item_images (declarations items.now) ≡ i.now ∷ []) }

@@ -9,54 +9,54 @@ ghost use Rattle.binding.specs.Binding.{is_exactly, side_of, settled, settings_f
 
 use netpbm::Picture;
 use pipe_bounds::{Params, Setting};
-use pipe_checks::is_same;
+use pipe_checks::is_same_name;
 use pipe_tokens::Name;
 use pipe_tree::{Affine, Image};
 use std::alloc::{AllocError, Global};
 
-fn is_named(name: &Option<Name>, wanted: &Name) -> bool
+fn is_term_named(name: &Option<Name>, wanted: &Name) -> bool
     ensures { result ≡ option_map_or (λ x. bytes_eq x wanted.now) name.now false }
 {
     match name {
-        Some(name) => is_same(name, wanted),
+        Some(name) => is_same_name(name, wanted),
         None => false,
     }
 }
 
-fn is_exactly(extent: &Affine, name: &Name) -> bool
+fn is_extent_exactly_parameter(extent: &Affine, name: &Name) -> bool
     ensures { result ≡ is_exactly extent.now name.now }
 {
     match extent.terms() {
-        [term] => !term.negative && term.factor == 1 && is_named(&term.name, name),
+        [term] => !term.negative && term.factor == 1 && is_term_named(&term.name, name),
         _ => false,
     }
 }
 
 // The side of the picture that is this parameter: its rows first.
-fn side_of(image: &Image, picture: &Picture, name: &Name) -> Option<i32>
+fn find_picture_side(image: &Image, picture: &Picture, name: &Name) -> Option<i32>
     ensures { result ≡ side_of image.now picture.now name.now }
 {
-    if is_exactly(&image.rows, name) {
+    if is_extent_exactly_parameter(&image.rows, name) {
         return Some(picture.rows() as i32);
     }
-    if is_exactly(&image.columns, name) {
+    if is_extent_exactly_parameter(&image.columns, name) {
         return Some(picture.cols() as i32);
     }
     None
 }
 
-fn settle(image: &Image, picture: &Picture, setting: &Setting) -> Option<i32>
+fn infer_parameter_value(image: &Image, picture: &Picture, setting: &Setting) -> Option<i32>
     ensures value { result ≡ settled image.now picture.now setting.now.name setting.now.value }
     ensures small { IfSome result (FitsSigned w32) }
 {
     match setting.value {
         Some(value) => Some(value),
-        None => side_of(image, picture, &setting.name),
+        None => find_picture_side(image, picture, &setting.name),
     }
 }
 
 /// The parameters, where those without a value are taken from the picture.
-pub(crate) fn settings_for(
+pub(crate) fn infer_parameters_from_picture(
     alloc: Global,
     image: &Image,
     picture: &Picture,
@@ -69,8 +69,8 @@ pub(crate) fn settings_for(
     for setting in params.settings() {
         settings.push(Setting {
             name: setting.name,
-            value: settle(image, picture, setting),
+            value: infer_parameter_value(image, picture, setting),
         })?;
     }
-    Ok(Params::of_settings(settings))
+    Ok(Params::from_settings(settings))
 }

@@ -18,7 +18,7 @@ use netpbm::LONGEST_SIDE;
 const MOST_TILES: u64 = 65536;
 
 // How many rows the domain of a stage has.
-fn height(pipeline: &BoundPipeline, stage: usize) -> u32
+fn count_stage_rows(pipeline: &BoundPipeline, stage: usize) -> u32
     ensures { result ≡ height_of (pipeline_of pipeline.now) stage }
 {
     match pipeline.stages.as_slice().get(stage) {
@@ -27,7 +27,7 @@ fn height(pipeline: &BoundPipeline, stage: usize) -> u32
     }
 }
 
-fn width(pipeline: &BoundPipeline, stage: usize) -> u32
+fn count_stage_columns(pipeline: &BoundPipeline, stage: usize) -> u32
     ensures { result ≡ width_of (pipeline_of pipeline.now) stage }
 {
     match pipeline.stages.as_slice().get(stage) {
@@ -36,44 +36,49 @@ fn width(pipeline: &BoundPipeline, stage: usize) -> u32
     }
 }
 
-fn has_sides(pipeline: &BoundPipeline, rows: u32, columns: u32, stage: usize) -> bool
+fn has_stage_sides(pipeline: &BoundPipeline, rows: u32, columns: u32, stage: usize) -> bool
     ensures { IsTrue result ↔ HasSides (pipeline_of pipeline.now) rows columns stage }
 {
-    height(pipeline, stage) == rows && width(pipeline, stage) == columns
+    count_stage_rows(pipeline, stage) == rows && count_stage_columns(pipeline, stage) == columns
 }
 
-fn have_sides(pipeline: &BoundPipeline, rows: u32, columns: u32, stages: &[usize]) -> bool
+fn has_domain_size_in_stages(
+    pipeline: &BoundPipeline,
+    rows: u32,
+    columns: u32,
+    stages: &[usize],
+) -> bool
     ensures { IsTrue result ↔ All (HasSides (pipeline_of pipeline.now) rows columns) stages.now }
 {
     for stage in stages {
-        if !has_sides(pipeline, rows, columns, *stage) {
+        if !has_stage_sides(pipeline, rows, columns, *stage) {
             return false;
         }
     }
     true
 }
 
-fn is_shaped(pipeline: &BoundPipeline, output: &Output) -> bool
+fn is_output_shape_valid(pipeline: &BoundPipeline, output: &Output) -> bool
     ensures { IsTrue result ↔ IsShaped (pipeline_of pipeline.now) (output_view output.now) }
 {
-    let first = output.first();
-    let rows = height(pipeline, first);
-    let columns = width(pipeline, first);
+    let first = output.first_stage();
+    let rows = count_stage_rows(pipeline, first);
+    let columns = count_stage_columns(pipeline, first);
     rows <= LONGEST_SIDE
         && columns <= LONGEST_SIDE
-        && have_sides(pipeline, rows, columns, output.stages())
+        && has_domain_size_in_stages(pipeline, rows, columns, output.stages())
 }
 
-fn shapes_fit(pipeline: &BoundPipeline) -> bool
+fn has_valid_output_shape(pipeline: &BoundPipeline) -> bool
     ensures { IsTrue result ↔ ShapesFit (pipeline_of pipeline.now) }
 {
     match &pipeline.output {
-        Some(output) => is_shaped(pipeline, output),
+        Some(output) => is_output_shape_valid(pipeline, output),
         None => true,
     }
 }
 
-fn tile_count(pipeline: &BoundPipeline, stage: &Stage) -> u64
+fn count_stage_tiles(pipeline: &BoundPipeline, stage: &Stage) -> u64
     ensures { result ≡ tile_count (pipeline_of pipeline.now) (stage_view stage.now) }
 {
     match stage.body() {
@@ -86,12 +91,12 @@ fn tile_count(pipeline: &BoundPipeline, stage: &Stage) -> u64
 }
 
 // The first stage that has too many tiles.
-fn crowded(pipeline: &BoundPipeline) -> Option<usize>
+fn find_stage_with_too_many_tiles(pipeline: &BoundPipeline) -> Option<usize>
     ensures some { IfSome result (IsFirstCrowded (pipeline_of pipeline.now)) }
     ensures none { IfNone result (TilesFit (pipeline_of pipeline.now)) }
 {
     for (number, stage) in pipeline.stages.iter().enumerate() {
-        if tile_count(pipeline, stage) > MOST_TILES {
+        if count_stage_tiles(pipeline, stage) > MOST_TILES {
             return Some(number);
         }
     }
@@ -99,15 +104,15 @@ fn crowded(pipeline: &BoundPipeline) -> Option<usize>
 }
 
 /// The fault of the sizes of the stages, if there is one.
-pub(crate) fn size_fault(pipeline: &BoundPipeline) -> Option<BindFault>
+pub(crate) fn find_job_size_fault(pipeline: &BoundPipeline) -> Option<BindFault>
     ensures some { IfSome result (IsSizeFault (pipeline_of pipeline.now)) }
     ensures none { IfNone result
         (ShapesFit (pipeline_of pipeline.now) × TilesFit (pipeline_of pipeline.now)) }
 {
-    if !shapes_fit(pipeline) {
+    if !has_valid_output_shape(pipeline) {
         return Some(BindFault::OutputShapes);
     }
-    match crowded(pipeline) {
+    match find_stage_with_too_many_tiles(pipeline) {
         Some(stage) => Some(BindFault::TooManyTiles(stage)),
         None => None,
     }

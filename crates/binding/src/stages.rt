@@ -12,7 +12,7 @@ ghost use Rattle.binding.specs.inside.Ranges.{IsRanged, IsRangedBranch, HasBound
 ghost use Rattle.job.specs.Views.{formula_view, case_view, stage_view};
 ghost use Rattle.binding.specs.inside.Resolving.{program_in, variables_in};
 
-use crate::resolve::{Resolver, Variables};
+use crate::resolve::{JobResolver, VariableNames};
 use job::{Accumulator, Body, Formula, Function, JobCase, Stage};
 use pipe_bounds::StageBounds;
 use pipe_tokens::Name;
@@ -20,28 +20,28 @@ use pipe_tree::{Accum, Case, Expr, Func, Image, Item, Names, Variable};
 use std::alloc::AllocError;
 
 // The names of these variables.
-fn variables_of(row: &Variable, column: &Variable) -> Variables
+fn to_variable_names(row: &Variable, column: &Variable) -> VariableNames
     ensures { variables_in result ≡ variables_of row.now column.now }
 {
-    Variables {
+    VariableNames {
         row: row.name,
         column: column.name,
     }
 }
 
-impl Resolver<'_> {
+impl JobResolver<'_> {
     // What was found of the stage of this name.
-    fn bounds(&self, name: &Name) -> &StageBounds
+    fn find_stage_bounds(&self, name: &Name) -> &StageBounds
         requires { stage_number (program_in self.now) name.now < length self.now.found.now }
         ensures { slice_get self.now.found.now (stage_number (program_in self.now) name.now)
             ≡ Some result.now }
     {
-        &self.found[self.stage_number(name)]
+        &self.found[self.find_stage_number(name)]
     }
 
-    fn job_case(
+    fn resolve_case(
         &self,
-        own: &Variables,
+        own: &VariableNames,
         bounds: &StageBounds,
         number: usize,
         case: &Case,
@@ -57,14 +57,14 @@ impl Resolver<'_> {
         JobCase::new(
             self.alloc,
             bounds.boxes()[number],
-            self.tests(own, case.condition.tests())?,
-            self.formula(own, &case.value)?,
+            self.resolve_tests(own, case.condition.tests())?,
+            self.resolve_formula(own, &case.value)?,
         )
     }
 
-    fn job_cases(
+    fn resolve_cases(
         &self,
-        own: &Variables,
+        own: &VariableNames,
         bounds: &StageBounds,
         cases: &[Case],
     ) -> Result<Vec<JobCase>, AllocError>
@@ -78,14 +78,14 @@ impl Resolver<'_> {
     {
         let mut job_cases = Vec::new(self.alloc);
         for (number, case) in cases.iter().enumerate() {
-            job_cases.push(self.job_case(own, bounds, number, case)?)?;
+            job_cases.push(self.resolve_case(own, bounds, number, case)?)?;
         }
         Ok(job_cases)
     }
 
-    fn otherwise(
+    fn resolve_otherwise(
         &self,
-        own: &Variables,
+        own: &VariableNames,
         otherwise: &Option<Expr>,
     ) -> Result<Option<Formula>, AllocError>
         requires { ForSome (option_map view otherwise.now) (IsRanged self.now.tables.now) }
@@ -94,13 +94,13 @@ impl Resolver<'_> {
             (option_map view otherwise.now)) }
     {
         match otherwise {
-            Some(value) => Ok(Some(self.formula(own, value)?)),
+            Some(value) => Ok(Some(self.resolve_formula(own, value)?)),
             None => Ok(None),
         }
     }
 
     // The stage of this name, with its bounds and its body.
-    fn stage(&self, name: &Name, bounds: &StageBounds, body: Body) -> Stage
+    fn build_stage(&self, name: &Name, bounds: &StageBounds, body: Body) -> Stage
         ensures { result ≡ record {
           name = name.now;
           rank = rank_named (program_in self.now) name.now;
@@ -108,48 +108,48 @@ impl Resolver<'_> {
           body = body;
         } }
     {
-        Stage::new(*name, self.rank(name), *bounds.domain(), body)
+        Stage::new(*name, self.find_stage_rank(name), *bounds.domain(), body)
     }
 
-    fn plane(&self, image: &Image, name: &Name) -> Result<Stage, AllocError>
+    fn resolve_plane_stage(&self, image: &Image, name: &Name) -> Result<Stage, AllocError>
         requires { HasBounds (program_in self.now) self.now.found.now name.now
             (IsPlaneBounds (program_in self.now) image.now) }
         ensures { IfOk result
             (λ s. stage_view s ≡ plane_stage (program_in self.now) image.now name.now) }
     {
-        let plane = self.plane_number(name)?;
-        Ok(self.stage(name, self.bounds(name), Body::Plane(plane)))
+        let plane = self.find_plane_number(name)?;
+        Ok(self.build_stage(name, self.find_stage_bounds(name), Body::Plane(plane)))
     }
 
-    fn function(&self, func: &Func) -> Result<Stage, AllocError>
+    fn resolve_function_stage(&self, func: &Func) -> Result<Stage, AllocError>
         requires { IsReady (program_in self.now) self.now.found.now
             (function (function_of func.now)) }
         ensures { IfOk result
             (λ s. stage_view s ≡ function_stage (program_in self.now) (function_of func.now)) }
     {
-        let own = variables_of(&func.row, &func.column);
-        let bounds = self.bounds(&func.name);
-        let job_cases = self.job_cases(&own, bounds, func.cases.list())?;
-        let otherwise = self.otherwise(&own, &func.otherwise)?;
+        let own = to_variable_names(&func.row, &func.column);
+        let bounds = self.find_stage_bounds(&func.name);
+        let job_cases = self.resolve_cases(&own, bounds, func.cases.case_list())?;
+        let otherwise = self.resolve_otherwise(&own, &func.otherwise)?;
         let body = Function::new(self.alloc, job_cases, otherwise)?;
-        Ok(self.stage(&func.name, bounds, Body::Function(body)))
+        Ok(self.build_stage(&func.name, bounds, Body::Function(body)))
     }
 
-    fn accumulator(&self, accum: &Accum) -> Result<Stage, AllocError>
+    fn resolve_accumulator_stage(&self, accum: &Accum) -> Result<Stage, AllocError>
         requires { IsReady (program_in self.now) self.now.found.now
             (accumulator (accumulator_of accum.now)) }
         ensures { IfOk result (λ s. stage_view s
             ≡ accumulator_stage (program_in self.now) (accumulator_of accum.now)) }
     {
-        let own = variables_of(&accum.row, &accum.column);
-        let bounds = self.bounds(&accum.name);
-        let value = self.formula(&own, &accum.value)?;
-        let bin = self.formula(&own, &accum.bin)?;
+        let own = to_variable_names(&accum.row, &accum.column);
+        let bounds = self.find_stage_bounds(&accum.name);
+        let value = self.resolve_formula(&own, &accum.value)?;
+        let bin = self.resolve_formula(&own, &accum.bin)?;
         let body = Accumulator::new(self.alloc, accum.fold, bounds.bins().unwrap(), value, bin)?;
-        Ok(self.stage(&accum.name, bounds, Body::Accumulator(body)))
+        Ok(self.build_stage(&accum.name, bounds, Body::Accumulator(body)))
     }
 
-    fn add_planes(&self, stages: &mut Vec<Stage>, image: &Image) -> Result<(), AllocError>
+    fn push_plane_stages(&self, stages: &mut Vec<Stage>, image: &Image) -> Result<(), AllocError>
         requires { HavePlanes (program_in self.now) self.now.found.now image.now image.now.names }
         ensures { OnOk result (map stage_view stages.new.items
             ≡ map stage_view stages.old.items
@@ -157,41 +157,41 @@ impl Resolver<'_> {
     {
         match &image.names {
             Names::One(name) => {
-                stages.push(self.plane(image, name)?)?;
+                stages.push(self.resolve_plane_stage(image, name)?)?;
             }
             Names::Three(red, green, blue) => {
-                stages.push(self.plane(image, red)?)?;
-                stages.push(self.plane(image, green)?)?;
-                stages.push(self.plane(image, blue)?)?;
+                stages.push(self.resolve_plane_stage(image, red)?)?;
+                stages.push(self.resolve_plane_stage(image, green)?)?;
+                stages.push(self.resolve_plane_stage(image, blue)?)?;
             }
         }
         Ok(())
     }
 
-    fn add_item(&self, stages: &mut Vec<Stage>, item: &Item) -> Result<(), AllocError>
+    fn push_item_stages(&self, stages: &mut Vec<Stage>, item: &Item) -> Result<(), AllocError>
         requires { IsReady (program_in self.now) self.now.found.now (declaration item.now) }
         ensures { OnOk result (map stage_view stages.new.items
             ≡ map stage_view stages.old.items
             ++ item_stages (program_in self.now) (declaration item.now)) }
     {
         match item {
-            Item::Image(image) => self.add_planes(stages, image)?,
-            Item::Func(func) => stages.push(self.function(func)?)?,
-            Item::Accum(accum) => stages.push(self.accumulator(accum)?)?,
+            Item::Image(image) => self.push_plane_stages(stages, image)?,
+            Item::Func(func) => stages.push(self.resolve_function_stage(func)?)?,
+            Item::Accum(accum) => stages.push(self.resolve_accumulator_stage(accum)?)?,
             Item::Param(_) | Item::Table(_) | Item::Output(_) => {}
         }
         Ok(())
     }
 
     /// The stages of all items, in the order of the text.
-    pub fn stages(&self, items: &[Item]) -> Result<Vec<Stage>, AllocError>
+    pub fn resolve_stages(&self, items: &[Item]) -> Result<Vec<Stage>, AllocError>
         requires { AreReady (program_in self.now) self.now.found.now (declarations items.now) }
         ensures { IfOk result (λ v. map stage_view v.items
             ≡ flat_map (item_stages (program_in self.now)) (declarations items.now)) }
     {
         let mut stages = Vec::new(self.alloc);
         for item in items {
-            self.add_item(&mut stages, item)?;
+            self.push_item_stages(&mut stages, item)?;
         }
         Ok(stages)
     }

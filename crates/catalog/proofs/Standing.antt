@@ -8,7 +8,7 @@ use Rattle.std.proofs.lemmas.Option.{slice_get-map, slice_get_read, slice_get_wi
 use Rattle.job.specs.declared.job.Job.{Job}
 use Rattle.job.specs.Kept.{pipeline_in, program_text_in}
 use Rattle.job.specs.WellFormed.{IsJob}
-use Rattle.identity.specs.declared.job_ids.Ids.{Ids}
+use Rattle.identity.specs.declared.job_ids.JobId.{JobId}
 use Rattle.catalog.specs.Entries.{Entry, entry_of, ids_of, AreJobs, StandsAt, IsCatalog}
 use Rattle.catalog.specs.Refusals.{IsNew, IsAdmitted}
 
@@ -20,7 +20,7 @@ pub entry_at : (jobs : List Job) (n i : ℕ) (job : Job) → n ≡ length jobs �
 entry_at jobs n i job e h is = slice_get-map entry_of jobs i ∙ ap (option_map entry_of) (slice_get_read jobs n i job e h is)
 
 -- the job at a place where one of these identities stands
-pub twin_at : (entries : List Entry) (jobs : List Job) (ids : Ids) (i : ℕ) (job : Job) → map entry_of jobs ≡ entries → StandsAt entries ids i
+pub twin_at : (entries : List Entry) (jobs : List Job) (ids : JobId) (i : ℕ) (job : Job) → map entry_of jobs ≡ entries → StandsAt entries ids i
     → job ≡ get_or jobs i job → (slice_get entries i ≡ Some (entry_of job)) × (ids_of (entry_of job) ≡ ids)
 twin_at entries jobs ids i job e at is =
     let all : length jobs ≡ length entries = sym (length-map jobs entry_of) ∙ ap length e in
@@ -37,7 +37,7 @@ all_jobs (job ∷ jobs) (suc i) entry there = all_jobs jobs i entry there
 
 -- ---- a loop over the places
 
-pub none_more : (entries : List Entry) (ids : Ids) (i : ℕ) (entry : Entry) → slice_get entries i ≡ Some entry → ¬ (ids_of entry ≡ ids)
+pub none_more : (entries : List Entry) (ids : JobId) (i : ℕ) (entry : Entry) → slice_get entries i ≡ Some entry → ¬ (ids_of entry ≡ ids)
     → ((k : ℕ) → k < i → ¬ (StandsAt entries ids k)) → (k : ℕ) → k < i + 1 → ¬ (StandsAt entries ids k)
 none_more entries ids i entry there other before k h at = by_place (cases_lt k i)
   where
@@ -47,7 +47,7 @@ none_more entries ids i entry there other before k h at = by_place (cases_lt k i
         let same : k ≡ i = omega arith in
         other (subst (λ (e : Entry). ids_of e ≡ ids) (same_Some at.0 entry (sym at.1 ∙ ap (slice_get entries) same ∙ there)) at.2)
 
-pub none_at_all : (entries : List Entry) (ids : Ids) (n : ℕ) → length entries ≤ n → ((k : ℕ) → k < n → ¬ (StandsAt entries ids k)) → (k : ℕ)
+pub none_at_all : (entries : List Entry) (ids : JobId) (n : ℕ) → length entries ≤ n → ((k : ℕ) → k < n → ¬ (StandsAt entries ids k)) → (k : ℕ)
     → ¬ (StandsAt entries ids k)
 none_at_all entries ids n few none k at =
     let within = slice_get_within entries k at.0 at.1 in none k (omega (arith, few, within)) at
@@ -65,7 +65,7 @@ place_of (z ∷ zs) y (suc i) x e = later (place_of zs y i x e)
     later (inl at) = inl at
     later (inr last) = inr (ap suc last.0, last.1)
 
-one_place : (xs : List Entry) (y : Entry) → IsCatalog xs → IsNew xs y → (ids : Ids) (i j : ℕ)
+one_place : (xs : List Entry) (y : Entry) → IsCatalog xs → IsNew xs y → (ids : JobId) (i j : ℕ)
     → (a : StandsAt (xs ++ y ∷ []) ids i) (b : StandsAt (xs ++ y ∷ []) ids j)
     → (slice_get xs i ≡ Some a.0) ⊎ ((i ≡ length xs) × (a.0 ≡ y)) → (slice_get xs j ≡ Some b.0) ⊎ ((j ≡ length xs) × (b.0 ≡ y)) → i ≡ j
 one_place xs y c new ids i j a b (inl p) (inl q) = c.apart ids i j (a.0, p, a.2) (b.0, q, b.2)

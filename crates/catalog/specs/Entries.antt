@@ -7,7 +7,7 @@ use Rattle.job.specs.Identity.{input_bytes, input_id}
 use Rattle.job.specs.Kept.{pipeline_in, program_text_in}
 use Rattle.job.specs.Pipeline.{Pipeline}
 use Rattle.job.specs.WellFormed.{IsJob}
-use Rattle.identity.specs.declared.job_ids.Ids.{Ids}
+use Rattle.identity.specs.declared.job_ids.JobId.{JobId}
 pub use Rattle.identity.specs.Keys.{ids_in}
 
 pub record Entry : Type 0 where
@@ -18,7 +18,7 @@ abbrev pub entry_of : Job → Entry
 entry_of job = record { text = program_text_in job; pipeline = pipeline_in job }
 
 -- the digests of the text and of the program's input
-abbrev pub ids_of : Entry → Ids
+abbrev pub ids_of : Entry → JobId
 ids_of entry = record { program = sha256 entry.text; input = input_id entry.pipeline }
 
 -- the same bytes are hashed of both
@@ -26,12 +26,12 @@ abbrev pub AreHashedAlike : Entry → Entry → Type 0
 AreHashedAlike a b = (a.text ≡ b.text) × (input_bytes a.pipeline ≡ input_bytes b.pipeline)
 
 -- the job of these identities is at this place
-abbrev pub StandsAt : List Entry → Ids → ℕ → Type 0
+abbrev pub StandsAt : List Entry → JobId → ℕ → Type 0
 StandsAt entries ids i = (entry : Entry) × (slice_get entries i ≡ Some entry) × (ids_of entry ≡ ids)
 
 -- no two jobs have equal identities, and there are at most 16
 pub record IsCatalog (entries : List Entry) : Type 0 where
-  pub apart : (ids : Ids) (i j : ℕ) → StandsAt entries ids i → StandsAt entries ids j → i ≡ j
+  pub apart : (ids : JobId) (i j : ℕ) → StandsAt entries ids i → StandsAt entries ids j → i ≡ j
   pub few : length entries ≤ 16
 
 -- each job of it is well formed

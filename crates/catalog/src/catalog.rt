@@ -6,8 +6,8 @@ ghost use Rattle.catalog.specs.Entries.{entry_of, AreJobs, IsCatalog, StandsAt};
 ghost use Rattle.catalog.specs.Refusals.{IsAdmitted, IsRefusal};
 
 use crate::fault::AdmitFault;
-use crate::ids::{are_of, ids_of};
-use identity::Ids;
+use crate::ids::{compute_job_ids, is_job_with_ids};
+use identity::JobId;
 use job::Job;
 use std::alloc::Global;
 use std::marker::Model;
@@ -63,18 +63,18 @@ impl Catalog {
         ensures refused { IfErr result (λ back. IsRefusal self.old (entry_of job) back.1) }
     {
         let mut job = job;
-        job.keep_input_id();
-        if let Some(fault) = self.refusal(&job) {
+        job.cache_input_id();
+        if let Some(fault) = self.find_admit_fault(&job) {
             return Err((job, fault));
         }
-        match self.take(job) {
+        match self.append_job(job) {
             Ok(index) => Ok(index),
             Err(job) => Err((job, AdmitFault::Memory)),
         }
     }
 
     // Adds a job that is not refused, unless memory is.
-    fn take(&mut self, job: Job) -> Result<usize, Job>
+    fn append_job(&mut self, job: Job) -> Result<usize, Job>
         requires { IsAdmitted self.old (entry_of job) }
         ensures taken { OnOk result (self.new ≡ self.old ++ entry_of job ∷ []) }
         ensures index { IfOk result (λ index. index ≡ length self.old) }
@@ -89,12 +89,12 @@ impl Catalog {
     }
 
     // Why this job is refused, other than for memory.
-    fn refusal(&self, job: &Job) -> Option<AdmitFault>
+    fn find_admit_fault(&self, job: &Job) -> Option<AdmitFault>
         ensures some { IfSome result (IsRefusal self.now (entry_of job.now)) }
         ensures none { IfNone result (IsAdmitted self.now (entry_of job.now)) }
     {
-        if let Some(index) = self.find(&ids_of(job)) {
-            if self.jobs()[index].hashes_the_same(job) {
+        if let Some(index) = self.find(&compute_job_ids(job)) {
+            if self.jobs()[index].has_same_program_and_input(job) {
                 return Some(AdmitFault::Same(index));
             }
             return Some(AdmitFault::Clash(index));
@@ -122,14 +122,14 @@ impl Catalog {
     }
 
     /// The index of the job of these identities. Nothing is hashed, and no memory is allocated.
-    pub fn find(&self, ids: &Ids) -> Option<usize>
+    pub fn find(&self, ids: &JobId) -> Option<usize>
         ensures some { IfSome result (StandsAt self.now ids.now) }
         ensures none { IfNone result ((i : ℕ) → ¬ (StandsAt self.now ids.now i)) }
         ensures catalog { IsCatalog self.now }
     {
         let jobs = self.jobs();
         for index in 0..jobs.len() {
-            if are_of(ids, &jobs[index]) {
+            if is_job_with_ids(ids, &jobs[index]) {
                 return Some(index);
             }
         }

@@ -1,10 +1,12 @@
-//! A catalog: up to 16 jobs, distinguished by their identities.
+//! A catalog: up to 16 jobs, distinguished by their identities; and types that name one, for contracts.
 #![tactic(auto)]
 
 mod catalog;
 mod fault;
 mod ids;
+mod named_catalog;
 
 pub use catalog::{Catalog, MOST_JOBS};
 pub use fault::AdmitFault;
-pub use ids::ids_of;
+pub use ids::compute_job_ids;
+pub use named_catalog::NamedCatalog;

@@ -18,20 +18,20 @@ use Rattle.binding.specs.declared.fault.BindFault.{BindFault}
 use Rattle.binding.specs.declared.fault.BindFault.TheVariants as binding
 use Rattle.tile_fact.specs.FaultTable as files
 use Rattle.tile_fact.specs.declared.fault.FactFault.{FactFault}
-use Rattle.fact_lines.specs.declared.fault.LinesFault.{LinesFault}
-use Rattle.fact_lines.specs.declared.fault.LinesFault.TheVariants as facts
+use Rattle.fact_lines.specs.declared.fault.FactLinesFault.{FactLinesFault}
+use Rattle.fact_lines.specs.declared.fault.FactLinesFault.TheVariants as facts
 use Rattle.gossip_events.specs.FaultTable as events
 use Rattle.gossip_events.specs.declared.fault.ScriptFault.{ScriptFault}
 use Rattle.gossip_events.specs.declared.fault.ScriptFault.TheVariants as scripts
 use Rattle.command_faults.specs.declared.faults.StreamFault.{StreamFault}
 use Rattle.command_faults.specs.declared.faults.StreamFault.TheVariants.{Read, TooLong, NoSeparator, Program, Tables, Picture, Check, Param}
 use Rattle.command_faults.specs.declared.faults.StreamFault.TheVariants.{Bind, Facts, Script, Farm, Memory, Write}
-use Rattle.command_faults.specs.declared.lines.BindLine.{BindLine}
-use Rattle.command_faults.specs.declared.lines.CheckLine.{CheckLine}
-use Rattle.command_faults.specs.declared.lines.CheckLine.TheVariants as lines
-use Rattle.command_faults.specs.declared.lines.FarmLine.{FarmLine}
-use Rattle.command_faults.specs.declared.lines.FarmLine.TheVariants as farms
-use Rattle.command_faults.specs.declared.lines.ParamLine.{ParamLine}
+use Rattle.command_faults.specs.declared.lines.BindFaultLine.{BindFaultLine}
+use Rattle.command_faults.specs.declared.lines.CheckFaultLine.{CheckFaultLine}
+use Rattle.command_faults.specs.declared.lines.CheckFaultLine.TheVariants as lines
+use Rattle.command_faults.specs.declared.lines.FarmFaultLine.{FarmFaultLine}
+use Rattle.command_faults.specs.declared.lines.FarmFaultLine.TheVariants as farms
+use Rattle.command_faults.specs.declared.lines.ParamFaultLine.{ParamFaultLine}
 
 -- `KIND: NUMBER NAME`
 abbrev pub head : List ℕ → ℕ → List ℕ → List ℕ
@@ -79,7 +79,7 @@ fault_text fault = check_head fault ++ item_text fault
 abbrev pub cycle_text : List (List ℕ) → List ℕ
 cycle_text names = check_head (checks.Cycle []) ++ flat_map name_text names
 
-abbrev pub check_text : CheckLine → List ℕ
+abbrev pub check_text : CheckFaultLine → List ℕ
 check_text (lines.Fault fault) = fault_text fault
 check_text (lines.Cycle names) = cycle_text names
 
@@ -88,7 +88,7 @@ check_text (lines.Cycle names) = cycle_text names
 abbrev pub param_head : ParamFault → List ℕ
 param_head fault = head (codes "parameter") (param_number fault) (param_name fault)
 
-abbrev pub param_text : ParamLine → List ℕ
+abbrev pub param_text : ParamFaultLine → List ℕ
 param_text line = param_head line.fault ++ name_text (string_bytes line.name)
 
 -- ---- faults of a program and a picture
@@ -118,7 +118,7 @@ abbrev pub read_text : BindFault → List ℕ
 read_text (binding.Bounds (bounds.OutOfBounds stage case read axis least greatest)) = place_text case read axis ++ ends_text least greatest
 read_text fault = []
 
-abbrev pub bind_text : BindLine → List ℕ
+abbrev pub bind_text : BindFaultLine → List ℕ
 bind_text line = bind_head line.fault ++ blamed_text line.blamed ++ read_text line.fault
 
 -- ---- faults of fact files
@@ -138,7 +138,7 @@ file_fault_text line fault = line_head line ++ 32 ∷ decimal (files.number_of f
 abbrev pub bad_file_text : ℕ → FactFault → List ℕ
 bad_file_text line fault = file_fault_text line fault ++ offset_text (files.offset_of fault)
 
-abbrev pub facts_text : LinesFault → List ℕ
+abbrev pub facts_text : FactLinesFault → List ℕ
 facts_text (facts.BadHex line) = bad_hex_text line
 facts_text (facts.BadFile line fault) = bad_file_text line fault
 facts_text facts.Memory = codes "memory"
@@ -160,7 +160,7 @@ script_text fault = script_head fault ++ at_line_text fault
 
 -- ---- faults of farms
 
-abbrev pub farm_text : FarmLine → List ℕ
+abbrev pub farm_text : FarmFaultLine → List ℕ
 farm_text farms.SpawnFailed = codes "farm: 1 SpawnFailed"
 farm_text farms.Close = codes "farm: 3 Close"
 

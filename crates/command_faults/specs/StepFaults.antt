@@ -3,8 +3,8 @@ use Rattle.netpbm.specs.declared.fault.PicFault.{PicFault}
 use Rattle.netpbm.specs.declared.fault.PicFault.TheVariants as pictures
 use Rattle.pipe_tree.specs.declared.fault.ParseFault.{ParseFault}
 use Rattle.pipe_tree.specs.declared.fault.ParseFault.TheVariants as texts
-use Rattle.fact_lines.specs.declared.fault.LinesFault.{LinesFault}
-use Rattle.fact_lines.specs.declared.fault.LinesFault.TheVariants as lines
+use Rattle.fact_lines.specs.declared.fault.FactLinesFault.{FactLinesFault}
+use Rattle.fact_lines.specs.declared.fault.FactLinesFault.TheVariants as lines
 use Rattle.gossip_events.specs.declared.fault.ScriptFault.{ScriptFault}
 use Rattle.gossip_events.specs.declared.fault.ScriptFault.TheVariants as scripts
 use Rattle.command_faults.specs.declared.faults.StreamFault.{StreamFault}
@@ -18,7 +18,7 @@ abbrev pub fault_at_picture : PicFault → StreamFault
 fault_at_picture pictures.Memory = Memory
 fault_at_picture f = Picture f
 
-abbrev pub fault_at_lines : LinesFault → StreamFault
+abbrev pub fault_at_lines : FactLinesFault → StreamFault
 fault_at_lines lines.Memory = Memory
 fault_at_lines f = Facts f
 

@@ -4,8 +4,11 @@ ghost use Rattle.std.specs.Prelude.{◌≡◌, ◌++◌};
 ghost use Rattle.command_faults.specs.FaultLines.{axis_word, bind_head, bind_text, blamed_text, ends_text, place_text, read_text};
 ghost use Rattle.command_faults.specs.Taking.{Takes};
 
-use crate::lines::BindLine;
-use crate::texts::{write_count, write_head, write_integer, write_name, write_texts};
+use crate::lines::BindFaultLine;
+use crate::texts::{
+    write_fault_head, write_fault_texts, write_fault_words_and_count,
+    write_fault_words_and_integer, write_name_in_fault_line,
+};
 use binding::BindFault;
 use fault_rows::Fault;
 use pipe_bounds::{Axis, BoundFault};
@@ -13,38 +16,49 @@ use pipe_tokens::Name;
 use streams::{Sink, WriteFailed};
 
 /// Writes why a program and a picture make no job.
-pub fn write_bind<W: Sink>(writer: &mut W, line: &BindLine) -> Result<(), WriteFailed>
+pub fn write_bind_fault_line<W: Sink>(
+    writer: &mut W,
+    line: &BindFaultLine,
+) -> Result<(), WriteFailed>
     ensures { Takes result (bind_text line.now) (W.contents writer.old) (W.contents writer.new)
         (W.failures writer.old) (W.failures writer.new) }
 {
-    write_bind_head(writer, line.fault)?;
-    write_blamed(writer, &line.blamed)?;
-    write_read(writer, line.fault)
+    write_bind_fault_head(writer, line.fault)?;
+    write_fault_blamed_name(writer, &line.blamed)?;
+    write_out_of_bounds_fault(writer, line.fault)
 }
 
-fn write_bind_head<W: Sink>(writer: &mut W, fault: BindFault) -> Result<(), WriteFailed>
+fn write_bind_fault_head<W: Sink>(writer: &mut W, fault: BindFault) -> Result<(), WriteFailed>
     ensures { Takes result (bind_head fault) (W.contents writer.old) (W.contents writer.new)
         (W.failures writer.old) (W.failures writer.new) }
 {
     match fault {
-        BindFault::Bounds(fault) => write_head(writer, b"bounds", fault.number(), fault.name()),
-        _ => write_head(writer, b"bind", fault.number(), fault.name()),
+        BindFault::Bounds(fault) => write_fault_head(
+            writer,
+            b"bounds",
+            fault.number(),
+            fault.name(),
+        ),
+        _ => write_fault_head(writer, b"bind", fault.number(), fault.name()),
     }
 }
 
 /// The name that a fault blames, if it blames one.
-fn write_blamed<W: Sink>(writer: &mut W, blamed: &Option<Name>) -> Result<(), WriteFailed>
+fn write_fault_blamed_name<W: Sink>(
+    writer: &mut W,
+    blamed: &Option<Name>,
+) -> Result<(), WriteFailed>
     ensures { Takes result (blamed_text blamed.now) (W.contents writer.old) (W.contents writer.new)
         (W.failures writer.old) (W.failures writer.new) }
 {
     match blamed {
-        Some(name) => write_name(writer, name),
+        Some(name) => write_name_in_fault_line(writer, name),
         None => Ok(()),
     }
 }
 
 /// Where a read leaves the domain of what it reads, and its least and greatest index.
-fn write_read<W: Sink>(writer: &mut W, fault: BindFault) -> Result<(), WriteFailed>
+fn write_out_of_bounds_fault<W: Sink>(writer: &mut W, fault: BindFault) -> Result<(), WriteFailed>
     ensures { Takes result (read_text fault) (W.contents writer.old) (W.contents writer.new)
         (W.failures writer.old) (W.failures writer.new) }
 {
@@ -58,12 +72,12 @@ fn write_read<W: Sink>(writer: &mut W, fault: BindFault) -> Result<(), WriteFail
                 greatest,
                 ..
             },
-        ) => { write_outside(writer, case, read, axis, least, greatest) }
+        ) => { write_out_of_bounds_read(writer, case, read, axis, least, greatest) }
         _ => Ok(()),
     }
 }
 
-fn write_outside<W: Sink>(
+fn write_out_of_bounds_read<W: Sink>(
     writer: &mut W,
     case: usize,
     read: usize,
@@ -75,11 +89,11 @@ fn write_outside<W: Sink>(
         (W.contents writer.old) (W.contents writer.new)
         (W.failures writer.old) (W.failures writer.new) }
 {
-    write_case(writer, case, read, axis)?;
-    write_ends(writer, least, greatest)
+    write_out_of_bounds_place(writer, case, read, axis)?;
+    write_out_of_bounds_indices(writer, least, greatest)
 }
 
-fn write_case<W: Sink>(
+fn write_out_of_bounds_place<W: Sink>(
     writer: &mut W,
     case: usize,
     read: usize,
@@ -89,12 +103,12 @@ fn write_case<W: Sink>(
         (W.contents writer.old) (W.contents writer.new)
         (W.failures writer.old) (W.failures writer.new) }
 {
-    write_count(writer, b" case ", case)?;
-    write_count(writer, b" read ", read)?;
-    write_texts(writer, &[b" ", spell_axis(axis)])
+    write_fault_words_and_count(writer, b" case ", case)?;
+    write_fault_words_and_count(writer, b" read ", read)?;
+    write_fault_texts(writer, &[b" ", choose_axis_word_of_fault(axis)])
 }
 
-fn spell_axis(axis: Axis) -> &'static [u8]
+fn choose_axis_word_of_fault(axis: Axis) -> &'static [u8]
     ensures { result.now ≡ axis_word axis }
 {
     match axis {
@@ -103,11 +117,15 @@ fn spell_axis(axis: Axis) -> &'static [u8]
     }
 }
 
-fn write_ends<W: Sink>(writer: &mut W, least: i32, greatest: i32) -> Result<(), WriteFailed>
+fn write_out_of_bounds_indices<W: Sink>(
+    writer: &mut W,
+    least: i32,
+    greatest: i32,
+) -> Result<(), WriteFailed>
     ensures { Takes result (ends_text least greatest)
         (W.contents writer.old) (W.contents writer.new)
         (W.failures writer.old) (W.failures writer.new) }
 {
-    write_integer(writer, b" least ", least)?;
-    write_integer(writer, b" greatest ", greatest)
+    write_fault_words_and_integer(writer, b" least ", least)?;
+    write_fault_words_and_integer(writer, b" greatest ", greatest)
 }

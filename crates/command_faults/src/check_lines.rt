@@ -4,21 +4,24 @@ ghost use Rattle.std.specs.List.{flat_map};
 ghost use Rattle.command_faults.specs.FaultLines.{check_head, check_text, cycle_text, fault_text, item_text, name_text};
 ghost use Rattle.command_faults.specs.Taking.{Takes};
 
-use crate::lines::CheckLine;
-use crate::texts::{write_count, write_head, write_name};
+use crate::lines::CheckFaultLine;
+use crate::texts::{write_fault_head, write_fault_words_and_count, write_name_in_fault_line};
 use fault_rows::Fault;
 use pipe_checks::CheckFault;
 use pipe_tokens::Name;
 use streams::{Sink, WriteFailed};
 
 /// Writes what is wrong with the names, the numbers and the cycles of a program.
-pub fn write_check<W: Sink>(writer: &mut W, line: &CheckLine) -> Result<(), WriteFailed>
+pub fn write_check_fault_line<W: Sink>(
+    writer: &mut W,
+    line: &CheckFaultLine,
+) -> Result<(), WriteFailed>
     ensures { Takes result (check_text line.now) (W.contents writer.old) (W.contents writer.new)
         (W.failures writer.old) (W.failures writer.new) }
 {
     match line {
-        CheckLine::Fault(fault) => write_check_fault(writer, fault),
-        CheckLine::Cycle(names) => write_cycle(writer, names.names.as_slice()),
+        CheckFaultLine::Fault(fault) => write_check_fault(writer, fault),
+        CheckFaultLine::Cycle(names) => write_check_cycle_fault(writer, names.names.as_slice()),
     }
 }
 
@@ -26,19 +29,19 @@ fn write_check_fault<W: Sink>(writer: &mut W, fault: &CheckFault) -> Result<(), 
     ensures { Takes result (fault_text fault.now) (W.contents writer.old) (W.contents writer.new)
         (W.failures writer.old) (W.failures writer.new) }
 {
-    write_check_head(writer, fault)?;
-    write_item(writer, fault)
+    write_check_fault_head(writer, fault)?;
+    write_check_fault_item(writer, fault)
 }
 
-fn write_check_head<W: Sink>(writer: &mut W, fault: &CheckFault) -> Result<(), WriteFailed>
+fn write_check_fault_head<W: Sink>(writer: &mut W, fault: &CheckFault) -> Result<(), WriteFailed>
     ensures { Takes result (check_head fault.now) (W.contents writer.old) (W.contents writer.new)
         (W.failures writer.old) (W.failures writer.new) }
 {
-    write_head(writer, b"check", fault.number(), fault.name())
+    write_fault_head(writer, b"check", fault.number(), fault.name())
 }
 
 /// The number of the item that a fault blames.
-fn write_item<W: Sink>(writer: &mut W, fault: &CheckFault) -> Result<(), WriteFailed>
+fn write_check_fault_item<W: Sink>(writer: &mut W, fault: &CheckFault) -> Result<(), WriteFailed>
     ensures { Takes result (item_text fault.now) (W.contents writer.old) (W.contents writer.new)
         (W.failures writer.old) (W.failures writer.new) }
 {
@@ -47,26 +50,26 @@ fn write_item<W: Sink>(writer: &mut W, fault: &CheckFault) -> Result<(), WriteFa
         | CheckFault::Twice(item)
         | CheckFault::Kind(item)
         | CheckFault::BadKernel(item)
-        | CheckFault::BadLiteral(item) => write_count(writer, b" item ", *item),
+        | CheckFault::BadLiteral(item) => write_fault_words_and_count(writer, b" item ", *item),
         CheckFault::NoResult | CheckFault::Cycle(_) | CheckFault::Memory => Ok(()),
     }
 }
 
-fn write_cycle<W: Sink>(writer: &mut W, names: &[Name]) -> Result<(), WriteFailed>
+fn write_check_cycle_fault<W: Sink>(writer: &mut W, names: &[Name]) -> Result<(), WriteFailed>
     ensures { Takes result (cycle_text names.now) (W.contents writer.old) (W.contents writer.new)
         (W.failures writer.old) (W.failures writer.new) }
 {
-    write_head(writer, b"check", 7, "Cycle")?;
-    write_names(writer, names)
+    write_fault_head(writer, b"check", 7, "Cycle")?;
+    write_fault_cycle_names(writer, names)
 }
 
-fn write_names<W: Sink>(writer: &mut W, names: &[Name]) -> Result<(), WriteFailed>
+fn write_fault_cycle_names<W: Sink>(writer: &mut W, names: &[Name]) -> Result<(), WriteFailed>
     ensures { Takes result (flat_map name_text names.now)
         (W.contents writer.old) (W.contents writer.new)
         (W.failures writer.old) (W.failures writer.new) }
 {
     for name in names {
-        write_name(writer, name)?;
+        write_name_in_fault_line(writer, name)?;
     }
     Ok(())
 }

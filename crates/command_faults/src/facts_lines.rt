@@ -3,43 +3,52 @@
 ghost use Rattle.command_faults.specs.FaultLines.{bad_file_text, bad_hex_text, facts_text, file_fault_text};
 ghost use Rattle.command_faults.specs.Taking.{Takes};
 
-use crate::texts::{write_count, write_offset, write_text, write_texts};
-use fact_lines::LinesFault;
+use crate::texts::{
+    write_fault_offset, write_fault_text, write_fault_texts, write_fault_words_and_count,
+};
+use fact_lines::FactLinesFault;
 use fault_rows::Fault;
 use streams::{Sink, WriteFailed};
 use tile_fact::FactFault;
 
 /// Writes what is wrong with a line of fact files.
-pub fn write_facts<W: Sink>(writer: &mut W, fault: LinesFault) -> Result<(), WriteFailed>
+pub fn write_facts_fault_line<W: Sink>(
+    writer: &mut W,
+    fault: FactLinesFault,
+) -> Result<(), WriteFailed>
     ensures { Takes result (facts_text fault) (W.contents writer.old) (W.contents writer.new)
         (W.failures writer.old) (W.failures writer.new) }
 {
     match fault {
-        LinesFault::BadHex { line } => write_bad_hex(writer, line),
-        LinesFault::BadFile { line, fault } => write_bad_file(writer, line, fault),
-        LinesFault::Memory => write_text(writer, b"memory"),
+        FactLinesFault::BadHex { line } => write_bad_hex_fault(writer, line),
+        FactLinesFault::BadFile { line, fault } => write_bad_fact_file_fault(writer, line, fault),
+        FactLinesFault::Memory => write_fault_text(writer, b"memory"),
     }
 }
 
-fn write_bad_hex<W: Sink>(writer: &mut W, line: usize) -> Result<(), WriteFailed>
+fn write_bad_hex_fault<W: Sink>(writer: &mut W, line: usize) -> Result<(), WriteFailed>
     ensures { Takes result (bad_hex_text line) (W.contents writer.old) (W.contents writer.new)
         (W.failures writer.old) (W.failures writer.new) }
 {
-    write_count(writer, b"facts: line ", line)?;
-    write_text(writer, b" bad hex")
+    write_fault_words_and_count(writer, b"facts: line ", line)?;
+    write_fault_text(writer, b" bad hex")
 }
 
 /// The line's number, and the fault of the file that it is.
-fn write_bad_file<W: Sink>(writer: &mut W, line: usize, fault: FactFault) -> Result<(), WriteFailed>
+fn write_bad_fact_file_fault<W: Sink>(
+    writer: &mut W,
+    line: usize,
+    fault: FactFault,
+) -> Result<(), WriteFailed>
     ensures { Takes result (bad_file_text line fault)
         (W.contents writer.old) (W.contents writer.new)
         (W.failures writer.old) (W.failures writer.new) }
 {
-    write_file_fault(writer, line, fault)?;
-    write_offset(writer, fault.offset())
+    write_fact_file_fault_head(writer, line, fault)?;
+    write_fault_offset(writer, fault.offset())
 }
 
-fn write_file_fault<W: Sink>(
+fn write_fact_file_fault_head<W: Sink>(
     writer: &mut W,
     line: usize,
     fault: FactFault,
@@ -48,7 +57,7 @@ fn write_file_fault<W: Sink>(
         (W.contents writer.old) (W.contents writer.new)
         (W.failures writer.old) (W.failures writer.new) }
 {
-    write_count(writer, b"facts: line ", line)?;
-    write_count(writer, b" ", usize::from(fault.number()))?;
-    write_texts(writer, &[b" ", fault.name().as_bytes()])
+    write_fault_words_and_count(writer, b"facts: line ", line)?;
+    write_fault_words_and_count(writer, b" ", usize::from(fault.number()))?;
+    write_fault_texts(writer, &[b" ", fault.name().as_bytes()])
 }

@@ -1,7 +1,7 @@
 //! Why a command gave no result.
 
-use crate::lines::{BindLine, CheckLine, FarmLine, ParamLine};
-use fact_lines::LinesFault;
+use crate::lines::{BindFaultLine, CheckFaultLine, FarmFaultLine, ParamFaultLine};
+use fact_lines::FactLinesFault;
 use gossip_events::ScriptFault;
 use netpbm::PicFault;
 use pipe_tree::ParseFault;
@@ -32,22 +32,22 @@ pub enum StreamFault {
     Picture(PicFault),
     /// The program is ill-formed.
     #[error("the program means nothing")]
-    Check(CheckLine),
+    Check(CheckFaultLine),
     /// A parameter was rejected.
     #[error("a parameter was given in vain")]
-    Param(ParamLine),
+    Param(ParamFaultLine),
     /// The program and the picture make no job.
     #[error("the program and the picture make no job")]
-    Bind(BindLine),
+    Bind(BindFaultLine),
     /// A line is no fact file.
     #[error("a line is no fact file: {0}")]
-    Facts(LinesFault),
+    Facts(FactLinesFault),
     /// The section in the middle is no script.
     #[error("the section in the middle is no script: {0}")]
     Script(ScriptFault),
     /// The farm gave no answer.
     #[error("the farm gave no answer")]
-    Farm(FarmLine),
+    Farm(FarmFaultLine),
     /// Memory ran out.
     #[error("out of memory")]
     Memory,
@@ -61,7 +61,7 @@ impl StreamFault {
     ghost use Rattle.command_faults.specs.Statuses.{status_of};
 
     /// The status that the program ends with.
-    pub fn status(&self) -> u8
+    pub fn exit_status(&self) -> u8
         ensures { result ≡ status_of self.now }
     {
         match self {
@@ -133,14 +133,14 @@ impl From<PicFault> for StreamFault {
     }
 }
 
-impl From<LinesFault> for StreamFault {
+impl From<FactLinesFault> for StreamFault {
     ghost use Rattle.std.specs.Prelude.{◌≡◌};
     ghost use Rattle.command_faults.specs.StepFaults.{fault_at_lines};
 
     ghost from_gives = { λ fault made. made ≡ fault_at_lines fault };
 
-    fn from(fault: LinesFault) -> StreamFault {
-        step_fault!(fault, LinesFault => Facts)
+    fn from(fault: FactLinesFault) -> StreamFault {
+        step_fault!(fault, FactLinesFault => Facts)
     }
 }
 

@@ -10,7 +10,7 @@ mod lines;
 mod script_lines;
 mod texts;
 
-pub use fault_lines::write_line;
+pub use fault_lines::write_command_fault_line;
 pub use faults::StreamFault;
-pub use lines::{BindLine, CheckLine, FarmLine, ParamLine, StageNames};
-pub use texts::write_texts;
+pub use lines::{BindFaultLine, CheckFaultLine, FarmFaultLine, ParamFaultLine, StageNames};
+pub use texts::write_fault_texts;

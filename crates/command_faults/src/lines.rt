@@ -22,7 +22,7 @@ impl Model for StageNames {
 
 /// What is wrong with the names, the numbers and the cycles of a program.
 #[derive(Debug, Drop)]
-pub enum CheckLine {
+pub enum CheckFaultLine {
     /// A fault of an item, or a missing result.
     Fault(CheckFault),
     /// Stages of which each reads the next. The last is the first again.
@@ -31,7 +31,7 @@ pub enum CheckLine {
 
 /// Why a farm gave no answer.
 #[derive(Clone, Copy, Debug, PartialEq, Eq)]
-pub enum FarmLine {
+pub enum FarmFaultLine {
     /// A thread could not be started.
     SpawnFailed,
     /// A node did not hold what its receipts promise.
@@ -40,7 +40,7 @@ pub enum FarmLine {
 
 /// A parameter that was rejected.
 #[derive(Debug, Drop)]
-pub struct ParamLine {
+pub struct ParamFaultLine {
     pub fault: ParamFault,
     /// The name as it was supplied.
     pub name: String,
@@ -48,7 +48,7 @@ pub struct ParamLine {
 
 /// The first fault of a program and a picture that make no job.
 #[derive(Debug, Drop)]
-pub struct BindLine {
+pub struct BindFaultLine {
     pub fault: BindFault,
     /// The name of the parameter or the stage that the fault blames, if it blames one.
     pub blamed: Option<Name>,

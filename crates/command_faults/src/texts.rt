@@ -8,30 +8,30 @@ ghost use Rattle.command_faults.specs.Taking.{Takes};
 
 use itoa::Buffer;
 use pipe_tokens::Name;
-use streams::{Sink, WriteFailed, write_whole};
+use streams::{Sink, WriteFailed, write_all_bytes};
 
 /// Writes the text.
-pub fn write_text<W: Sink>(writer: &mut W, text: &[u8]) -> Result<(), WriteFailed>
+pub fn write_fault_text<W: Sink>(writer: &mut W, text: &[u8]) -> Result<(), WriteFailed>
     ensures { Takes result text.now (W.contents writer.old) (W.contents writer.new)
         (W.failures writer.old) (W.failures writer.new) }
 {
-    write_whole(writer, text)
+    write_all_bytes(writer, text)
 }
 
 /// Writes the texts, one after another.
-pub fn write_texts<W: Sink>(writer: &mut W, texts: &[&[u8]]) -> Result<(), WriteFailed>
+pub fn write_fault_texts<W: Sink>(writer: &mut W, texts: &[&[u8]]) -> Result<(), WriteFailed>
     ensures { Takes result (flat_map (λ t. t.now) texts.now)
         (W.contents writer.old) (W.contents writer.new)
         (W.failures writer.old) (W.failures writer.new) }
 {
     for text in texts {
-        write_text(writer, text)?;
+        write_fault_text(writer, text)?;
     }
     Ok(())
 }
 
 /// The kind, the number and the name of a fault.
-pub fn write_head<W: Sink>(
+pub fn write_fault_head<W: Sink>(
     writer: &mut W,
     kind: &[u8],
     number: u8,
@@ -42,7 +42,7 @@ pub fn write_head<W: Sink>(
         (W.failures writer.old) (W.failures writer.new) }
 {
     let mut digits = Buffer::new();
-    write_texts(
+    write_fault_texts(
         writer,
         &[
             kind,
@@ -55,38 +55,46 @@ pub fn write_head<W: Sink>(
 }
 
 /// Where a fault is; 0 for one that has no place.
-pub fn write_offset<W: Sink>(writer: &mut W, offset: Option<usize>) -> Result<(), WriteFailed>
+pub fn write_fault_offset<W: Sink>(writer: &mut W, offset: Option<usize>) -> Result<(), WriteFailed>
     ensures { Takes result (offset_text offset) (W.contents writer.old) (W.contents writer.new)
         (W.failures writer.old) (W.failures writer.new) }
 {
-    write_count(writer, b" at ", offset.unwrap_or(0))
+    write_fault_words_and_count(writer, b" at ", offset.unwrap_or(0))
 }
 
 /// The words, followed by a count.
-pub fn write_count<W: Sink>(writer: &mut W, words: &[u8], count: usize) -> Result<(), WriteFailed>
+pub fn write_fault_words_and_count<W: Sink>(
+    writer: &mut W,
+    words: &[u8],
+    count: usize,
+) -> Result<(), WriteFailed>
     ensures { Takes result (words.now ++ decimal count)
         (W.contents writer.old) (W.contents writer.new)
         (W.failures writer.old) (W.failures writer.new) }
 {
     let mut digits = Buffer::new();
-    write_texts(writer, &[words, digits.format(count).as_bytes()])
+    write_fault_texts(writer, &[words, digits.format(count).as_bytes()])
 }
 
 /// The words, followed by an integer.
-pub fn write_integer<W: Sink>(writer: &mut W, words: &[u8], value: i32) -> Result<(), WriteFailed>
+pub fn write_fault_words_and_integer<W: Sink>(
+    writer: &mut W,
+    words: &[u8],
+    value: i32,
+) -> Result<(), WriteFailed>
     ensures { Takes result (words.now ++ signed_decimal value)
         (W.contents writer.old) (W.contents writer.new)
         (W.failures writer.old) (W.failures writer.new) }
 {
     let mut digits = Buffer::new();
     let digits = digits.format(value).as_bytes();
-    write_texts(writer, &[words, digits])
+    write_fault_texts(writer, &[words, digits])
 }
 
 /// A name after a blank.
-pub fn write_name<W: Sink>(writer: &mut W, name: &Name) -> Result<(), WriteFailed>
+pub fn write_name_in_fault_line<W: Sink>(writer: &mut W, name: &Name) -> Result<(), WriteFailed>
     ensures { Takes result (name_text name.now) (W.contents writer.old) (W.contents writer.new)
         (W.failures writer.old) (W.failures writer.new) }
 {
-    write_texts(writer, &[b" ", name.as_bytes()])
+    write_fault_texts(writer, &[b" ", name.as_bytes()])
 }

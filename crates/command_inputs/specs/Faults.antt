@@ -29,9 +29,9 @@ use Rattle.command_inputs.specs.Tables.{AreTableLines, IsFirstLacking}
 use Rattle.command_faults.specs.declared.faults.StreamFault.{StreamFault}
 use Rattle.command_faults.specs.declared.faults.StreamFault.TheVariants.{NoSeparator, Program, Tables, Picture, Check, Param, Bind}
 use Rattle.command_faults.specs.declared.faults.StreamFault.TheVariants.{Memory}
-use Rattle.command_faults.specs.declared.lines.BindLine.{BindLine}
-use Rattle.command_faults.specs.declared.lines.CheckLine.{CheckLine}
-use Rattle.command_faults.specs.declared.lines.CheckLine.TheVariants as check_lines
+use Rattle.command_faults.specs.declared.lines.BindFaultLine.{BindFaultLine}
+use Rattle.command_faults.specs.declared.lines.CheckFaultLine.{CheckFaultLine}
+use Rattle.command_faults.specs.declared.lines.CheckFaultLine.TheVariants as check_lines
 
 -- the name of the stage, the parameter or the table of this number
 abbrev pub name_at : List Symbol → ℕ → Option (List ℕ)
@@ -44,7 +44,7 @@ abbrev pub names_of : List Symbol → List ℕ → List (List ℕ)
 names_of stages numbers = filter_map (name_at stages) numbers
 
 -- the fault of a program, reported by the names of its stages
-abbrev pub IsCheckLine : List Declaration → CheckLine → Type 0
+abbrev pub IsCheckLine : List Declaration → CheckFaultLine → Type 0
 IsCheckLine tree (check_lines.Cycle names) =
     (cycle : List ℕ) × IsProgramFault tree (checks.Cycle cycle) × (names ≡ names_of (stages_of tree) cycle)
 IsCheckLine tree (check_lines.Fault (checks.Cycle cycle)) = ⊥
@@ -75,7 +75,7 @@ blamed params tables stages binding.Memory = None
 -- the first fault of a program at the supplied values, of its tables, a picture and the sides of tiles. It is reported by the
 -- name that it blames
 pub record IsBindLine (tree : List Declaration) (tables : List Table) (given : List Given) (source : Image) (sides : Sides)
-    (line : BindLine) : Type 0 where
+    (line : BindFaultLine) : Type 0 where
   pub chosen : List Setting
   pub are_given : AreGiven (unset_of tree) given chosen
   pub ranks : List ℕ

@@ -9,7 +9,7 @@ use Rattle.pipe_bounds.specs.declared.fault.ParamFault.TheVariants.{NoSuchParam,
 use Rattle.pipe_checks.specs.Names.{params_of}
 use Rattle.pipe_bounds.specs.Settings.{SetsOne, IsSet, place_in}
 use Rattle.pipe_bounds.specs.Unset.{unset}
-use Rattle.command_faults.specs.declared.lines.ParamLine.{ParamLine}
+use Rattle.command_faults.specs.declared.lines.ParamFaultLine.{ParamFaultLine}
 
 -- a parameter's name and the value that is supplied for it
 abbrev pub Given : Type 0
@@ -32,7 +32,7 @@ IsNotSettable ss name NoSuchParam = place_in ss name ≡ None
 IsNotSettable ss name SetTwice = IsSet ss name
 
 -- the first pair that is rejected, reported by its name
-pub record IsFirstRefused (ss : List Setting) (given : List Given) (line : ParamLine) : Type 0 where
+pub record IsFirstRefused (ss : List Setting) (given : List Given) (line : ParamFaultLine) : Type 0 where
   pub n : ℕ
   pub pair : Given
   pub there : slice_get given n ≡ Some pair

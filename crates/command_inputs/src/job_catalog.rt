@@ -8,7 +8,7 @@ use job::Job;
 use std::alloc::{AllocError, Global};
 
 /// The catalog that has this job alone.
-pub fn make_catalog(alloc: Global, job: Job) -> Result<Catalog, AllocError>
+pub fn make_catalog_of_input_job(alloc: Global, job: Job) -> Result<Catalog, AllocError>
     ensures { IfOk result (λ catalog. catalog ≡ entry_of job ∷ []) }
 {
     let mut catalog = Catalog::new(alloc);

@@ -11,11 +11,11 @@ ghost use Rattle.command_inputs.specs.Giving.{Given};
 ghost use Rattle.command_inputs.specs.Input.{IsInput, IsJobAt, IsReadAround, IsReadJob, IsSpelled};
 ghost use Rattle.command_inputs.specs.inside.Steps.{IsHeadBefore, IsProgramBefore};
 
-use crate::bind_faults::report_bind_fault;
-use crate::programs::accept;
-use crate::sections::{SEPARATOR, find_separator, split_sections};
-use crate::settings::choose;
-use crate::table_lines::read_tables;
+use crate::bind_faults::convert_bind_fault_for_command;
+use crate::programs::check_input_program;
+use crate::sections::{SEPARATOR, find_input_separator_line, split_input_in_three_sections};
+use crate::settings::make_supplied_params;
+use crate::table_lines::read_input_table_lines;
 use binding::bind;
 use command_faults::StreamFault;
 use domains::TileSides;
@@ -28,7 +28,7 @@ use tables::Table;
 
 /// The job of the program, its tables and the picture that the input spells. The job of a raw picture keeps the input's bytes. If
 /// the picture is spelled in digits, they are freed once it is read.
-pub fn read_job(
+pub fn read_input_job(
     alloc: Global,
     sides: TileSides,
     given: &[(String, i32)],
@@ -39,13 +39,13 @@ pub fn read_job(
     ensures small { IfOk result (λ job. IsSmall (pipeline_in job)) }
     ensures fault { IfErr result (IsFaultOf input.items given.now sides) }
 {
-    let (tree, tables, picture) = read_all(alloc, input)?;
-    make_job(alloc, sides, given, tree, tables, picture)
+    let (tree, tables, picture) = read_input_program_and_picture(alloc, input)?;
+    bind_input_job(alloc, sides, given, tree, tables, picture)
 }
 
 /// The job of the program, its tables and the picture that an input of three sections spells; and the section between them, which
 /// is not judged.
-pub fn read_job_and_middle<'a>(
+pub fn read_input_job_and_middle<'a>(
     alloc: Global,
     sides: TileSides,
     given: &[(String, i32)],
@@ -57,45 +57,51 @@ pub fn read_job_and_middle<'a>(
     ensures small { IfOk result (λ read. IsSmall (pipeline_in read.0)) }
     ensures fault { IfErr result (IsFaultAround input.now given.now sides) }
 {
-    let Some((text, middle, last)) = split_sections(input) else {
+    let Some((text, middle, last)) = split_input_in_three_sections(input) else {
         return Err(StreamFault::NoSeparator);
     };
-    let (tree, tables, picture) = read_spelled(alloc, text, last)?;
-    let job = make_job(alloc, sides, given, tree, tables, picture)?;
+    let (tree, tables, picture) = read_input_program_and_last_section(alloc, text, last)?;
+    let job = bind_input_job(alloc, sides, given, tree, tables, picture)?;
     Ok((job, middle))
 }
 
 /// The program, its tables and the picture that the input spells. A raw picture keeps the input's bytes, so that no sample is
 /// copied.
-fn read_all(alloc: Global, input: Vec<u8>) -> Result<(Tree, Vec<Table>, Picture), StreamFault>
+fn read_input_program_and_picture(
+    alloc: Global,
+    input: Vec<u8>,
+) -> Result<(Tree, Vec<Table>, Picture), StreamFault>
     ensures ok { IfOk result (λ read. IsInput input.items (content read.0) read.1.items read.2) }
     ensures fault { (given : List Given) (sides : Sides)
         → IfErr result (IsFaultOf input.items given sides) }
 {
-    let (tree, tables, start) = read_head(alloc, input.as_slice())?;
-    let picture = netpbm::read_owned(alloc, input, start)?;
+    let (tree, tables, start) = read_input_program_and_tables(alloc, input.as_slice())?;
+    let picture = netpbm::read_picture_in_place(alloc, input, start)?;
     Ok((tree, tables, picture))
 }
 
 /// The program of the first section, its tables, and where the spelling of the picture starts.
-fn read_head(alloc: Global, input: &[u8]) -> Result<(Tree, Vec<Table>, usize), StreamFault>
+fn read_input_program_and_tables(
+    alloc: Global,
+    input: &[u8],
+) -> Result<(Tree, Vec<Table>, usize), StreamFault>
     ensures ok { IfOk result
         (λ read. IsHeadBefore input.now (content read.0) read.1.items read.2) }
     ensures fault { (given : List Given) (sides : Sides)
         → IfErr result (IsFaultOf input.now given sides) }
 {
-    let (tree, start) = read_program(alloc, input)?;
-    let (tables, length) = read_tables(alloc, tree.items(), &input[start..])?;
+    let (tree, start) = read_input_program(alloc, input)?;
+    let (tables, length) = read_input_table_lines(alloc, tree.items(), &input[start..])?;
     Ok((tree, tables, start + length))
 }
 
 /// The program of the first section, and where the last section starts.
-fn read_program(alloc: Global, input: &[u8]) -> Result<(Tree, usize), StreamFault>
+fn read_input_program(alloc: Global, input: &[u8]) -> Result<(Tree, usize), StreamFault>
     ensures ok { IfOk result (λ read. IsProgramBefore input.now (content read.0) read.1) }
     ensures fault { (given : List Given) (sides : Sides)
         → IfErr result (IsFaultOf input.now given sides) }
 {
-    let Some(at) = find_separator(input) else {
+    let Some(at) = find_input_separator_line(input) else {
         return Err(StreamFault::NoSeparator);
     };
     let tree = parse(alloc, &input[..at])?;
@@ -103,7 +109,7 @@ fn read_program(alloc: Global, input: &[u8]) -> Result<(Tree, usize), StreamFaul
 }
 
 /// The program of a text, and the tables and the picture that the last section spells.
-fn read_spelled(
+fn read_input_program_and_last_section(
     alloc: Global,
     text: &[u8],
     last: &[u8],
@@ -113,13 +119,13 @@ fn read_spelled(
     ensures fault { IfErr result (IsSpellingFault text.now last.now) }
 {
     let tree = parse(alloc, text)?;
-    let (tables, start) = read_tables(alloc, tree.items(), last)?;
+    let (tables, start) = read_input_table_lines(alloc, tree.items(), last)?;
     let picture = netpbm::read(alloc, &last[start..])?;
     Ok((tree, tables, picture))
 }
 
 /// The job of a program, its tables and a picture at the supplied values.
-fn make_job(
+fn bind_input_job(
     alloc: Global,
     sides: TileSides,
     given: &[(String, i32)],
@@ -134,10 +140,10 @@ fn make_job(
     ensures fault { IfErr result
         (IsJobFault (content tree) tables.items picture given.now sides) }
 {
-    let checked = accept(alloc, tree)?;
-    let params = choose(alloc, &checked, given)?;
+    let checked = check_input_program(alloc, tree)?;
+    let params = make_supplied_params(alloc, &checked, given)?;
     match bind(alloc, checked, &params, tables, picture, sides) {
         Ok(job) => Ok(job),
-        Err((program, _, _, fault)) => Err(report_bind_fault(&program, fault)),
+        Err((program, _, _, fault)) => Err(convert_bind_fault_for_command(&program, fault)),
     }
 }

@@ -9,6 +9,6 @@ mod sections;
 mod settings;
 mod table_lines;
 
-pub use job_catalog::make_catalog;
-pub use jobs::{read_job, read_job_and_middle};
-pub use sections::{split_section, split_sections};
+pub use job_catalog::make_catalog_of_input_job;
+pub use jobs::{read_input_job, read_input_job_and_middle};
+pub use sections::{split_input_in_three_sections, split_off_input_section};

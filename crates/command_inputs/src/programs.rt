@@ -8,40 +8,40 @@ ghost use Rattle.pipe_checks.specs.Names.{stages_of};
 ghost use Rattle.command_inputs.specs.inside.Steps.{IsRefusal};
 ghost use Rattle.command_inputs.specs.Faults.{name_at, names_of};
 
-use command_faults::{CheckLine, StageNames, StreamFault};
+use command_faults::{CheckFaultLine, StageNames, StreamFault};
 use pipe_checks::{CheckFault, Checked, Cycle, Symbol, check, declared_stages};
 use pipe_tokens::Name;
 use pipe_tree::{Item, Tree};
 use std::alloc::{AllocError, Global};
 
 /// The program of the tree, if it is well-formed; else its first fault.
-pub fn accept(alloc: Global, tree: Tree) -> Result<Checked, StreamFault>
+pub fn check_input_program(alloc: Global, tree: Tree) -> Result<Checked, StreamFault>
     ensures ok { IfOk result (IsCheckedOf tree) }
     ensures fault { IfErr result (IsRefusal (content tree)) }
 {
     match check(alloc, tree) {
         Ok(checked) => Ok(checked),
-        Err((tree, fault)) => Err(report_check_fault(alloc, tree.items(), fault)),
+        Err((tree, fault)) => Err(convert_check_fault_for_command(alloc, tree.items(), fault)),
     }
 }
 
 /// How the fault of a program is reported.
-fn report_check_fault(alloc: Global, items: &[Item], fault: CheckFault) -> StreamFault
+fn convert_check_fault_for_command(alloc: Global, items: &[Item], fault: CheckFault) -> StreamFault
     requires { IsFault (declarations items.now) fault }
     ensures { IsRefusal (declarations items.now) result }
 {
     match fault {
         CheckFault::Memory => StreamFault::Memory,
-        CheckFault::Cycle(cycle) => match collect_cycle_names(alloc, items, &cycle) {
-            Ok(names) => StreamFault::Check(CheckLine::Cycle(names)),
+        CheckFault::Cycle(cycle) => match collect_fault_line_cycle_names(alloc, items, &cycle) {
+            Ok(names) => StreamFault::Check(CheckFaultLine::Cycle(names)),
             Err(_) => StreamFault::Memory,
         },
-        fault => StreamFault::Check(CheckLine::Fault(fault)),
+        fault => StreamFault::Check(CheckFaultLine::Fault(fault)),
     }
 }
 
 /// The names of the stages along a cycle.
-fn collect_cycle_names(
+fn collect_fault_line_cycle_names(
     alloc: Global,
     items: &[Item],
     cycle: &Cycle,
@@ -50,10 +50,10 @@ fn collect_cycle_names(
         (λ names. names ≡ names_of (stages_of (declarations items.now)) cycle.now) }
 {
     let stages = declared_stages(alloc, items)?;
-    collect_names(alloc, &stages, cycle.stages())
+    collect_fault_line_stage_names(alloc, &stages, cycle.stages())
 }
 
-fn collect_names(
+fn collect_fault_line_stage_names(
     alloc: Global,
     stages: &[Symbol],
     numbers: &[usize],
@@ -62,7 +62,7 @@ fn collect_names(
 {
     let mut names = Vec::new(alloc);
     for number in numbers {
-        if let Some(name) = find_name(stages, *number) {
+        if let Some(name) = find_name_for_fault_line(stages, *number) {
             names.push(name)?;
         }
     }
@@ -70,7 +70,7 @@ fn collect_names(
 }
 
 /// The name of the stage, the parameter or the table of this number.
-pub fn find_name(declared: &[Symbol], number: usize) -> Option<Name>
+pub fn find_name_for_fault_line(declared: &[Symbol], number: usize) -> Option<Name>
     ensures { result ≡ name_at declared.now number }
 {
     Some(declared.get(number)?.name)

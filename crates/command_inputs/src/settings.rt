@@ -6,13 +6,13 @@ ghost use Rattle.pipe_bounds.specs.Unset.{unset};
 ghost use Rattle.command_inputs.specs.Giving.{AreGiven};
 ghost use Rattle.command_inputs.specs.inside.Steps.{IsParamRefusal, TellsParam};
 
-use command_faults::{ParamLine, StreamFault};
+use command_faults::{ParamFaultLine, StreamFault};
 use pipe_bounds::{ParamFault, Params};
 use pipe_checks::Checked;
 use std::alloc::Global;
 
 /// The parameters with the supplied values.
-pub fn choose(
+pub fn make_supplied_params(
     alloc: Global,
     checked: &Checked,
     given: &[(String, i32)],
@@ -21,28 +21,32 @@ pub fn choose(
     ensures fault { IfErr result (IsParamRefusal (map unset (params_in checked.now)) given.now) }
 {
     let mut params = Params::of(alloc, checked)?;
-    give(alloc, &mut params, given)?;
+    set_supplied_parameters(alloc, &mut params, given)?;
     Ok(params)
 }
 
 /// Sets the parameters to their values in order, up to the first that is rejected.
-fn give(alloc: Global, params: &mut Params, given: &[(String, i32)]) -> Result<(), StreamFault>
+fn set_supplied_parameters(
+    alloc: Global,
+    params: &mut Params,
+    given: &[(String, i32)],
+) -> Result<(), StreamFault>
     ensures ok { OnOk result (AreGiven params.old given.now params.new) }
     ensures fault { IfErr result (IsParamRefusal params.old given.now) }
 {
     for (name, value) in given {
         if let Err(fault) = params.set(name.as_str(), *value) {
-            return Err(report_param_fault(alloc, name, fault));
+            return Err(convert_param_fault_for_command(alloc, name, fault));
         }
     }
     Ok(())
 }
 
-fn report_param_fault(alloc: Global, name: &String, fault: ParamFault) -> StreamFault
+fn convert_param_fault_for_command(alloc: Global, name: &String, fault: ParamFault) -> StreamFault
     ensures { TellsParam fault (string_bytes name.now) result }
 {
     match String::from_str(alloc, name.as_str()) {
-        Ok(name) => StreamFault::Param(ParamLine { fault, name }),
+        Ok(name) => StreamFault::Param(ParamFaultLine { fault, name }),
         Err(_) => StreamFault::Memory,
     }
 }

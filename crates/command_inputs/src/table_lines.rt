@@ -12,7 +12,7 @@ use std::alloc::{AllocError, Global};
 use tables::{Table, TableFault};
 
 /// The tables at the head of a section, a line for each that the items declare, and where what follows them starts.
-pub fn read_tables(
+pub fn read_input_table_lines(
     alloc: Global,
     items: &[Item],
     section: &[u8],
@@ -23,10 +23,10 @@ pub fn read_tables(
         (IsTablesRefusal section.now (length (tables_of (declarations items.now)))) }
 {
     let wanted = declared_tables(alloc, items)?;
-    read_lines(alloc, wanted.len(), section)
+    read_input_table_lines_by_count(alloc, wanted.len(), section)
 }
 
-fn read_lines(
+fn read_input_table_lines_by_count(
     alloc: Global,
     count: usize,
     section: &[u8],
@@ -37,7 +37,7 @@ fn read_lines(
     let mut tables = Vec::new(alloc);
     let mut start = 0;
     for number in 0..count {
-        let (table, length) = read_table(alloc, &section[start..], number + 1)?;
+        let (table, length) = read_input_table_line(alloc, &section[start..], number + 1)?;
         tables.push(table).map_err(AllocError::from)?;
         start += length;
     }
@@ -46,11 +46,15 @@ fn read_lines(
 
 /// The table of the line that a section begins with, and where what follows the line starts. A fault reports the line by this
 /// number.
-fn read_table(alloc: Global, section: &[u8], line: usize) -> Result<(Table, usize), StreamFault>
+fn read_input_table_line(
+    alloc: Global,
+    section: &[u8],
+    line: usize,
+) -> Result<(Table, usize), StreamFault>
     ensures ok { IfOk result (λ read. BeginsWithTable section.now read.0 read.1) }
     ensures fault { IfErr result (IsLineRefusal section.now line) }
 {
-    let Some(end) = find_line_end(section) else {
+    let Some(end) = find_input_table_line_end(section) else {
         return Err(StreamFault::Tables(line));
     };
     match Table::read(alloc, &section[..end]) {
@@ -61,7 +65,7 @@ fn read_table(alloc: Global, section: &[u8], line: usize) -> Result<(Table, usiz
 }
 
 /// The offset of the line feed that ends the first line.
-fn find_line_end(section: &[u8]) -> Option<usize>
+fn find_input_table_line_end(section: &[u8]) -> Option<usize>
     ensures { result ≡ position (λ byte. byte == 10) section.now }
 {
     section.iter().position(|byte| *byte == b'\n')

@@ -4,7 +4,7 @@ ghost use Rattle.std.specs.Prelude.{IfOk};
 ghost use Rattle.job.specs.Kept.{pipeline_in};
 ghost use Rattle.command_jobs.specs.Evaluation.{IsRetiled, IsEvaluationSchedule};
 
-use crate::schedule::make_evaluation_schedule;
+use crate::schedule::make_command_evaluation_schedule;
 use command_line::Options;
 use domains::TileSides;
 use grouping::Schedule;
@@ -22,13 +22,13 @@ const LOW_SIDE: u32 = 16;
 
 /// A job in the tiles in which it is evaluated, and the schedule of its evaluation.
 #[derive(Debug, Drop)]
-pub struct Evaluation {
+pub struct CommandEvaluation {
     pub job: Job,
     pub schedule: Schedule,
 }
 
 // The points that a schedule computes for functions and accumulators, as far as they can be counted.
-fn count_points(job: &Job, schedule: &Schedule) -> u64 {
+fn count_command_job_points(job: &Job, schedule: &Schedule) -> u64 {
     let mut points = 0u64;
     for stage in 0..job.stages().len() {
         points = points.saturating_add(schedule.cost(stage).unwrap_or(0));
@@ -37,32 +37,32 @@ fn count_points(job: &Job, schedule: &Schedule) -> u64 {
 }
 
 // The job in tiles of `height` rows and 1,024 columns, or as it is if these are too many.
-fn lengthen_rows(job: Job, height: u32) -> Job
+fn retile_command_job(job: Job, height: u32) -> Job
     ensures { IsRetiled (pipeline_in job) (pipeline_in result) }
 {
     let Some(sides) = TileSides::new(height, LONG_ROW) else {
         return job;
     };
-    match job.with_tiles(sides) {
+    match job.with_tile_sides(sides) {
         Ok(tiled) => tiled,
         Err(job) => job,
     }
 }
 
 // Whether the first number of points is at most a sixteenth more than the second.
-fn is_cheap_enough(low: u64, high: u64) -> bool {
+fn can_command_job_have_low_tiles(low: u64, high: u64) -> bool {
     low <= high.saturating_add(high / 16)
 }
 
-impl Evaluation {
+impl CommandEvaluation {
     // The evaluation in the job's own tiles.
-    fn new(alloc: Global, job: Job, options: &Options) -> Result<Evaluation, AllocError>
+    fn new(alloc: Global, job: Job, options: &Options) -> Result<CommandEvaluation, AllocError>
         ensures job { IfOk result (λ e. IsRetiled (pipeline_in job) (pipeline_in e.job)) }
         ensures schedule { IfOk result (λ e. IsEvaluationSchedule options.now.stored options.now.percent
             (pipeline_in e.job) e.schedule) }
     {
-        let schedule = make_evaluation_schedule(alloc, &job, options)?;
-        Ok(Evaluation { job, schedule })
+        let schedule = make_command_evaluation_schedule(alloc, &job, options)?;
+        Ok(CommandEvaluation { job, schedule })
     }
 }
 
@@ -73,20 +73,24 @@ impl Evaluation {
 /// # Errors
 ///
 /// Fails only where memory is refused.
-pub fn plan_evaluation(alloc: Global, job: Job, options: &Options) -> Result<Evaluation, AllocError>
+pub fn plan_command_job_evaluation(
+    alloc: Global,
+    job: Job,
+    options: &Options,
+) -> Result<CommandEvaluation, AllocError>
     ensures job { IfOk result (λ e. IsRetiled (pipeline_in job) (pipeline_in e.job)) }
     ensures schedule { IfOk result (λ e. IsEvaluationSchedule options.now.stored options.now.percent
         (pipeline_in e.job) e.schedule) }
 {
     let sides = job.sides();
     if sides.height() != USUAL_SIDE || sides.width() != USUAL_SIDE {
-        return Evaluation::new(alloc, job, options);
+        return CommandEvaluation::new(alloc, job, options);
     }
-    let high = Evaluation::new(alloc, lengthen_rows(job, USUAL_SIDE), options)?;
-    let most = count_points(&high.job, &high.schedule);
-    let low = Evaluation::new(alloc, lengthen_rows(high.job, LOW_SIDE), options)?;
-    if is_cheap_enough(count_points(&low.job, &low.schedule), most) {
+    let high = CommandEvaluation::new(alloc, retile_command_job(job, USUAL_SIDE), options)?;
+    let most = count_command_job_points(&high.job, &high.schedule);
+    let low = CommandEvaluation::new(alloc, retile_command_job(high.job, LOW_SIDE), options)?;
+    if can_command_job_have_low_tiles(count_command_job_points(&low.job, &low.schedule), most) {
         return Ok(low);
     }
-    Evaluation::new(alloc, lengthen_rows(low.job, USUAL_SIDE), options)
+    CommandEvaluation::new(alloc, retile_command_job(low.job, USUAL_SIDE), options)
 }

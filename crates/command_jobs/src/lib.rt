@@ -7,6 +7,6 @@ mod result_reply;
 mod schedule;
 mod totals;
 
-pub use evaluation::{Evaluation, plan_evaluation};
-pub use result_reply::make_reply;
-pub use schedule::make_schedule;
+pub use evaluation::{CommandEvaluation, plan_command_job_evaluation};
+pub use result_reply::make_result_reply;
+pub use schedule::make_schedule_of_options;

@@ -8,7 +8,7 @@ ghost use Rattle.command_jobs.specs.RequestedSchedule.{requested_inlining, is_un
 ghost use Rattle.command_jobs.specs.Evaluation.{IsEvaluationSchedule};
 
 use command_line::Options;
-use grouping::{Schedule, with_cheap_inlined};
+use grouping::{Schedule, inline_pointwise_functions};
 use job::Job;
 use std::alloc::{AllocError, Global};
 
@@ -17,7 +17,11 @@ use std::alloc::{AllocError, Global};
 /// # Errors
 ///
 /// Fails only where memory is refused.
-pub fn make_schedule(alloc: Global, job: &Job, options: &Options) -> Result<Schedule, AllocError>
+pub fn make_schedule_of_options(
+    alloc: Global,
+    job: &Job,
+    options: &Options,
+) -> Result<Schedule, AllocError>
     ensures schedule { IfOk result (IsScheduleOf (pipeline_in job.now)) }
     ensures fits { IfOk result (λ s. AllFitScratch (pipeline_in job.now) s.inlining) }
     ensures inlining { IfOk result (λ s. s.inlining
@@ -36,7 +40,7 @@ pub fn make_schedule(alloc: Global, job: &Job, options: &Options) -> Result<Sche
 /// # Errors
 ///
 /// Fails only where memory is refused.
-pub(crate) fn make_evaluation_schedule(
+pub(crate) fn make_command_evaluation_schedule(
     alloc: Global,
     job: &Job,
     options: &Options,
@@ -44,17 +48,17 @@ pub(crate) fn make_evaluation_schedule(
     ensures { IfOk result (IsEvaluationSchedule options.now.stored options.now.percent
         (pipeline_in job.now)) }
 {
-    let schedule = make_schedule(alloc, job, options)?;
-    if is_unusual(options) {
+    let schedule = make_schedule_of_options(alloc, job, options)?;
+    if has_unusual_schedule_options(options) {
         Ok(schedule)
     } else {
-        with_cheap_inlined(alloc, job, schedule)
+        inline_pointwise_functions(alloc, job, schedule)
     }
 }
 
 // Whether another schedule than the usual one is requested.
-fn is_unusual(options: &Options) -> bool
+fn has_unusual_schedule_options(options: &Options) -> bool
     ensures { result ≡ is_unusual options.now.stored options.now.percent }
 {
-    options.stored || options.percent.get() != Options::usual().percent.get()
+    options.stored || options.percent.get() != Options::with_defaults().percent.get()
 }

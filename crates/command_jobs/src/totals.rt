@@ -20,24 +20,35 @@ pub fn make_total_lines(alloc: Global, job: &Job, totals: &[Total]) -> Result<Ve
 {
     let mut lines = Vec::new(alloc);
     for total in totals {
-        put_total(alloc, &mut lines, job, total)?;
+        put_total_line(alloc, &mut lines, job, total)?;
     }
     Ok(lines)
 }
 
 /// The line of a total, if its stage is an accumulator.
-fn put_total(alloc: Global, lines: &mut Vec<u8>, job: &Job, total: &Total) -> Result<(), AllocError>
+fn put_total_line(
+    alloc: Global,
+    lines: &mut Vec<u8>,
+    job: &Job,
+    total: &Total,
+) -> Result<(), AllocError>
     ensures { OnOk result (lines.new.items
         ≡ lines.old.items ++ gathered_line (pipeline_in job.now) (gathered total.now)) }
 {
     match (job.name(total.stage), job.bins(total.stage)) {
-        (Some(name), Some(span)) => put_line(alloc, lines, &name, &span, total.bins.as_slice()),
+        (Some(name), Some(span)) => put_accumulator_line(
+            alloc,
+            lines,
+            &name,
+            &span,
+            total.bins.as_slice(),
+        ),
         _ => Ok(()),
     }
 }
 
 /// The name, the first and the last bin, and the value of each bin.
-fn put_line(
+fn put_accumulator_line(
     alloc: Global,
     lines: &mut Vec<u8>,
     name: &Name,
@@ -48,14 +59,18 @@ fn put_line(
         (lines.new.items ≡ lines.old.items ++ total_line name.now span.now bins.now) }
 {
     lines.extend_from_slice(name.as_bytes())?;
-    put_ends(alloc, lines, span)?;
-    put_bins(alloc, lines, bins)?;
+    put_total_line_bin_ends(alloc, lines, span)?;
+    put_total_line_bins(alloc, lines, bins)?;
     lines.push(b'\n')?;
     Ok(())
 }
 
 /// The first and the last bin.
-fn put_ends(alloc: Global, lines: &mut Vec<u8>, span: &Span) -> Result<(), AllocError>
+fn put_total_line_bin_ends(
+    alloc: Global,
+    lines: &mut Vec<u8>,
+    span: &Span,
+) -> Result<(), AllocError>
     ensures { OnOk result (lines.new.items ≡ lines.old.items ++ ends_text span.now) }
 {
     let lo = span.lo();
@@ -65,17 +80,17 @@ fn put_ends(alloc: Global, lines: &mut Vec<u8>, span: &Span) -> Result<(), Alloc
 }
 
 /// Each number after a blank.
-fn put_bins(alloc: Global, lines: &mut Vec<u8>, bins: &[i64]) -> Result<(), AllocError>
+fn put_total_line_bins(alloc: Global, lines: &mut Vec<u8>, bins: &[i64]) -> Result<(), AllocError>
     ensures { OnOk result (lines.new.items ≡ lines.old.items ++ flat_map bin_text bins.now) }
 {
     for bin in bins {
-        put_bin(alloc, lines, *bin)?;
+        put_total_line_bin(alloc, lines, *bin)?;
     }
     Ok(())
 }
 
 /// A blank and a number.
-fn put_bin(alloc: Global, lines: &mut Vec<u8>, bin: i64) -> Result<(), AllocError>
+fn put_total_line_bin(alloc: Global, lines: &mut Vec<u8>, bin: i64) -> Result<(), AllocError>
     ensures { OnOk result (lines.new.items ≡ lines.old.items ++ bin_text bin) }
 {
     let text = format!(in alloc; " {bin}")?;

@@ -17,7 +17,7 @@ use Rattle.clap.proofs.OnLiterals.{clap_on_literals}
 use Rattle.command_line.specs.Asking.{AskForMerge, IsJobRequestOf}
 use Rattle.command_line.specs.Tasks.{AsksFor, word_of}
 use Rattle.command_line.specs.Usage.{usage}
-use Rattle.command_line.specs.declared.tasks.Task.{Task}
+use Rattle.command_line.specs.declared.tasks.CommandTask.{CommandTask}
 use Rattle.command_line.specs.declared.words.JobRequest.{JobRequest}
 
 usage_is_simple : is_simple usage ≡ true
@@ -71,12 +71,12 @@ same_rows words request asked rows is = same_Some asked.rows rows (sym asked.giv
 -- ---- tasks
 
 -- tasks that the words ask for have the same word
-pub same_word : (words : List (String Global)) (a b : Task) → AsksFor words a → AsksFor words b → word_of a ≡ word_of b
+pub same_word : (words : List (String Global)) (a b : CommandTask) → AsksFor words a → AsksFor words b → word_of a ≡ word_of b
 same_word words a b (first, here, is) (other, there, says) =
     sym is ∙ ap string_bytes (same_Some first other (sym here ∙ there)) ∙ says
 
 -- and a task of that word is asked for
-pub asks_too : (words : List (String Global)) (a b : Task) → AsksFor words a → word_of b ≡ word_of a → AsksFor words b
+pub asks_too : (words : List (String Global)) (a b : CommandTask) → AsksFor words a → word_of b ≡ word_of a → AsksFor words b
 asks_too words a b (first, here, is) same = (first, here, is ∙ sym same)
 
 -- ---- merge

@@ -11,11 +11,11 @@ use Rattle.command_line.specs.Tasks.{AsksFor}
 use Rattle.command_line.specs.Usage.{usage}
 use Rattle.command_line.specs.Values.{IsChosen, SpellsParameter, is_true}
 use Rattle.command_line.specs.declared.options.Options.{Options}
-use Rattle.command_line.specs.declared.tasks.Task.{Task}
-use Rattle.command_line.specs.declared.tasks.Task.TheVariants.{Run, World}
+use Rattle.command_line.specs.declared.tasks.CommandTask.{CommandTask}
+use Rattle.command_line.specs.declared.tasks.CommandTask.TheVariants.{Run, World}
 use Rattle.command_line.specs.declared.words.JobRequest.{JobRequest}
-use Rattle.command_line.specs.declared.words.Request.{Request}
-use Rattle.command_line.specs.declared.words.Request.TheVariants.{Merge, Job}
+use Rattle.command_line.specs.declared.words.CommandRequest.{CommandRequest}
+use Rattle.command_line.specs.declared.words.CommandRequest.TheVariants.{Merge, Job}
 use Rattle.farm_setup.specs.Setups.{IsWithin}
 use Rattle.farm_setup.specs.declared.setup.FarmSetup.{FarmSetup}
 use Rattle.farm_setup.specs.declared.setup.Faults.{Faults}
@@ -50,7 +50,7 @@ pub record AreFarmOptions (rows : List Row) (farm : FarmSetup) : Type 0 where
   pub faults : AreFaults rows farm.faults
 
 -- the settings of a task by its options: how a farm runs, and the number of nodes of a world, usually two; other tasks have none
-abbrev pub HasOwn : List Row → Task → Type 0
+abbrev pub HasOwn : List Row → CommandTask → Type 0
 HasOwn rows (Run farm) = AreFarmOptions rows farm
 HasOwn rows (World nodes) = IsChosen (first_of (codes "nodes") rows) 2 nodes × IsNodeCount nodes
 HasOwn rows task = Unit {0}
@@ -73,7 +73,7 @@ is_separator word = bytes_eq (string_bytes word) (codes "--")
 
 -- The first word is a task's, and none is `--`. Only then are the others looked at.
 pub record NamesTask (words : List (String Global)) : Type 0 where
-  pub task : Task
+  pub task : CommandTask
   pub named : AsksFor words task
   pub no_separator : list_any is_separator words ≡ false
 
@@ -93,6 +93,6 @@ pub record IsJobRequestOf (words : List (String Global)) (request : JobRequest) 
 abbrev pub AskForMerge : List (String Global) → Type 0
 AskForMerge words = map string_bytes words ≡ codes "merge" ∷ []
 
-abbrev pub IsRequestOf : List (String Global) → Request → Type 0
+abbrev pub IsRequestOf : List (String Global) → CommandRequest → Type 0
 IsRequestOf words Merge = AskForMerge words
 IsRequestOf words (Job request) = IsJobRequestOf words request

@@ -2,10 +2,10 @@
 use Rattle.std.specs.Prelude.{◌≡◌, ℕ, Some, List, codes, slice_get, string_bytes}
 use Rattle.std.specs.declared.alloc.Global.{Global}
 use Rattle.std.specs.declared.string.String.{String}
-use Rattle.command_line.specs.declared.tasks.Task.{Task}
-use Rattle.command_line.specs.declared.tasks.Task.TheVariants.{Eval, Check, Plan, Run, Audit, World}
+use Rattle.command_line.specs.declared.tasks.CommandTask.{CommandTask}
+use Rattle.command_line.specs.declared.tasks.CommandTask.TheVariants.{Eval, Check, Plan, Run, Audit, World}
 
-abbrev pub word_of : Task → List ℕ
+abbrev pub word_of : CommandTask → List ℕ
 word_of Eval = codes "eval"
 word_of Check = codes "check"
 word_of Plan = codes "plan"
@@ -14,5 +14,5 @@ word_of Audit = codes "audit"
 word_of (World nodes) = codes "world"
 
 -- the first of the words is the task's
-abbrev pub AsksFor : List (String Global) → Task → Type 0
+abbrev pub AsksFor : List (String Global) → CommandTask → Type 0
 AsksFor words task = (word : String Global) × (slice_get words 0 ≡ Some word) × (string_bytes word ≡ word_of task)

@@ -8,7 +8,7 @@ mod usage;
 mod values;
 mod words;
 
-pub use nodes::NodeCount;
-pub use options::{Options, Percent};
-pub use tasks::Task;
-pub use words::{JobRequest, Refusal, Request, read_request};
+pub use nodes::NodesArg;
+pub use options::{Options, PercentArg};
+pub use tasks::CommandTask;
+pub use words::{CommandLineRefusal, CommandRequest, JobRequest, read_command_request};

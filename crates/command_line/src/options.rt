@@ -10,11 +10,11 @@ pub const MOST_PERCENT: u32 = 10_000;
 
 /// A percentage from 0 to 10,000.
 #[derive(Clone, Copy, Debug, PartialEq, Eq)]
-pub struct Percent {
+pub struct PercentArg {
     percent: u32,
 }
 
-impl Model for Percent {
+impl Model for PercentArg {
     ghost use Rattle.std.specs.Prelude.{ℕ, ◌≤◌};
 
     ghost Value = { ℕ };
@@ -26,15 +26,15 @@ impl Model for Percent {
     ghost inverse = { λ n. record { percent = n } };
 }
 
-impl Percent {
+impl PercentArg {
     /// A percentage; none above 10,000.
-    pub fn new(percent: u32) -> Option<Percent>
+    pub fn new(percent: u32) -> Option<PercentArg>
         ensures some { IfSome result (λ p. p ≡ percent) }
         ensures within { IfSome result (λ p. p ≤ 10000) }
         ensures none { IfNone result (10000 < percent) }
     {
         if percent <= MOST_PERCENT {
-            Some(Percent { percent })
+            Some(PercentArg { percent })
         } else {
             None
         }
@@ -55,7 +55,7 @@ pub struct Options {
     /// The sides of the tiles into which stages are partitioned.
     pub sides: TileSides,
     /// How many percent more points may be computed where a function is inlined.
-    pub percent: Percent,
+    pub percent: PercentArg,
     /// Whether all functions are stored, and none is inlined.
     pub stored: bool,
 }
@@ -64,12 +64,12 @@ impl Options {
     ghost use Rattle.std.specs.Prelude.{◌≡◌, false};
 
     /// Tiles of 64 rows and 64 columns, and functions inlined for at most 40 percent more points.
-    pub fn usual() -> Options
+    pub fn with_defaults() -> Options
         ensures sides { result.sides ≡ record { height = 64; width = 64 } }
         ensures percent { result.percent ≡ 40 }
         ensures stored { result.stored ≡ false }
     {
-        match (TileSides::new(64, 64), Percent::new(40)) {
+        match (TileSides::new(64, 64), PercentArg::new(40)) {
             (Some(sides), Some(percent)) => Options {
                 sides,
                 percent,

@@ -2,14 +2,14 @@
 
 ghost use Rattle.std.specs.Prelude.{IfNone, IfSome};
 ghost use Rattle.command_line.specs.Tasks.{AsksFor};
-ghost use Rattle.command_line.specs.declared.tasks.Task.{Task as TaskType};
+ghost use Rattle.command_line.specs.declared.tasks.CommandTask.{CommandTask as TaskType};
 
-use crate::nodes::NodeCount;
+use crate::nodes::NodesArg;
 use farm_setup::FarmSetup;
 
 /// A task on a program and a picture.
 #[derive(Clone, Copy, Debug)]
-pub enum Task {
+pub enum CommandTask {
     /// To run a program on a picture.
     Eval,
     /// To report the identities of a program and of its input, and its stages.
@@ -21,22 +21,22 @@ pub enum Task {
     /// To judge the facts of fact files.
     Audit,
     /// To report what this many nodes hold after a script.
-    World(NodeCount),
+    World(NodesArg),
 }
 
 /// The task that the first word requests; a farm and a world have the usual settings.
-pub fn read_task(words: &[String]) -> Option<Task>
+pub fn read_command_task(words: &[String]) -> Option<CommandTask>
     ensures some { IfSome result (AsksFor words.now) }
     ensures none { IfNone result ((task : TaskType) → ¬ AsksFor words.now task) }
 {
     let word = words.first()?;
     match word.as_str() {
-        "eval" => Some(Task::Eval),
-        "check" => Some(Task::Check),
-        "plan" => Some(Task::Plan),
-        "run" => Some(Task::Run(FarmSetup::usual())),
-        "audit" => Some(Task::Audit),
-        "world" => Some(Task::World(NodeCount::usual())),
+        "eval" => Some(CommandTask::Eval),
+        "check" => Some(CommandTask::Check),
+        "plan" => Some(CommandTask::Plan),
+        "run" => Some(CommandTask::Run(FarmSetup::with_defaults())),
+        "audit" => Some(CommandTask::Audit),
+        "world" => Some(CommandTask::World(NodesArg::with_defaults())),
         _ => None,
     }
 }

@@ -4,7 +4,7 @@ ghost use Rattle.std.specs.Prelude.{◌≡◌, ℕ, ℤ, IfSome, IfNone, option_
 ghost use Rattle.command_line.specs.Values.{IsChosen, SpellsParameter, SpellsValue, is_true};
 
 /// The value of an option, in digits alone and within 32 bits, or the usual one if the option is absent.
-pub fn parse_number(given: Option<&str>, usual: u32) -> Option<u32>
+pub fn parse_option_number_or_default(given: Option<&str>, usual: u32) -> Option<u32>
     ensures some { IfSome result (IsChosen (option_map (λ t. t.now) given.entry) usual) }
     ensures none { IfNone result
         ((n : ℕ) → ¬ IsChosen (option_map (λ t. t.now) given.entry) usual n) }
@@ -17,7 +17,7 @@ pub fn parse_number(given: Option<&str>, usual: u32) -> Option<u32>
 }
 
 /// Whether a flag was given: its value is then the word `true`.
-pub fn is_true(given: Option<&str>) -> bool
+pub fn is_flag_option_given(given: Option<&str>) -> bool
     ensures { result ≡ is_true (option_map (λ t. t.now) given.entry) }
 {
     match given {
@@ -27,7 +27,7 @@ pub fn is_true(given: Option<&str>) -> bool
 }
 
 /// The number that the text spells: an optional `-` and digits, within 32 bits.
-fn parse_value(text: &str) -> Option<i32>
+fn parse_parameter_value(text: &str) -> Option<i32>
     ensures some { IfSome result (SpellsValue text.now) }
     ensures none { IfNone result ((z : ℤ) → ¬ SpellsValue text.now z) }
 {
@@ -39,10 +39,10 @@ fn parse_value(text: &str) -> Option<i32>
 }
 
 /// The name and the value of a parameter: the name is all that comes before the first `=`.
-pub fn parse_parameter(word: &str) -> Option<(&str, i32)>
+pub fn parse_parameter_word(word: &str) -> Option<(&str, i32)>
     ensures some { IfSome result (λ p. SpellsParameter word.now p.0.now p.1) }
     ensures none { IfNone result ((name : _) (z : ℤ) → ¬ SpellsParameter word.now name z) }
 {
     let (name, text) = word.split_once('=')?;
-    Some((name, parse_value(text)?))
+    Some((name, parse_parameter_value(text)?))
 }

@@ -5,13 +5,13 @@ ghost use Rattle.command_outcomes.specs.Outcomes.{CountsRead, CountsWritten, IsO
 
 use command_faults::StreamFault;
 use std::alloc::Global;
-use streams::{Source, SourceFault, read_whole};
+use streams::{Source, SourceFault, read_all_bytes};
 
 /// The most bytes of an input.
 const MAX_INPUT: usize = 536_870_912;
 
 /// All bytes of the input.
-pub fn read_input<R: Source>(alloc: Global, reader: &mut R) -> Result<Vec<u8>, StreamFault>
+pub fn read_command_input<R: Source>(alloc: Global, reader: &mut R) -> Result<Vec<u8>, StreamFault>
     ensures whole { IfOk result
         (λ input. IfSome (R.remaining reader.old) (λ all. input.items ≡ all)) }
     ensures within { IfOk result (λ input. length input.items ≤ most_input) }
@@ -19,7 +19,7 @@ pub fn read_input<R: Source>(alloc: Global, reader: &mut R) -> Result<Vec<u8>, S
     ensures fault { IfErr result (IsOfReader (R.remaining reader.old)) }
     ensures no_write { CountsWritten result 0 0 }
 {
-    match read_whole(alloc, reader, MAX_INPUT) {
+    match read_all_bytes(alloc, reader, MAX_INPUT) {
         Ok(input) => Ok(input),
         Err(SourceFault::Failed) => Err(StreamFault::Read),
         Err(SourceFault::TooLong) => Err(StreamFault::TooLong),

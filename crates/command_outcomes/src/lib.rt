@@ -4,5 +4,5 @@
 mod input;
 mod reply;
 
-pub use input::read_input;
-pub use reply::{Reply, write_reply};
+pub use input::read_command_input;
+pub use reply::{JobReply, write_job_reply};

@@ -9,13 +9,13 @@ use Rattle.job.specs.Answers.{Tile}
 use Rattle.job.specs.Pipeline.{Pipeline}
 use Rattle.overlap_tiles.specs.Needs.{key_of}
 use Rattle.tile_run.specs.declared.fault.RunFault.TheVariants.{ScratchTooBig}
-use Rattle.tile_run.specs.declared.room.StageSelection.{StageSelection}
-use Rattle.tile_run.specs.declared.room.StageSelection.TheVariants.{Accumulators, Functions}
+use Rattle.tile_run.specs.declared.room.TiledStages.{TiledStages}
+use Rattle.tile_run.specs.declared.room.TiledStages.TheVariants.{Accumulators, Functions}
 use Rattle.tile_run.specs.Work.{wanted_by, first_too_big}
 use Rattle.tile_run.proofs.FirstTooBig.{fits_none}
 use Rattle.accumulators.specs.Answers.{IsEvaluationFault}
 
-none_too_big : (job : Pipeline) (s : Inlining) (work : StageSelection) → IsScheduleOf job s → AllFitScratch job s.inlining
+none_too_big : (job : Pipeline) (s : Inlining) (work : TiledStages) → IsScheduleOf job s → AllFitScratch job s.inlining
     → first_too_big job s.inlining (wanted_by job s.inlining work) ≡ None
 none_too_big job s work is fit =
     fits_none job (record s { fits = true }) work (record { inlining = is.inlining; costs = is.costs; fits = λ e. fit }) refl

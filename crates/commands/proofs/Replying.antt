@@ -4,7 +4,7 @@ use Rattle.command_outcomes.specs.Outcomes.{CountsRead, CountsWritten, Refusing,
 use Rattle.command_faults.specs.declared.faults.StreamFault.{StreamFault}
 use Rattle.command_faults.specs.declared.faults.StreamFault.TheVariants as faults
 use Rattle.commands.specs.Sayings.{finding_none}
-use Rattle.fact_commands.specs.declared.finding.Finding.TheVariants.{NoFalse}
+use Rattle.fact_commands.specs.declared.finding.AuditFinding.TheVariants.{NoFalse}
 use Rattle.commands.specs.inside.Questions.{none_false}
 
 pub none_false_writes : (Says : Saying (Unit {0})) (Refuses : Refusing) (known : Option (List ℕ)) (r : Result (Unit {0}) StreamFault)

@@ -6,8 +6,8 @@ use Rattle.std.proofs.lemmas.List.{append-nil}
 use Rattle.std.specs.declared.alloc.Global.{Global}
 use Rattle.std.specs.declared.string.String.{String}
 use Rattle.command_line.specs.Asking.{IsRequestOf}
-use Rattle.command_line.specs.declared.words.Request.{Request}
-use Rattle.command_line.specs.declared.words.Request.TheVariants.{Merge, Job}
+use Rattle.command_line.specs.declared.words.CommandRequest.{CommandRequest}
+use Rattle.command_line.specs.declared.words.CommandRequest.TheVariants.{Merge, Job}
 use Rattle.command_faults.specs.FaultLines.{line_of}
 use Rattle.command_outcomes.specs.Outcomes.{CountsRead, CountsWritten, IsFirstFault, Refusing, Saying, Writes}
 use Rattle.command_faults.specs.Statuses.{status_of}
@@ -17,10 +17,10 @@ use Rattle.command_faults.specs.declared.faults.StreamFault.TheVariants as fault
 use Rattle.streams.specs.Streams.{AppendsPart, one_more}
 use Rattle.commands.specs.Endings.{HasFarmFailed, HasSaidPart, HasTold, NamesCommand}
 use Rattle.commands.specs.Sayings.{refusing_by, saying_by}
-use Rattle.fact_commands.specs.declared.finding.Finding.{Finding}
+use Rattle.fact_commands.specs.declared.finding.AuditFinding.{AuditFinding}
 
 -- words that ask for something name a command
-pub names_command : (words : List (String Global)) (request : Request) → IsRequestOf words request → NamesCommand words
+pub names_command : (words : List (String Global)) (request : CommandRequest) → IsRequestOf words request → NamesCommand words
 names_command words Merge asked = inl asked
 names_command words (Job request) asked =
     inr (record { task = request.task; named = asked.task; no_separator = asked.no_separator })
@@ -45,7 +45,7 @@ told_first Says Refuses known (faults.Farm x) old new other wrote = absurd (othe
 told_first Says Refuses known faults.Memory old new other wrote = wrote
 
 -- and the writer had not failed
-none_failed : (f : StreamFault) (before after : ℕ) → (status_of f ≡ 4 → ⊥) → CountsWritten {X = Finding} (Err f) before after → after ≡ before
+none_failed : (f : StreamFault) (before after : ℕ) → (status_of f ≡ 4 → ⊥) → CountsWritten {X = AuditFinding} (Err f) before after → after ≡ before
 none_failed faults.Read before after other counts = counts
 none_failed faults.Write before after other counts = absurd (other refl)
 none_failed faults.TooLong before after other counts = counts
@@ -62,10 +62,10 @@ none_failed (faults.Farm x) before after other counts = counts
 none_failed faults.Memory before after other counts = counts
 
 -- so its line alone was written
-pub told_at : (status : ℕ) (request : Request) (known : Option (List ℕ)) (f : StreamFault) (old mid new : Option (List ℕ))
+pub told_at : (status : ℕ) (request : CommandRequest) (known : Option (List ℕ)) (f : StreamFault) (old mid new : Option (List ℕ))
     (before between after : ℕ) → status_of f ≡ status → (status ≡ 4 → ⊥)
-    → Writes {Answer = Finding} (saying_by request) (refusing_by request) known (Err f) old mid
-    → CountsWritten {X = Finding} (Err f) before between
+    → Writes {Answer = AuditFinding} (saying_by request) (refusing_by request) known (Err f) old mid
+    → CountsWritten {X = AuditFinding} (Err f) before between
     → Puts (line_of f) mid new between after → HasTold status request known old new before after
 told_at status request known f old mid new before between after ends four wrote counts line =
     let other : status_of f ≡ 4 → ⊥ = λ e. four (sym ends ∙ e) in
@@ -87,7 +87,7 @@ nothing_behind a b c bytes (n, less, part) none =
     (n, less, subst (λ (bs : List ℕ). Appends a c bs) (append-nil (take n bytes)) (Appends-trans a b c (take n bytes) [] part none))
 
 -- what is told where the reader, the writer or the farm failed
-abbrev FailedAt : Request → Option (List ℕ) → Option (List ℕ) → Option (List ℕ) → ℕ → ℕ → ℕ → ℕ → Type 0
+abbrev FailedAt : CommandRequest → Option (List ℕ) → Option (List ℕ) → Option (List ℕ) → ℕ → ℕ → ℕ → ℕ → Type 0
 FailedAt request known old new r ra w wa =
     ((ra ≡ one_more r) × Puts (line_of faults.Read) old new w wa)
     ⊎ ((wa ≡ one_more w) × HasSaidPart request known old new)
@@ -98,9 +98,9 @@ line_alone : (line : List ℕ) (old mid new : Option (List ℕ)) (w wm wa : ℕ)
 line_alone line old mid new w wm wa kept counted told =
     subst (λ (m : Option (List ℕ)). Puts line m new w wa) kept (subst (λ (n : ℕ). Puts line mid new n wa) counted told)
 
-pub failed_at : (request : Request) (known : Option (List ℕ)) (f : StreamFault) (old mid new : Option (List ℕ)) (r ra w wm wa : ℕ)
-    → status_of f ≡ 4 → Writes {Answer = Finding} (saying_by request) (refusing_by request) known (Err f) old mid
-    → CountsRead {X = Finding} (Err f) r ra → CountsWritten {X = Finding} (Err f) w wm → Puts (line_of f) mid new wm wa
+pub failed_at : (request : CommandRequest) (known : Option (List ℕ)) (f : StreamFault) (old mid new : Option (List ℕ)) (r ra w wm wa : ℕ)
+    → status_of f ≡ 4 → Writes {Answer = AuditFinding} (saying_by request) (refusing_by request) known (Err f) old mid
+    → CountsRead {X = AuditFinding} (Err f) r ra → CountsWritten {X = AuditFinding} (Err f) w wm → Puts (line_of f) mid new wm wa
     → FailedAt request known old new r ra w wa
 failed_at request known faults.Read old mid new r ra w wm wa four wrote read counts line =
     inl (read, line_alone (line_of faults.Read) old mid new w wm wa wrote.0 counts line)

@@ -5,9 +5,9 @@ ghost use Rattle.command_jobs.specs.Results.{result_bytes};
 ghost use Rattle.command_outcomes.specs.Replies.{reply_bytes};
 ghost use Rattle.job.specs.Kept.{pipeline_in};
 
-use command_jobs::{make_reply, plan_evaluation};
+use command_jobs::{make_result_reply, plan_command_job_evaluation};
 use command_line::Options;
-use command_outcomes::Reply;
+use command_outcomes::JobReply;
 use job::Job;
 use std::alloc::AllocError;
 use std::thread::Threads;
@@ -15,16 +15,16 @@ use tile_run::RunFault;
 
 /// The result of a job: the picture of its output, if it has one, and a line for each of its accumulators. With the tiles of its
 /// evaluation it is the same as with its own, and each of them fits into scratch memory.
-pub fn evaluate(
+pub fn compute_eval_reply(
     rt: &(impl AllocGlobal + Threads + Sync),
     job: Job,
     options: &Options,
-) -> Result<Reply, AllocError>
+) -> Result<JobReply, AllocError>
     ensures { IfOk result (λ reply. reply_bytes reply ≡ result_bytes (pipeline_in job)) }
 {
-    let planned = plan_evaluation(rt.alloc(), job, options)?;
+    let planned = plan_command_job_evaluation(rt.alloc(), job, options)?;
     match bands::evaluate_in_bands_or_whole(rt, rt.alloc(), &planned.job, &planned.schedule) {
-        Ok(answer) => make_reply(rt.alloc(), &planned.job, answer),
+        Ok(answer) => make_result_reply(rt.alloc(), &planned.job, answer),
         Err(RunFault::Memory) => Err(AllocError),
         Err(RunFault::ScratchTooBig(_)) => unreachable!(),
     }

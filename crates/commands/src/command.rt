@@ -9,18 +9,18 @@ ghost use Rattle.streams.specs.Streams.{one_more};
 ghost use Rattle.commands.specs.Endings.{AskFor, AskForNothing, HasFarmFailed, HasSaid, HasSaidPart, HasTold};
 ghost use Rattle.commands.specs.Endings.{NamesCommand, usage_line};
 ghost use Rattle.commands.specs.Sayings.{refusing_by, saying_by};
-ghost use Rattle.fact_commands.specs.declared.finding.Finding.TheVariants.{AFalse, NoFalse};
+ghost use Rattle.fact_commands.specs.declared.finding.AuditFinding.TheVariants.{AFalse, NoFalse};
 ghost use Rattle.command_faults.specs.declared.faults.StreamFault.TheVariants.{Memory, Read};
 
-use crate::finding::judge_nothing;
+use crate::finding::make_finding_without_audit;
 use crate::task_stream::{check_stream, eval_stream, plan_stream};
-use command_faults::{StreamFault, write_line};
-use command_line::{Refusal, Request, Task, read_request};
-use fact_commands::{Finding, audit_stream, merge_stream};
+use command_faults::{StreamFault, write_command_fault_line};
+use command_line::{CommandLineRefusal, CommandRequest, CommandTask, read_command_request};
+use fact_commands::{AuditFinding, audit_stream, merge_stream};
 use farm_commands::run_stream;
 use std::sync::Wait;
 use std::thread::Threads;
-use streams::{Sink, Source, write_whole};
+use streams::{Sink, Source, write_all_bytes};
 use world_commands::world_stream;
 
 /// The line of every command line that is refused.
@@ -79,23 +79,23 @@ pub fn run_command<H: AllocGlobal + Threads + Wait + Sync, R: Source, W: Sink>(
     ensures known { result ≤ 6 }
     ensures read { result ≢ 4 → R.failures reader.new ≡ R.failures reader.old }
 {
-    match read_request(rt.alloc(), words) {
-        Ok(request) => run_request(rt, &request, reader, writer),
-        Err(Refusal::Usage) => {
-            show_usage(writer);
+    match read_command_request(rt.alloc(), words) {
+        Ok(request) => run_command_request(rt, &request, reader, writer),
+        Err(CommandLineRefusal::Usage) => {
+            show_usage_line(writer);
             1
         }
-        Err(Refusal::Memory) => {
-            report_fault(&StreamFault::Memory, writer);
+        Err(CommandLineRefusal::Memory) => {
+            report_command_fault(&StreamFault::Memory, writer);
             5
         }
     }
 }
 
 /// Runs the requested command, and returns its status.
-fn run_request<H: AllocGlobal + Threads + Wait + Sync, R: Source, W: Sink>(
+fn run_command_request<H: AllocGlobal + Threads + Wait + Sync, R: Source, W: Sink>(
     rt: &H,
-    request: &Request,
+    request: &CommandRequest,
     reader: &mut R,
     writer: &mut W,
 ) -> u8
@@ -130,43 +130,53 @@ fn run_request<H: AllocGlobal + Threads + Wait + Sync, R: Source, W: Sink>(
     ensures known { result ≤ 6 }
     ensures read { result ≢ 4 → R.failures reader.new ≡ R.failures reader.old }
 {
-    match perform(rt, request, reader, writer) {
-        Ok(Finding::NoFalse) => 0,
-        Ok(Finding::AFalse) => 6,
+    match dispatch_command_request(rt, request, reader, writer) {
+        Ok(AuditFinding::NoFalse) => 0,
+        Ok(AuditFinding::AFalse) => 6,
         Err(fault) => {
-            report_fault(&fault, writer);
-            fault.status()
+            report_command_fault(&fault, writer);
+            fault.exit_status()
         }
     }
 }
 
 /// Runs the requested command.
-fn perform<H: AllocGlobal + Threads + Wait + Sync, R: Source, W: Sink>(
+fn dispatch_command_request<H: AllocGlobal + Threads + Wait + Sync, R: Source, W: Sink>(
     rt: &H,
-    request: &Request,
+    request: &CommandRequest,
     reader: &mut R,
     writer: &mut W,
-) -> Result<Finding, StreamFault>
+) -> Result<AuditFinding, StreamFault>
     ensures written { Writes (saying_by request.now) (refusing_by request.now)
         (R.remaining reader.old) result (W.contents writer.old) (W.contents writer.new) }
     ensures read { CountsRead result (R.failures reader.old) (R.failures reader.new) }
     ensures write { CountsWritten result (W.failures writer.old) (W.failures writer.new) }
 {
     match request {
-        Request::Merge => judge_nothing(merge_stream(rt, reader, writer)),
-        Request::Job(request) => {
+        CommandRequest::Merge => make_finding_without_audit(merge_stream(rt, reader, writer)),
+        CommandRequest::Job(request) => {
             let options = &request.options;
             let parameters = request.parameters.as_slice();
             match request.task {
-                Task::Eval => judge_nothing(eval_stream(rt, options, parameters, reader, writer)),
-                Task::Check => judge_nothing(check_stream(rt, options, parameters, reader, writer)),
-                Task::Plan => judge_nothing(plan_stream(rt, options, parameters, reader, writer)),
-                Task::Run(farm) => {
-                    judge_nothing(run_stream(rt, &farm, options, parameters, reader, writer))
+                CommandTask::Eval => make_finding_without_audit(eval_stream(
+                    rt, options, parameters, reader, writer,
+                )),
+                CommandTask::Check => make_finding_without_audit(check_stream(
+                    rt, options, parameters, reader, writer,
+                )),
+                CommandTask::Plan => make_finding_without_audit(plan_stream(
+                    rt, options, parameters, reader, writer,
+                )),
+                CommandTask::Run(farm) => {
+                    make_finding_without_audit(run_stream(
+                        rt, &farm, options, parameters, reader, writer,
+                    ))
                 }
-                Task::Audit => audit_stream(rt, options, parameters, reader, writer),
-                Task::World(nodes) => {
-                    judge_nothing(world_stream(rt, nodes, options, parameters, reader, writer))
+                CommandTask::Audit => audit_stream(rt, options, parameters, reader, writer),
+                CommandTask::World(nodes) => {
+                    make_finding_without_audit(world_stream(
+                        rt, nodes, options, parameters, reader, writer,
+                    ))
                 }
             }
         }
@@ -174,17 +184,17 @@ fn perform<H: AllocGlobal + Threads + Wait + Sync, R: Source, W: Sink>(
 }
 
 /// Writes the fault's line, if the writer takes it.
-fn report_fault<W: Sink>(fault: &StreamFault, writer: &mut W)
+fn report_command_fault<W: Sink>(fault: &StreamFault, writer: &mut W)
     ensures { Puts (line_of fault.now) (W.contents writer.old) (W.contents writer.new)
         (W.failures writer.old) (W.failures writer.new) }
 {
-    let _ = write_line(fault, writer);
+    let _ = write_command_fault_line(fault, writer);
 }
 
 /// Writes the usage line, if the writer takes it.
-fn show_usage<W: Sink>(writer: &mut W)
+fn show_usage_line<W: Sink>(writer: &mut W)
     ensures { Puts usage_line (W.contents writer.old) (W.contents writer.new)
         (W.failures writer.old) (W.failures writer.new) }
 {
-    let _ = write_whole(writer, USAGE);
+    let _ = write_all_bytes(writer, USAGE);
 }

@@ -4,12 +4,14 @@ ghost use Rattle.std.specs.Prelude.{◌≡◌};
 ghost use Rattle.commands.specs.inside.Questions.{none_false};
 
 use command_faults::StreamFault;
-use fact_commands::Finding;
+use fact_commands::AuditFinding;
 
 /// The finding of a command that judges nothing.
-pub fn judge_nothing(done: Result<(), StreamFault>) -> Result<Finding, StreamFault>
+pub fn make_finding_without_audit(
+    done: Result<(), StreamFault>,
+) -> Result<AuditFinding, StreamFault>
     ensures { result ≡ none_false done }
 {
     done?;
-    Ok(Finding::NoFalse)
+    Ok(AuditFinding::NoFalse)
 }

@@ -19,13 +19,13 @@ pub fn make_plan_lines(alloc: Global, job: &Job, schedule: &Schedule) -> Result<
 {
     let mut lines = Vec::new(alloc);
     for number in 0..job.stages().len() {
-        put_plan(alloc, &mut lines, job, schedule, number)?;
+        put_plan_line(alloc, &mut lines, job, schedule, number)?;
     }
     Ok(lines)
 }
 
 /// The line of the stage of this number, if it has tiles.
-fn put_plan(
+fn put_plan_line(
     alloc: Global,
     lines: &mut Vec<u8>,
     job: &Job,
@@ -39,14 +39,19 @@ fn put_plan(
 {
     match (job.kind(number), job.name(number)) {
         (Some(StageKind::Function | StageKind::Accumulator), Some(name)) => {
-            put_line(alloc, lines, &name, find_cost(job, schedule, number))
+            put_stage_plan_line(
+                alloc,
+                lines,
+                &name,
+                find_plan_line_cost(job, schedule, number),
+            )
         }
         _ => Ok(()),
     }
 }
 
 /// What the stage of this number costs by the schedule.
-fn find_cost(job: &Job, schedule: &Schedule, number: usize) -> Option<u64>
+fn find_plan_line_cost(job: &Job, schedule: &Schedule, number: usize) -> Option<u64>
     requires schedule { IsScheduleOf (pipeline_in job.now) schedule.now }
     requires there { number < length (pipeline_in job.now).stages }
     ensures { result ≡ cost (pipeline_in job.now) schedule.now.inlining number }
@@ -54,7 +59,7 @@ fn find_cost(job: &Job, schedule: &Schedule, number: usize) -> Option<u64>
     schedule.cost(number)
 }
 
-fn put_line(
+fn put_stage_plan_line(
     alloc: Global,
     lines: &mut Vec<u8>,
     name: &Name,

@@ -2,7 +2,7 @@
 
 /// A question about a job alone.
 #[derive(Clone, Copy, Debug, PartialEq, Eq)]
-pub enum Question {
+pub enum JobQuestion {
     /// What its result is.
     Answer,
     /// Which program it is of, and which stages it has.

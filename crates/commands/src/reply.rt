@@ -9,24 +9,24 @@ ghost use Rattle.command_jobs.specs.RequestedSchedule.{requested_inlining};
 ghost use Rattle.command_outcomes.specs.Replies.{reply_bytes};
 ghost use Rattle.commands.specs.inside.Questions.{saying_of};
 
-use crate::answer::evaluate;
+use crate::answer::compute_eval_reply;
 use crate::plan_lines::make_plan_lines;
-use crate::question::Question;
+use crate::question::JobQuestion;
 use crate::stage_lines::make_check_lines;
-use command_jobs::make_schedule;
+use command_jobs::make_schedule_of_options;
 use command_line::Options;
-use command_outcomes::Reply;
+use command_outcomes::JobReply;
 use job::Job;
 use std::alloc::{AllocError, Global};
 use std::thread::Threads;
 
 /// The reply to a question about the job.
-pub fn compute_reply(
+pub fn compute_eval_check_or_plan_reply(
     rt: &(impl AllocGlobal + Threads + Sync),
-    question: Question,
+    question: JobQuestion,
     options: &Options,
     job: Job,
-) -> Result<Reply, AllocError>
+) -> Result<JobReply, AllocError>
     ensures { IfOk result (λ reply. (tree : List Declaration)
         → program_text_in job ≡ canonical tree
         → saying_of question options.now.stored options.now.percent tree (pipeline_in job)
@@ -34,18 +34,24 @@ pub fn compute_reply(
 {
     let alloc = rt.alloc();
     match question {
-        Question::Answer => evaluate(rt, job, options),
-        Question::Stages => Ok(Reply::from_lines(make_check_lines(alloc, &job)?)),
-        Question::Plan => Ok(Reply::from_lines(make_schedule_lines(alloc, options, &job)?)),
+        JobQuestion::Answer => compute_eval_reply(rt, job, options),
+        JobQuestion::Stages => Ok(JobReply::from_lines(make_check_lines(alloc, &job)?)),
+        JobQuestion::Plan => Ok(JobReply::from_lines(make_plan_lines_of_options(
+            alloc, options, &job,
+        )?)),
     }
 }
 
 /// The lines of the schedule that the options request.
-fn make_schedule_lines(alloc: Global, options: &Options, job: &Job) -> Result<Vec<u8>, AllocError>
+fn make_plan_lines_of_options(
+    alloc: Global,
+    options: &Options,
+    job: &Job,
+) -> Result<Vec<u8>, AllocError>
     ensures { let job = pipeline_in job.now in
         IfOk result (λ lines. IsPlan job (requested_inlining options.now.stored options.now.percent job)
         lines.items) }
 {
-    let schedule = make_schedule(alloc, job, options)?;
+    let schedule = make_schedule_of_options(alloc, job, options)?;
     make_plan_lines(alloc, job, &schedule)
 }

@@ -17,14 +17,14 @@ pub fn make_check_lines(alloc: Global, job: &Job) -> Result<Vec<u8>, AllocError>
         (λ lines. lines.items ≡ check_bytes (program_text_in job.now) (pipeline_in job.now)) }
 {
     let mut lines = Vec::new(alloc);
-    put_identity(alloc, &mut lines, b"program", job.program_id().as_bytes())?;
-    put_identity(alloc, &mut lines, b"input", job.input_id().as_bytes())?;
-    put_stages(alloc, &mut lines, job)?;
+    put_check_identity_line(alloc, &mut lines, b"program", job.program_id().as_bytes())?;
+    put_check_identity_line(alloc, &mut lines, b"input", job.input_id().as_bytes())?;
+    put_check_stage_lines(alloc, &mut lines, job)?;
     Ok(lines)
 }
 
 /// A word and an identity.
-fn put_identity(
+fn put_check_identity_line(
     alloc: Global,
     lines: &mut Vec<u8>,
     word: &[u8],
@@ -41,31 +41,41 @@ fn put_identity(
 }
 
 /// A line for each stage, in order.
-fn put_stages(alloc: Global, lines: &mut Vec<u8>, job: &Job) -> Result<(), AllocError>
+fn put_check_stage_lines(alloc: Global, lines: &mut Vec<u8>, job: &Job) -> Result<(), AllocError>
     ensures { OnOk result (lines.new.items ≡ lines.old.items ++ stage_lines (pipeline_in job.now)) }
 {
     for number in 0..job.stages().len() {
-        put_stage(alloc, lines, job, number)?;
+        put_check_stage_line(alloc, lines, job, number)?;
     }
     Ok(())
 }
 
 /// The line of the stage of this number, if there is one.
-fn put_stage(alloc: Global, lines: &mut Vec<u8>, job: &Job, number: usize) -> Result<(), AllocError>
+fn put_check_stage_line(
+    alloc: Global,
+    lines: &mut Vec<u8>,
+    job: &Job,
+    number: usize,
+) -> Result<(), AllocError>
     ensures { OnOk result
         (lines.new.items ≡ lines.old.items ++ stage_line_at (pipeline_in job.now) number) }
 {
     match job.stage(number) {
         Some(stage) => {
-            put_head(alloc, lines, number, stage)?;
-            put_domain(alloc, lines, stage.domain(), count_tiles(job, number))
+            put_check_stage_head(alloc, lines, number, stage)?;
+            put_check_stage_domain(
+                alloc,
+                lines,
+                stage.domain(),
+                count_check_line_tiles(job, number),
+            )
         }
         None => Ok(()),
     }
 }
 
 /// The number of a stage, its kind and its name.
-fn put_head(
+fn put_check_stage_head(
     alloc: Global,
     lines: &mut Vec<u8>,
     number: usize,
@@ -76,14 +86,14 @@ fn put_head(
 {
     let text = format!(in alloc; "stage {number} ")?;
     lines.extend_from_slice(text.as_bytes())?;
-    lines.extend_from_slice(spell_kind(stage.body()))?;
+    lines.extend_from_slice(choose_check_line_kind_word(stage.body()))?;
     lines.push(b' ')?;
     lines.extend_from_slice(stage.name().as_bytes())?;
     Ok(())
 }
 
 /// The word for what a stage is.
-fn spell_kind(body: &Body) -> &'static [u8]
+fn choose_check_line_kind_word(body: &Body) -> &'static [u8]
     ensures { result.now ≡ kind_word (body_view body.now) }
 {
     match body {
@@ -94,7 +104,7 @@ fn spell_kind(body: &Body) -> &'static [u8]
 }
 
 /// The rows and the columns of a domain, and how many tiles there are.
-fn put_domain(
+fn put_check_stage_domain(
     alloc: Global,
     lines: &mut Vec<u8>,
     domain: &Area,
@@ -102,15 +112,15 @@ fn put_domain(
 ) -> Result<(), AllocError>
     ensures { OnOk result (lines.new.items ≡ lines.old.items ++ stage_tail domain.now tiles) }
 {
-    put_span(alloc, lines, &domain.rows)?;
-    put_span(alloc, lines, &domain.cols)?;
+    put_check_domain_span(alloc, lines, &domain.rows)?;
+    put_check_domain_span(alloc, lines, &domain.cols)?;
     let count = format!(in alloc; " tiles {tiles}\n")?;
     lines.extend_from_slice(count.as_bytes())?;
     Ok(())
 }
 
 /// A blank and the ends of a span.
-fn put_span(alloc: Global, lines: &mut Vec<u8>, span: &Span) -> Result<(), AllocError>
+fn put_check_domain_span(alloc: Global, lines: &mut Vec<u8>, span: &Span) -> Result<(), AllocError>
     ensures { OnOk result (lines.new.items ≡ lines.old.items ++ 32 ∷ span_text span.now) }
 {
     let text = format!(in alloc; " {}..{}", span.lo(), span.hi())?;
@@ -119,7 +129,7 @@ fn put_span(alloc: Global, lines: &mut Vec<u8>, span: &Span) -> Result<(), Alloc
 }
 
 /// How many tiles the stage of this number has.
-fn count_tiles(job: &Job, number: usize) -> u64
+fn count_check_line_tiles(job: &Job, number: usize) -> u64
     ensures { result ≡ length (tiles (pipeline_in job.now) number) }
 {
     match job.grid(number) {

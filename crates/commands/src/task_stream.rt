@@ -6,12 +6,12 @@ ghost use Rattle.commands.specs.Planning.{SaysPlan};
 ghost use Rattle.commands.specs.inside.Questions.{saying_of};
 ghost use Rattle.command_jobs.specs.Results.{SaysResult};
 
-use crate::question::Question;
-use crate::reply::compute_reply;
+use crate::question::JobQuestion;
+use crate::reply::compute_eval_check_or_plan_reply;
 use command_faults::StreamFault;
-use command_inputs::read_job;
+use command_inputs::read_input_job;
 use command_line::Options;
-use command_outcomes::{read_input, write_reply};
+use command_outcomes::{read_command_input, write_job_reply};
 use std::thread::Threads;
 use streams::{Sink, Source};
 
@@ -35,7 +35,7 @@ pub fn check_stream<H: AllocGlobal + Threads + Sync, R: Source, W: Sink>(
     ensures read { CountsRead result (R.failures reader.old) (R.failures reader.new) }
     ensures write { CountsWritten result (W.failures writer.old) (W.failures writer.new) }
 {
-    answer_question(rt, Question::Stages, options, parameters, reader, writer)
+    run_eval_check_or_plan(rt, JobQuestion::Stages, options, parameters, reader, writer)
 }
 
 /// Reads a program and a picture, and writes the result of running the program on the picture. It is the picture of the output,
@@ -58,7 +58,7 @@ pub fn eval_stream<H: AllocGlobal + Threads + Sync, R: Source, W: Sink>(
     ensures read { CountsRead result (R.failures reader.old) (R.failures reader.new) }
     ensures write { CountsWritten result (W.failures writer.old) (W.failures writer.new) }
 {
-    answer_question(rt, Question::Answer, options, parameters, reader, writer)
+    run_eval_check_or_plan(rt, JobQuestion::Answer, options, parameters, reader, writer)
 }
 
 /// Reads a program and a picture, and writes a line for each function and each accumulator. It says that it is inlined, or that
@@ -81,13 +81,13 @@ pub fn plan_stream<H: AllocGlobal + Threads + Sync, R: Source, W: Sink>(
     ensures read { CountsRead result (R.failures reader.old) (R.failures reader.new) }
     ensures write { CountsWritten result (W.failures writer.old) (W.failures writer.new) }
 {
-    answer_question(rt, Question::Plan, options, parameters, reader, writer)
+    run_eval_check_or_plan(rt, JobQuestion::Plan, options, parameters, reader, writer)
 }
 
 /// Reads the input, and writes the reply to a question about its job. All is computed before the first byte is written.
-fn answer_question<H: AllocGlobal + Threads + Sync, R: Source, W: Sink>(
+fn run_eval_check_or_plan<H: AllocGlobal + Threads + Sync, R: Source, W: Sink>(
     rt: &H,
-    question: Question,
+    question: JobQuestion,
     options: &Options,
     parameters: &[(String, i32)],
     reader: &mut R,
@@ -100,8 +100,8 @@ fn answer_question<H: AllocGlobal + Threads + Sync, R: Source, W: Sink>(
     ensures read { CountsRead result (R.failures reader.old) (R.failures reader.new) }
     ensures write { CountsWritten result (W.failures writer.old) (W.failures writer.new) }
 {
-    let input = read_input(rt.alloc(), reader)?;
-    let job = read_job(rt.alloc(), options.sides, parameters, input)?;
-    let reply = compute_reply(rt, question, options, job)?;
-    Ok(write_reply(&reply, writer)?)
+    let input = read_command_input(rt.alloc(), reader)?;
+    let job = read_input_job(rt.alloc(), options.sides, parameters, input)?;
+    let reply = compute_eval_check_or_plan_reply(rt, question, options, job)?;
+    Ok(write_job_reply(&reply, writer)?)
 }

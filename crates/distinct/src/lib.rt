@@ -7,7 +7,7 @@ ghost use Rattle.std.specs.Ordering.{eq_by_cmp};
 ghost use Rattle.std.specs.Prelude.{◌≡◌, true};
 
 /// Puts the items in order and drops those that are equal to the one before them, without memory.
-pub fn sort_once<T: Ord + Drop>(items: &mut Vec<T>)
+pub fn sort_without_repeats<T: Ord + Drop>(items: &mut Vec<T>)
     ensures sorted { IsStrictlySortedBy T.cmp items.new.items }
     ensures kept { (x : T) → Contains items.old.items x
         → Any (λ y. eq_by_cmp T.cmp x y ≡ true) items.new.items }

@@ -58,7 +58,7 @@ pub fn wrapping_shl(a: i32, count: u32) -> i32
 
 /// `a / 2^count`, rounded down.
 #[inline]
-pub fn shr(a: i32, count: u32) -> i32
+pub fn floor_shr(a: i32, count: u32) -> i32
     requires { count < 32 }
     ensures { result ≡ floor_div a (pos (2 ^ count)) }
 {
@@ -94,7 +94,7 @@ pub fn wrapping_add_long(sum: i64, other: i64) -> i64
 
 /// `sum + v`, where `v` is widened first, wrapped at 64 bits.
 #[inline]
-pub fn add_widened(sum: i64, v: i32) -> i64
+pub fn wrapping_add_int32_to_long(sum: i64, v: i32) -> i64
     ensures { result ≡ wrapped_long (sum +ℤ v) }
 {
     wrapping_add_long(sum, i64::from(v))

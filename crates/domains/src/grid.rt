@@ -89,7 +89,7 @@ impl Grid {
         ensures most { result ≤ 2097153 }
         ensures within { IsSpan self.now.area.rows × IsSides self.now.sides }
     {
-        parts::count(&self.area.rows, self.sides.height())
+        parts::count_span_parts(&self.area.rows, self.sides.height())
     }
 
     /// How many columns of tiles there are.
@@ -99,7 +99,7 @@ impl Grid {
         ensures most { result ≤ 2097153 }
         ensures within { IsSpan self.now.area.cols × IsSides self.now.sides }
     {
-        parts::count(&self.area.cols, self.sides.width())
+        parts::count_span_parts(&self.area.cols, self.sides.width())
     }
 
     /// How many tiles there are.
@@ -118,8 +118,8 @@ impl Grid {
         ensures within { IfSome result IsArea }
         ensures none { IfNone result (¬ (HasTile self.now i j)) }
     {
-        let rows = parts::part(&self.area.rows, self.sides.height(), i)?;
-        let cols = parts::part(&self.area.cols, self.sides.width(), j)?;
+        let rows = parts::get_span_part(&self.area.rows, self.sides.height(), i)?;
+        let cols = parts::get_span_part(&self.area.cols, self.sides.width(), j)?;
         Some(Area { rows, cols })
     }
 
@@ -130,8 +130,8 @@ impl Grid {
             × IsTileOf self.now row col t) }
         ensures none { IfNone result (¬ (HoldsPoint self.now.area row col)) }
     {
-        let i = parts::place(&self.area.rows, self.sides.height(), row)?;
-        let j = parts::place(&self.area.cols, self.sides.width(), col)?;
+        let i = parts::find_span_part(&self.area.rows, self.sides.height(), row)?;
+        let j = parts::find_span_part(&self.area.cols, self.sides.width(), col)?;
         Some((i, j))
     }
 
@@ -146,18 +146,22 @@ impl Grid {
             ↔ MeetsTile self.now area.now i j) }
         ensures order { IfOk result (λ tiles. AllPairs IsBefore tiles.items) }
     {
-        let rows = parts::meeting(&self.area.rows, self.sides.height(), &area.rows);
-        let cols = parts::meeting(&self.area.cols, self.sides.width(), &area.cols);
+        let rows = parts::find_meeting_span_parts(&self.area.rows, self.sides.height(), &area.rows);
+        let cols = parts::find_meeting_span_parts(&self.area.cols, self.sides.width(), &area.cols);
         let mut tiles = Vec::new(alloc);
         for i in rows.0..rows.1 {
-            push_row(&mut tiles, i, cols)?;
+            push_tiles_of_row(&mut tiles, i, cols)?;
         }
         Ok(tiles)
     }
 }
 
 // Adds the tiles of row `i` from column `cols.0` up to before column `cols.1`.
-fn push_row(tiles: &mut Vec<(u32, u32)>, i: u32, cols: (u32, u32)) -> Result<(), AllocError>
+fn push_tiles_of_row(
+    tiles: &mut Vec<(u32, u32)>,
+    i: u32,
+    cols: (u32, u32),
+) -> Result<(), AllocError>
     requires { cols.0 ≤ cols.1 }
     ensures { OnOk result (tiles.new.items
         ≡ tiles.old.items ++ map (λ j. (i, j)) (range_with_len cols.0 (cols.1 - cols.0))) }

@@ -86,6 +86,6 @@ impl Index {
         ensures image { IsImage self.now span.now result }
         ensures within { IsIndex self.now × IsSpan span.now × IsSpan result }
     {
-        Span::between(self.at(span.lo()), self.at(span.hi()))
+        Span::from_ends(self.at(span.lo()), self.at(span.hi()))
     }
 }

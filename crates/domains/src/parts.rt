@@ -5,7 +5,7 @@ ghost use Rattle.domains.specs.Tiles.{part_of, part_count, part_at, spans_meet, 
 use crate::span::Span;
 
 // How many parts of `side` numbers a span has.
-pub(crate) fn count(span: &Span, side: u32) -> u32
+pub(crate) fn count_span_parts(span: &Span, side: u32) -> u32
     requires { 1 ≤ side }
     ensures number { result ≡ part_count span.now side }
     ensures some { 0 < result }
@@ -16,7 +16,7 @@ pub(crate) fn count(span: &Span, side: u32) -> u32
 }
 
 // Part `i` of a span; none where there are no more than `i` parts.
-pub(crate) fn part(span: &Span, side: u32, i: u32) -> Option<Span>
+pub(crate) fn get_span_part(span: &Span, side: u32, i: u32) -> Option<Span>
     requires least { 1 ≤ side }
     requires most { side ≤ 1024 }
     ensures some { IfSome result (λ p. (i < part_count span.now side)
@@ -24,16 +24,16 @@ pub(crate) fn part(span: &Span, side: u32, i: u32) -> Option<Span>
     ensures within { IfSome result IsSpan }
     ensures none { IfNone result (part_count span.now side ≤ i) }
 {
-    if i >= count(span, side) {
+    if i >= count_span_parts(span, side) {
         return None;
     }
     let lo = span.lo() + (i * side) as i32;
     let hi = lo + (side as i32 - 1);
-    Some(Span::between(lo, span.hi().min(hi)))
+    Some(Span::from_ends(lo, span.hi().min(hi)))
 }
 
 // The part in which `v`, a number of the span, lies.
-fn place_within(span: &Span, side: u32, v: i32) -> u32
+fn find_span_part_of_member(span: &Span, side: u32, v: i32) -> u32
     requires side { 1 ≤ side }
     requires holds { Holds span.now v }
     ensures at { result ≡ part_at span.now side v }
@@ -44,21 +44,21 @@ fn place_within(span: &Span, side: u32, v: i32) -> u32
 }
 
 // The part in which `v` lies; none outside the span.
-pub(crate) fn place(span: &Span, side: u32, v: i32) -> Option<u32>
+pub(crate) fn find_span_part(span: &Span, side: u32, v: i32) -> Option<u32>
     requires { 1 ≤ side }
     ensures at { IfSome result (λ i. i ≡ part_at span.now side v) }
     ensures some { IfSome result (λ i. Holds span.now v × IsPlace span.now side v i) }
     ensures none { IfNone result (¬ (Holds span.now v)) }
 {
     if span.holds(v) {
-        Some(place_within(span, side, v))
+        Some(find_span_part_of_member(span, side, v))
     } else {
         None
     }
 }
 
 // The first of the parts that have a number in common with `other`, and the one after the last of them.
-pub(crate) fn meeting(span: &Span, side: u32, other: &Span) -> (u32, u32)
+pub(crate) fn find_meeting_span_parts(span: &Span, side: u32, other: &Span) -> (u32, u32)
     requires { 1 ≤ side }
     ensures parts { (k : ℕ) → k < part_count span.now side
         → IsTrue (spans_meet (part_of span.now side k) other.now)
@@ -69,8 +69,8 @@ pub(crate) fn meeting(span: &Span, side: u32, other: &Span) -> (u32, u32)
 {
     match span.meet(other) {
         Some(common) => (
-            place_within(span, side, common.lo()),
-            place_within(span, side, common.hi()) + 1,
+            find_span_part_of_member(span, side, common.lo()),
+            find_span_part_of_member(span, side, common.hi()) + 1,
         ),
         None => (0, 0),
     }

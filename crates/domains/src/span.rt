@@ -41,7 +41,7 @@ impl Span {
     }
 
     /// The span from `lo` to `hi`.
-    pub(crate) fn between(lo: i32, hi: i32) -> Span
+    pub(crate) fn from_ends(lo: i32, hi: i32) -> Span
         requires { IsSpan (record { lo = lo; hi = hi }) }
         ensures { result ≡ record { lo = lo; hi = hi } }
     {

@@ -19,7 +19,7 @@ use Rattle.job.specs.Readers.{bins_of, stage_bins}
 use Rattle.job.specs.Totals.{body_totals, totals_over}
 use Rattle.job.specs.Values.{value}
 use Rattle.job.specs.WellFormed.{IsFunction}
-use Rattle.tile_eval.specs.Buffer.{raster, IsTileOver, IsFunctionTile, IsTrueTile}
+use Rattle.tile_eval.specs.Raster.{raster, IsTileOver, IsFunctionTile, IsTrueTile}
 use Rattle.fact_audit.specs.Shapes.{IsTileShape, HasBins, IsPartialShape}
 
 one_stage : (job : Pipeline) (g : ℕ) (s t : Stage) → slice_get job.stages g ≡ Some s → slice_get job.stages g ≡ Some t → s ≡ t

@@ -3,11 +3,11 @@ use Rattle.std.proofs.Common.{ℕ, ◌≤◌, ◌≡◌, List, Some, Result, Ok,
 use Rattle.std.proofs.lemmas.List.Elements.{All-contains}
 use Rattle.std.proofs.lemmas.Option.{slice_get_within, same_Some}
 use Rattle.catalog.specs.Entries.{Entry, IsCatalog, StandsAt, entry_of, ids_in, ids_of}
-use Rattle.identity.specs.declared.job_ids.Ids.{Ids}
+use Rattle.identity.specs.declared.job_ids.JobId.{JobId}
 use Rattle.job.specs.declared.job.Job.{Job}
 use Rattle.job.specs.Kept.{pipeline_in}
-use Rattle.tile_eval.specs.Buffer.{IsServed}
-use Rattle.tile_eval.specs.declared.true_stages.TrueStages.{TrueStages}
+use Rattle.whole_stages.specs.Known.{IsServed}
+use Rattle.whole_stages.specs.declared.true_stages.TrueStages.{TrueStages}
 use Rattle.tile_fact.specs.declared.fact.Fact.{Fact}
 use Rattle.fact_audit.specs.declared.verdict.Verdict.{Verdict}
 use Rattle.fact_audit.specs.Verdicts.{IsJobVerdict, IsVerdict}
@@ -45,10 +45,10 @@ all_ready catalog facts known n all begun k fact at i stands =
 
 -- ---- a fact
 
-pub stages_for : (catalog : List Entry) (known : List TrueStages) (fact : Fact) (i : ℕ) (ids : Ids) → IsReady catalog known fact
+pub stages_for : (catalog : List Entry) (known : List TrueStages) (fact : Fact) (i : ℕ) (ids : JobId) → IsReady catalog known fact
     → ids ≡ ids_in fact.key
     → StandsAt catalog ids i → HasStagesFor catalog known fact i
-stages_for catalog known fact i ids ready same stands = ready i (subst (λ (them : Ids). StandsAt catalog them i) same stands)
+stages_for catalog known fact i ids ready same stands = ready i (subst (λ (them : JobId). StandsAt catalog them i) same stands)
 
 pub serves : (catalog : List Entry) (known : List TrueStages) (fact : Fact) (i : ℕ) (stages : TrueStages)
     → HasStagesFor catalog known fact i → slice_get known i ≡ Some stages
@@ -57,7 +57,7 @@ serves catalog known fact i stages has there =
     subst (λ (s : TrueStages). (slice_get catalog i ≡ Some (entry_of s.job.now)) × IsServedFor s fact)
     (same_Some has.stages stages (sym has.there ∙ there)) (has.job, has.served)
 
-pub by_stages : (catalog : List Entry) (known : List TrueStages) (fact : Fact) (i : ℕ) (ids : Ids) (stages : TrueStages) (v : Verdict)
+pub by_stages : (catalog : List Entry) (known : List TrueStages) (fact : Fact) (i : ℕ) (ids : JobId) (stages : TrueStages) (v : Verdict)
     → IsCatalog catalog → IsReady catalog known fact → ids ≡ ids_in fact.key → StandsAt catalog ids i → slice_get known i ≡ Some stages
     → IsJobVerdict (pipeline_in stages.job.now) fact v → IsVerdict catalog fact v
 by_stages catalog known fact i ids stages v is ready same stands there says =

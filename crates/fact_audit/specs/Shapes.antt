@@ -7,7 +7,7 @@ use Rattle.domains.specs.declared.area.Area.{Area}
 use Rattle.identity.specs.declared.key.Key.{Key}
 use Rattle.job.specs.Pipeline.{Pipeline}
 use Rattle.job.specs.Readers.{bins_of}
-use Rattle.tile_eval.specs.Buffer.{IsFunctionTile}
+use Rattle.tile_eval.specs.Raster.{IsFunctionTile}
 use Rattle.tile_fact.specs.declared.body.Body.{Body}
 use Rattle.tile_fact.specs.declared.body.Body.TheVariants.{Tile, Partial}
 use Rattle.tile_fact.specs.declared.fact.Fact.{Fact}

@@ -4,7 +4,7 @@ use Rattle.reductions.specs.TruePartials.{IsTruePartial}
 use Rattle.catalog.specs.Entries.{Entry, ids_in, ids_of}
 use Rattle.identity.specs.declared.key.Key.{Key}
 use Rattle.job.specs.Pipeline.{Pipeline}
-use Rattle.tile_eval.specs.Buffer.{IsTrueTile}
+use Rattle.tile_eval.specs.Raster.{IsTrueTile}
 use Rattle.tile_fact.specs.declared.body.Body.{Body}
 use Rattle.tile_fact.specs.declared.body.Body.TheVariants.{Tile, Partial}
 use Rattle.tile_fact.specs.declared.fact.Fact.{Fact}

@@ -8,7 +8,7 @@ mod single;
 mod truth;
 mod verdict;
 
-pub use several::audit_all;
-pub use shape::is_well_shaped;
-pub use single::{audit, find_job_of_key};
+pub use several::audit_facts;
+pub use shape::is_well_shaped_fact;
+pub use single::{audit, find_job_of_fact_key};
 pub use verdict::Verdict;

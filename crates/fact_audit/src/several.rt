@@ -5,14 +5,14 @@ ghost use Rattle.catalog.specs.Entries.{entry_of, ids_in};
 ghost use Rattle.fact_audit.specs.Verdicts.{AreVerdicts, IsVerdict};
 ghost use Rattle.fact_audit.specs.inside.Ready.{AreNamed, AreReady, AreStagesFor, IsReady};
 
-use crate::truth::judge_by_stages;
+use crate::truth::judge_fact_by_stages;
 use crate::verdict::Verdict;
-use catalog::{Catalog, ids_of};
-use identity::{Ids, Key};
+use catalog::{Catalog, compute_job_ids};
+use identity::{JobId, Key};
 use job::Job;
 use std::alloc::{AllocError, Global};
-use tile_eval::TrueStages;
 use tile_fact::Fact;
+use whole_stages::TrueStages;
 
 /// Judges facts by the jobs of a catalog: for each in order, the verdict of [`audit`](crate::audit). The stages of each job that
 /// facts name, and what these read, are computed whole, each once. All are kept until the last verdict. For a fact of no job
@@ -21,23 +21,23 @@ use tile_fact::Fact;
 /// # Errors
 ///
 /// Fails only where memory is refused.
-pub fn audit_all(
+pub fn audit_facts(
     alloc: Global,
     catalog: &Catalog,
     facts: &[Fact],
 ) -> Result<Vec<Verdict>, AllocError>
     ensures { IfOk result (λ verdicts. AreVerdicts catalog.now facts.now verdicts.items) }
 {
-    let known = compute_all_stages(alloc, catalog, facts)?;
+    let known = compute_stages_of_facts_by_job(alloc, catalog, facts)?;
     let mut verdicts = Vec::with_capacity(alloc, facts.len())?;
     for fact in facts {
-        verdicts.push(judge_among_jobs(alloc, catalog, &known, fact)?)?;
+        verdicts.push(judge_fact_among_jobs(alloc, catalog, &known, fact)?)?;
     }
     Ok(verdicts)
 }
 
 // The verdict on a fact, for which all is computed.
-fn judge_among_jobs(
+fn judge_fact_among_jobs(
     alloc: Global,
     catalog: &Catalog,
     known: &[TrueStages<'_>],
@@ -46,14 +46,14 @@ fn judge_among_jobs(
     requires { IsReady catalog.now known.now fact.now }
     ensures { IfOk result (IsVerdict catalog.now fact.now) }
 {
-    match catalog.find(&Ids::of_key(fact.key())) {
-        Some(index) => judge_by_stages(alloc, &known[index], fact),
+    match catalog.find(&JobId::from_key(fact.key())) {
+        Some(index) => judge_fact_by_stages(alloc, &known[index], fact),
         None => Ok(Verdict::Foreign),
     }
 }
 
 // The stages of each job that facts name, in the order of the jobs.
-fn compute_all_stages<'a>(
+fn compute_stages_of_facts_by_job<'a>(
     alloc: Global,
     catalog: &'a Catalog,
     facts: &[Fact],
@@ -65,31 +65,35 @@ fn compute_all_stages<'a>(
         let Some(job) = catalog.job(index) else {
             unreachable!();
         };
-        known.push(compute_named_stages(alloc, job, facts)?)?;
+        known.push(compute_true_stages_of_facts(alloc, job, facts)?)?;
     }
     Ok(known)
 }
 
 // The stages of a job that facts name, and what these read.
-fn compute_named_stages<'a>(
+fn compute_true_stages_of_facts<'a>(
     alloc: Global,
     job: &'a Job,
     facts: &[Fact],
 ) -> Result<TrueStages<'a>, AllocError>
     ensures { IfOk result (AreStagesFor facts.now (entry_of job.now)) }
 {
-    let stages = list_named_stages(alloc, &ids_of(job), facts)?;
-    TrueStages::of(alloc, job, &stages)
+    let stages = list_stages_of_facts(alloc, &compute_job_ids(job), facts)?;
+    TrueStages::from_job(alloc, job, &stages)
 }
 
 // The stages that facts name of the job of these identities.
-fn list_named_stages(alloc: Global, ids: &Ids, facts: &[Fact]) -> Result<Vec<usize>, AllocError>
+fn list_stages_of_facts(
+    alloc: Global,
+    ids: &JobId,
+    facts: &[Fact],
+) -> Result<Vec<usize>, AllocError>
     ensures { IfOk result (λ stages. AreNamed ids.now facts.now stages.items) }
 {
     let mut stages = Vec::new(alloc);
     for fact in facts {
         let key = fact.key();
-        if is_key_of_job(key, ids) {
+        if is_fact_key_of_job(key, ids) {
             stages.push(usize::from(key.stage))?;
         }
     }
@@ -97,7 +101,7 @@ fn list_named_stages(alloc: Global, ids: &Ids, facts: &[Fact]) -> Result<Vec<usi
 }
 
 // Whether the key names the job of these identities.
-fn is_key_of_job(key: &Key, ids: &Ids) -> bool
+fn is_fact_key_of_job(key: &Key, ids: &JobId) -> bool
     ensures { IsTrue result ↔ ids.now ≡ ids_in key.now }
 {
     ids.program.as_bytes() == key.program.as_bytes() && ids.input.as_bytes() == key.input.as_bytes()

@@ -5,21 +5,21 @@ ghost use Rattle.fact_audit.specs.Shapes.{FitsJob};
 ghost use Rattle.fact_audit.specs.TrueFacts.{IsTrueOf};
 ghost use Rattle.fact_audit.specs.Verdicts.{IsJobVerdict};
 ghost use Rattle.job.specs.Kept.{pipeline_in};
-ghost use Rattle.tile_eval.specs.Buffer.{IsServed};
+ghost use Rattle.whole_stages.specs.Known.{IsServed};
 
-use crate::shape::is_well_shaped;
+use crate::shape::is_well_shaped_fact;
 use crate::verdict::Verdict;
 use reductions::compute_true_partial;
 use std::alloc::{AllocError, Global};
-use tile_eval::TrueStages;
 use tile_fact::{Body, Fact};
+use whole_stages::TrueStages;
 
 /// The verdict on a fact by its job, whose stages were computed whole.
 ///
 /// # Errors
 ///
 /// Fails only where memory is refused.
-pub(crate) fn judge_by_stages(
+pub(crate) fn judge_fact_by_stages(
     alloc: Global,
     stages: &TrueStages<'_>,
     fact: &Fact,
@@ -28,17 +28,21 @@ pub(crate) fn judge_by_stages(
         fact.now.key.stage }
     ensures { IfOk result (IsJobVerdict (pipeline_in stages.now.job.now) fact.now) }
 {
-    if !is_well_shaped(stages.job(), fact) {
+    if !is_well_shaped_fact(stages.job(), fact) {
         return Ok(Verdict::Misshapen);
     }
-    if is_true_of_job(alloc, stages, fact)? {
+    if is_fact_true_of_job(alloc, stages, fact)? {
         return Ok(Verdict::True);
     }
     Ok(Verdict::False)
 }
 
 // Whether a fact is true of the job.
-fn is_true_of_job(alloc: Global, stages: &TrueStages<'_>, fact: &Fact) -> Result<bool, AllocError>
+fn is_fact_true_of_job(
+    alloc: Global,
+    stages: &TrueStages<'_>,
+    fact: &Fact,
+) -> Result<bool, AllocError>
     requires { IsServed (pipeline_in stages.now.job.now) stages.now.known.buffers.items
         fact.now.key.stage }
     ensures { IfOk result (λ is. IsTrue is ↔ IsTrueOf fact.now (pipeline_in stages.now.job.now)) }
@@ -46,24 +50,24 @@ fn is_true_of_job(alloc: Global, stages: &TrueStages<'_>, fact: &Fact) -> Result
     let key = fact.key();
     let stage = usize::from(key.stage);
     match fact.body() {
-        Body::Tile(samples) => match stages.tile(alloc, stage, key.row, key.col)? {
-            Some(values) => Ok(has_same_samples(samples.as_slice(), &values)),
+        Body::Tile(samples) => match stages.copy_tile_values(alloc, stage, key.row, key.col)? {
+            Some(values) => Ok(has_only_true_samples(samples.as_slice(), &values)),
             None => Ok(false),
         },
         Body::Partial(bins) => match compute_true_partial(alloc, stages, stage, key.row, key.col)? {
-            Some(totals) => Ok(has_same_bins(bins.as_slice(), &totals)),
+            Some(totals) => Ok(has_only_true_bins(bins.as_slice(), &totals)),
             None => Ok(false),
         },
     }
 }
 
-fn has_same_samples(samples: &[i32], values: &Vec<i32>) -> bool
+fn has_only_true_samples(samples: &[i32], values: &Vec<i32>) -> bool
     ensures { IsTrue result ↔ samples.now ≡ values.now.items }
 {
     samples == values.as_slice()
 }
 
-fn has_same_bins(bins: &[i64], totals: &Vec<i64>) -> bool
+fn has_only_true_bins(bins: &[i64], totals: &Vec<i64>) -> bool
     ensures { IsTrue result ↔ bins.now ≡ totals.now.items }
 {
     bins == totals.as_slice()

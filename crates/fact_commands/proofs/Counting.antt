@@ -5,13 +5,13 @@ use Rattle.std.proofs.lemmas.List.Elements.{All-take}
 use Rattle.std.specs.List.{All, Contains}
 use Rattle.fact_lines.proofs.GatheringLaws.{no_empty_file}
 use Rattle.fact_lines.specs.Texts.{IsFileLine, IsGoodLine, IsJoin, IsOnLines, lines}
-use Rattle.identity.specs.declared.job_ids.Ids.{Ids}
+use Rattle.identity.specs.declared.job_ids.JobId.{JobId}
 use Rattle.fact_commands.specs.FactFaults.{IsMergeFault}
 use Rattle.command_faults.specs.declared.faults.StreamFault.TheVariants.{Memory}
 use Rattle.tile_fact.specs.declared.fact.Fact.{Fact}
 
 -- a line that has something is digits, and those before it are good
-on_digits : {X : Type 0} (part : List Ids → List Fact → List X) (input : List ℕ) (x : X) → All IsGoodLine (lines input)
+on_digits : {X : Type 0} (part : List JobId → List Fact → List X) (input : List ℕ) (x : X) → All IsGoodLine (lines input)
     → IsOnLines part (lines input) x → IsMergeFault input Memory
 on_digits part input x good on =
     let all = lines input in
@@ -38,7 +38,7 @@ first_of : {X : Type 0} (xs : List X) → 2 ^ 32 ≤ length xs → (x : X) × Co
 first_of [] many = absurd (omega (arith, many))
 first_of (x ∷ xs) many = (x, (0, (omega arith), refl))
 
-pub too_many : (input : List ℕ) (retired : List Ids) (facts : List Fact) → IsJoin input retired facts
+pub too_many : (input : List ℕ) (retired : List JobId) (facts : List Fact) → IsJoin input retired facts
     → (2 ^ 32 ≤ length retired) ⊎ (2 ^ 32 ≤ length facts) → IsMergeFault input Memory
 too_many input retired facts join many = elim many [
   | inl jobs ↦

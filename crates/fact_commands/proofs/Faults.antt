@@ -2,8 +2,8 @@
 use Rattle.std.proofs.Common.{ℕ, List}
 use Rattle.domains.specs.Sides.{Sides}
 use Rattle.fact_lines.specs.Faults.{IsFault as IsLinesFault}
-use Rattle.fact_lines.specs.declared.fault.LinesFault.{LinesFault}
-use Rattle.fact_lines.specs.declared.fault.LinesFault.TheVariants as lines
+use Rattle.fact_lines.specs.declared.fault.FactLinesFault.{FactLinesFault}
+use Rattle.fact_lines.specs.declared.fault.FactLinesFault.TheVariants as lines
 use Rattle.job.specs.Pipeline.{Pipeline}
 use Rattle.pipe_tree.specs.Tree.{Declaration}
 use Rattle.command_faults.specs.StepFaults.{fault_at_lines}
@@ -32,7 +32,7 @@ audit_fault_around input given sides faults.TooLong is = is
 audit_fault_around input given sides faults.Write is = is
 
 pub audit_facts_fault : (input middle : List ℕ) (given : List Given) (sides : Sides) (tree : List Declaration) (job : Pipeline)
-    (f : LinesFault)
+    (f : FactLinesFault)
     → IsInputAround input given sides tree job middle → IsLinesFault middle f → IsAuditFault input given sides (fault_at_lines f)
 audit_facts_fault input middle given sides tree job (lines.BadHex n) around is =
     record { tree = tree; job = job; text = middle; around = around; bad = (is, λ e. cc) }
@@ -42,7 +42,7 @@ audit_facts_fault input middle given sides tree job lines.Memory around is = tt
 
 -- ---- faults of fact files
 
-pub merge_fault : (input : List ℕ) (f : LinesFault) → IsLinesFault input f → IsMergeFault input (fault_at_lines f)
+pub merge_fault : (input : List ℕ) (f : FactLinesFault) → IsLinesFault input f → IsMergeFault input (fault_at_lines f)
 merge_fault input (lines.BadHex n) is = (is, λ e. cc)
 merge_fault input (lines.BadFile n x) is = (is, λ e. cc)
 merge_fault input lines.Memory is = is

@@ -4,7 +4,7 @@ use Rattle.catalog.specs.Entries.{Entry, entry_of}
 use Rattle.domains.specs.Sides.{Sides}
 use Rattle.fact_audit.specs.Verdicts.{AreVerdicts}
 use Rattle.fact_audit.specs.declared.verdict.Verdict.{Verdict}
-use Rattle.identity.specs.declared.job_ids.Ids.{Ids}
+use Rattle.identity.specs.declared.job_ids.JobId.{JobId}
 use Rattle.command_inputs.specs.Giving.{Given}
 use Rattle.fact_commands.specs.FactInput.{IsReadAudit}
 use Rattle.fact_commands.specs.FactSayings.{IsSaidOfAudit}
@@ -15,11 +15,11 @@ use Rattle.tile_fact.specs.declared.fact.Fact.{Fact}
 use Rattle.command_inputs.specs.JobCatalog.{catalog_of}
 use Rattle.fact_commands.specs.Auditing.{SaysVerdicts}
 use Rattle.fact_commands.specs.Verdicts.{IsFinding, audit_lines}
-use Rattle.fact_commands.specs.declared.finding.Finding.{Finding}
+use Rattle.fact_commands.specs.declared.finding.AuditFinding.{AuditFinding}
 
-pub judged_said : (input : List ℕ) (given : List Given) (sides : Sides) (job : Job) (retired : List Ids) (facts : List Fact)
+pub judged_said : (input : List ℕ) (given : List Given) (sides : Sides) (job : Job) (retired : List JobId) (facts : List Fact)
     (catalog : List Entry)
-    (verdicts : List Verdict) (found : Finding) → IsReadAudit input given sides job retired facts → IsJob (pipeline_in job)
+    (verdicts : List Verdict) (found : AuditFinding) → IsReadAudit input given sides job retired facts → IsJob (pipeline_in job)
     → catalog ≡ entry_of job ∷ [] → AreVerdicts catalog facts verdicts → IsFinding found verdicts
     → IsSaidOfAudit SaysVerdicts given sides found input (audit_lines facts verdicts retired)
 judged_said input given sides job retired facts catalog verdicts found read is same judged finds =

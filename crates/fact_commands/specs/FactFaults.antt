@@ -2,8 +2,8 @@
 use Rattle.std.specs.Prelude.{◌≢◌, ℕ, List}
 use Rattle.domains.specs.Sides.{Sides}
 use Rattle.fact_lines.specs.Faults.{IsFault as IsLinesFault}
-use Rattle.fact_lines.specs.declared.fault.LinesFault.{LinesFault}
-use Rattle.fact_lines.specs.declared.fault.LinesFault.TheVariants as lines
+use Rattle.fact_lines.specs.declared.fault.FactLinesFault.{FactLinesFault}
+use Rattle.fact_lines.specs.declared.fault.FactLinesFault.TheVariants as lines
 use Rattle.job.specs.Pipeline.{Pipeline}
 use Rattle.pipe_tree.specs.Tree.{Declaration}
 use Rattle.command_faults.specs.declared.faults.StreamFault.{StreamFault}
@@ -14,11 +14,11 @@ use Rattle.command_inputs.specs.Input.{IsInputAround}
 use Rattle.command_outcomes.specs.Outcomes.{Refusing}
 
 -- the first bad line
-abbrev pub IsFactsFault : List ℕ → LinesFault → Type 0
+abbrev pub IsFactsFault : List ℕ → FactLinesFault → Type 0
 IsFactsFault text fault = IsLinesFault text fault × (fault ≢ lines.Memory)
 
 -- the first bad line of the middle section, where the program and the picture have a job at the supplied values
-pub record IsAuditFactsFault (input : List ℕ) (given : List Given) (sides : Sides) (fault : LinesFault) : Type 0 where
+pub record IsAuditFactsFault (input : List ℕ) (given : List Given) (sides : Sides) (fault : FactLinesFault) : Type 0 where
   pub tree : List Declaration
   pub job : Pipeline
   pub text : List ℕ

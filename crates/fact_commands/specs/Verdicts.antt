@@ -5,11 +5,11 @@ use Rattle.std.specs.List.{flat_map, zip}
 use Rattle.fact_audit.specs.declared.verdict.Verdict.{Verdict}
 use Rattle.fact_audit.specs.declared.verdict.Verdict.TheVariants.{Foreign, Misshapen, True, False}
 use Rattle.hex.specs.Hex.{encode_lower}
-use Rattle.identity.specs.declared.job_ids.Ids.{Ids}
+use Rattle.identity.specs.declared.job_ids.JobId.{JobId}
 use Rattle.identity.specs.declared.key.Key.{Key}
 use Rattle.tile_fact.specs.declared.fact.Fact.{Fact}
-use Rattle.fact_commands.specs.declared.finding.Finding.{Finding}
-use Rattle.fact_commands.specs.declared.finding.Finding.TheVariants.{NoFalse, AFalse}
+use Rattle.fact_commands.specs.declared.finding.AuditFinding.{AuditFinding}
+use Rattle.fact_commands.specs.declared.finding.AuditFinding.TheVariants.{NoFalse, AFalse}
 
 -- ---- lines of facts
 
@@ -34,16 +34,16 @@ verdict_lines facts verdicts = flat_map verdict_line (zip facts verdicts)
 -- ---- lines of retired jobs
 
 -- `Retired`, the two identities in lower-case hexadecimal digits, and LF
-abbrev pub retired_line : Ids → List ℕ
+abbrev pub retired_line : JobId → List ℕ
 retired_line ids = codes "Retired " ++ encode_lower ids.program ++ 32 ∷ encode_lower ids.input ++ 10 ∷ []
 
 -- the lines of the facts, and then a line for each retired job, in their orders
-abbrev pub audit_lines : List Fact → List Verdict → List Ids → List ℕ
+abbrev pub audit_lines : List Fact → List Verdict → List JobId → List ℕ
 audit_lines facts verdicts retired = verdict_lines facts verdicts ++ flat_map retired_line retired
 
 -- ---- what they found
 
 -- a fact is false, or none is
-abbrev pub IsFinding : Finding → List Verdict → Type 0
+abbrev pub IsFinding : AuditFinding → List Verdict → Type 0
 IsFinding AFalse verdicts = Contains verdicts False
 IsFinding NoFalse verdicts = ¬ (Contains verdicts False)

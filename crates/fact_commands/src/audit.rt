@@ -6,33 +6,33 @@ ghost use Rattle.fact_commands.specs.FactSayings.{IsSaidOfAudit};
 ghost use Rattle.fact_commands.specs.Auditing.{SaysVerdicts};
 ghost use Rattle.fact_commands.specs.Verdicts.{audit_lines};
 
-use crate::fact_input::read_audit;
-use crate::finding::{Finding, find_false};
+use crate::fact_input::read_audit_input;
+use crate::finding::{AuditFinding, find_false_audit_verdict};
 use command_faults::StreamFault;
-use command_inputs::make_catalog;
+use command_inputs::make_catalog_of_input_job;
 use command_line::Options;
-use fact_audit::{Verdict, audit_all};
-use fact_lines::Contents;
-use identity::Ids;
+use fact_audit::{Verdict, audit_facts};
+use fact_lines::FactFileContents;
+use identity::JobId;
 use std::alloc::Global;
 use tile_fact::Fact;
 
 /// Facts, the verdict on each, in their order, whether one of them is false, and the retired jobs.
 #[derive(Debug, Drop)]
-pub struct Judgment {
+pub struct AuditJudgment {
     pub facts: Vec<Fact>,
     pub verdicts: Vec<Verdict>,
-    pub found: Finding,
-    pub retired: Vec<Ids>,
+    pub found: AuditFinding,
+    pub retired: Vec<JobId>,
 }
 
 /// Judges the facts of an input by its job, except those of jobs that it retires. The input and the job are freed.
-pub fn judge(
+pub fn judge_facts_of_audit_input(
     alloc: Global,
     options: &Options,
     given: &[(String, i32)],
     input: Vec<u8>,
-) -> Result<Judgment, StreamFault>
+) -> Result<AuditJudgment, StreamFault>
     ensures said { IfOk result (λ judged. IsSaidOfAudit SaysVerdicts given.now options.now.sides
         judged.found input.items
         (audit_lines judged.facts.items judged.verdicts.items judged.retired.items)) }
@@ -40,12 +40,12 @@ pub fn judge(
         (λ judged. length judged.verdicts.items ≡ length judged.facts.items) }
     ensures fault { IfErr result (IsAuditFault input.items given.now options.now.sides) }
 {
-    let (job, contents) = read_audit(alloc, options.sides, given, input)?;
-    let Contents { retired, facts } = contents;
-    let catalog = make_catalog(alloc, job)?;
-    let verdicts = audit_all(alloc, &catalog, &facts)?;
-    let found = find_false(&verdicts);
-    Ok(Judgment {
+    let (job, contents) = read_audit_input(alloc, options.sides, given, input)?;
+    let FactFileContents { retired, facts } = contents;
+    let catalog = make_catalog_of_input_job(alloc, job)?;
+    let verdicts = audit_facts(alloc, &catalog, &facts)?;
+    let found = find_false_audit_verdict(&verdicts);
+    Ok(AuditJudgment {
         facts,
         verdicts,
         found,

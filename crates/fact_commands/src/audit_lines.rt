@@ -9,7 +9,7 @@ ghost use Rattle.hex.specs.Hex.{encode_lower};
 ghost use Rattle.write_buffer.specs.Passing.{Puts};
 
 use fact_audit::Verdict;
-use identity::Ids;
+use identity::JobId;
 use itoa::Buffer;
 use streams::{Sink, WriteFailed};
 use tile_fact::Fact;
@@ -17,10 +17,10 @@ use write_buffer::WriteBuffer;
 
 /// Writes a line for each fact: the verdict, its stage, its row and its column. After them it writes a line for each retired job.
 /// No memory is allocated: the lines go through a buffer of fixed size.
-pub fn write_audit<W: Sink>(
+pub fn write_audit_lines<W: Sink>(
     facts: &[Fact],
     verdicts: &[Verdict],
-    retired: &[Ids],
+    retired: &[JobId],
     writer: &mut W,
 ) -> Result<(), WriteFailed>
     requires { length verdicts.now ≡ length facts.now }
@@ -31,53 +31,57 @@ pub fn write_audit<W: Sink>(
     ensures failed { CountsFailure result (W.failures writer.old) (W.failures writer.new) }
 {
     let mut buffer = WriteBuffer::new();
-    put_audit(&mut buffer, writer, facts, verdicts, retired)?;
+    put_audit_lines(&mut buffer, writer, facts, verdicts, retired)?;
     buffer.flush(writer)
 }
 
-fn put_audit<W: Sink>(
+fn put_audit_lines<W: Sink>(
     buffer: &mut WriteBuffer,
     writer: &mut W,
     facts: &[Fact],
     verdicts: &[Verdict],
-    retired: &[Ids],
+    retired: &[JobId],
 ) -> Result<(), WriteFailed>
     requires { length verdicts.now ≡ length facts.now }
     ensures { Puts result (audit_lines facts.now verdicts.now retired.now) buffer.old buffer.new
         (W.contents writer.old) (W.contents writer.new)
         (W.failures writer.old) (W.failures writer.new) }
 {
-    put_verdicts(buffer, writer, facts, verdicts)?;
-    put_jobs(buffer, writer, retired)
+    put_audit_verdict_lines(buffer, writer, facts, verdicts)?;
+    put_audit_retired_job_lines(buffer, writer, retired)
 }
 
-fn put_jobs<W: Sink>(
+fn put_audit_retired_job_lines<W: Sink>(
     buffer: &mut WriteBuffer,
     writer: &mut W,
-    retired: &[Ids],
+    retired: &[JobId],
 ) -> Result<(), WriteFailed>
     ensures { Puts result (flat_map retired_line retired.now) buffer.old buffer.new
         (W.contents writer.old) (W.contents writer.new)
         (W.failures writer.old) (W.failures writer.new) }
 {
     for job in retired {
-        put_job(buffer, writer, job)?;
+        put_audit_retired_job_line(buffer, writer, job)?;
     }
     Ok(())
 }
 
-fn put_job<W: Sink>(buffer: &mut WriteBuffer, writer: &mut W, job: &Ids) -> Result<(), WriteFailed>
+fn put_audit_retired_job_line<W: Sink>(
+    buffer: &mut WriteBuffer,
+    writer: &mut W,
+    job: &JobId,
+) -> Result<(), WriteFailed>
     ensures { Puts result (retired_line job.now) buffer.old buffer.new
         (W.contents writer.old) (W.contents writer.new)
         (W.failures writer.old) (W.failures writer.new) }
 {
-    let program = encode_digits(job.program.as_bytes());
-    let input = encode_digits(job.input.as_bytes());
-    buffer.put_parts(writer, &[b"Retired ", &program, b" ", &input, b"\n"])
+    let program = encode_id_for_audit_line(job.program.as_bytes());
+    let input = encode_id_for_audit_line(job.input.as_bytes());
+    buffer.put_slices(writer, &[b"Retired ", &program, b" ", &input, b"\n"])
 }
 
 // Two lower-case hexadecimal digits for each byte.
-fn encode_digits(bytes: &[u8; 32]) -> [u8; 64]
+fn encode_id_for_audit_line(bytes: &[u8; 32]) -> [u8; 64]
     ensures { result ≡ encode_lower bytes.now }
 {
     let mut digits = [0; 64];
@@ -87,7 +91,7 @@ fn encode_digits(bytes: &[u8; 32]) -> [u8; 64]
     }
 }
 
-fn put_verdicts<W: Sink>(
+fn put_audit_verdict_lines<W: Sink>(
     buffer: &mut WriteBuffer,
     writer: &mut W,
     facts: &[Fact],
@@ -99,12 +103,12 @@ fn put_verdicts<W: Sink>(
         (W.failures writer.old) (W.failures writer.new) }
 {
     for (fact, verdict) in facts.iter().zip(verdicts) {
-        put_verdict(buffer, writer, fact, *verdict)?;
+        put_audit_verdict_line(buffer, writer, fact, *verdict)?;
     }
     Ok(())
 }
 
-fn put_verdict<W: Sink>(
+fn put_audit_verdict_line<W: Sink>(
     buffer: &mut WriteBuffer,
     writer: &mut W,
     fact: &Fact,
@@ -118,10 +122,10 @@ fn put_verdict<W: Sink>(
     let mut stages = Buffer::new();
     let mut rows = Buffer::new();
     let mut cols = Buffer::new();
-    buffer.put_parts(
+    buffer.put_slices(
         writer,
         &[
-            spell_verdict(verdict),
+            choose_audit_verdict_word(verdict),
             b" ",
             stages.format(key.stage).as_bytes(),
             b" ",
@@ -133,7 +137,7 @@ fn put_verdict<W: Sink>(
     )
 }
 
-fn spell_verdict(verdict: Verdict) -> &'static [u8]
+fn choose_audit_verdict_word(verdict: Verdict) -> &'static [u8]
     ensures { result.now ≡ verdict_word verdict }
 {
     match verdict {

@@ -5,12 +5,12 @@ ghost use Rattle.fact_commands.specs.FactFaults.{refusing_audit};
 ghost use Rattle.fact_commands.specs.FactSayings.{saying_of_audit};
 ghost use Rattle.fact_commands.specs.Auditing.{SaysVerdicts};
 
-use crate::audit::judge;
-use crate::audit_lines::write_audit;
-use crate::finding::Finding;
+use crate::audit::judge_facts_of_audit_input;
+use crate::audit_lines::write_audit_lines;
+use crate::finding::AuditFinding;
 use command_faults::StreamFault;
 use command_line::Options;
-use command_outcomes::read_input;
+use command_outcomes::read_command_input;
 use streams::{Sink, Source};
 
 /// Reads a program, fact files and a picture. Writes a line for each fact of the files, rising: the verdict, its stage, its row
@@ -26,7 +26,7 @@ pub fn audit_stream<H: AllocGlobal, R: Source, W: Sink>(
     parameters: &[(String, i32)],
     reader: &mut R,
     writer: &mut W,
-) -> Result<Finding, StreamFault>
+) -> Result<AuditFinding, StreamFault>
     // At `Ok` the writer took all lines, one of which is of a false fact exactly if the result says so. If the writer failed, it
     // took a part of such lines. At any other fault nothing is written, and the fault is the first of the input and the
     // parameters.
@@ -37,8 +37,8 @@ pub fn audit_stream<H: AllocGlobal, R: Source, W: Sink>(
     ensures read { CountsRead result (R.failures reader.old) (R.failures reader.new) }
     ensures write { CountsWritten result (W.failures writer.old) (W.failures writer.new) }
 {
-    let input = read_input(rt.alloc(), reader)?;
-    let judged = judge(rt.alloc(), options, parameters, input)?;
-    write_audit(&judged.facts, &judged.verdicts, &judged.retired, writer)?;
+    let input = read_command_input(rt.alloc(), reader)?;
+    let judged = judge_facts_of_audit_input(rt.alloc(), options, parameters, input)?;
+    write_audit_lines(&judged.facts, &judged.verdicts, &judged.retired, writer)?;
     Ok(judged.found)
 }

@@ -8,33 +8,33 @@ ghost use Rattle.job.specs.Kept.{pipeline_in};
 ghost use Rattle.job.specs.WellFormed.{IsJob, IsSmall};
 
 use command_faults::StreamFault;
-use command_inputs::read_job_and_middle;
+use command_inputs::read_input_job_and_middle;
 use domains::TileSides;
-use fact_lines::{Contents, join_fact_files};
+use fact_lines::{FactFileContents, join_fact_files};
 use job::Job;
 use std::alloc::Global;
 
 /// The job of the program, its tables and the picture that the input spells, and what the fact files between them hold together.
 /// A bad line is reported only if the program and the picture have a job.
-pub fn read_audit(
+pub fn read_audit_input(
     alloc: Global,
     sides: TileSides,
     given: &[(String, i32)],
     input: Vec<u8>,
-) -> Result<(Job, Contents), StreamFault>
+) -> Result<(Job, FactFileContents), StreamFault>
     ensures of_input { IfOk result (λ read. IsReadAudit input.items given.now sides read.0
         read.1.retired.items read.1.facts.items) }
     ensures job { IfOk result (λ read. IsJob (pipeline_in read.0)) }
     ensures small { IfOk result (λ read. IsSmall (pipeline_in read.0)) }
     ensures fault { IfErr result (IsAuditFault input.items given.now sides) }
 {
-    let (job, middle) = read_job_and_middle(alloc, sides, given, input.as_slice())?;
+    let (job, middle) = read_input_job_and_middle(alloc, sides, given, input.as_slice())?;
     let contents = join_fact_files(alloc, middle)?;
     Ok((job, contents))
 }
 
 /// What the fact files of which the input consists hold together.
-pub fn read_contents(alloc: Global, input: Vec<u8>) -> Result<Contents, StreamFault>
+pub fn read_merge_input(alloc: Global, input: Vec<u8>) -> Result<FactFileContents, StreamFault>
     ensures join { IfOk result
         (λ contents. IsJoin input.items contents.retired.items contents.facts.items) }
     ensures fault { IfErr result (IsMergeFault input.items) }

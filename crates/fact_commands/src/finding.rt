@@ -6,7 +6,7 @@ use fact_audit::Verdict;
 
 /// Whether a verdict is that a fact is false.
 #[derive(Clone, Copy, Debug, PartialEq, Eq)]
-pub enum Finding {
+pub enum AuditFinding {
     /// No verdict is, or nothing was judged.
     NoFalse,
     /// At least one is.
@@ -14,12 +14,12 @@ pub enum Finding {
 }
 
 /// What the verdicts found.
-pub fn find_false(verdicts: &[Verdict]) -> Finding
+pub fn find_false_audit_verdict(verdicts: &[Verdict]) -> AuditFinding
     ensures { IsFinding result verdicts.now }
 {
     if verdicts.contains(&Verdict::False) {
-        Finding::AFalse
+        AuditFinding::AFalse
     } else {
-        Finding::NoFalse
+        AuditFinding::NoFalse
     }
 }

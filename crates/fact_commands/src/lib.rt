@@ -9,6 +9,6 @@ mod finding;
 mod merges;
 
 pub use audits::audit_stream;
-pub use fact_input::{read_audit, read_contents};
-pub use finding::Finding;
+pub use fact_input::{read_audit_input, read_merge_input};
+pub use finding::AuditFinding;
 pub use merges::merge_stream;

@@ -8,10 +8,12 @@ ghost use Rattle.command_outcomes.specs.Outcomes.{CountsRead, CountsWritten, Wri
 ghost use Rattle.fact_commands.specs.FactFaults.{refusing_merge};
 ghost use Rattle.fact_commands.specs.Merging.{saying_join};
 
-use crate::fact_input::read_contents;
+use crate::fact_input::read_merge_input;
 use command_faults::StreamFault;
-use command_outcomes::read_input;
-use fact_lines::{Contents, FileCounts, count_contents, write_fact_line};
+use command_outcomes::read_command_input;
+use fact_lines::{
+    FactFileContents, FactFileCounts, count_fact_file_contents, write_fact_file_line,
+};
 use std::alloc::Global;
 use streams::{Sink, Source};
 
@@ -33,21 +35,24 @@ pub fn merge_stream<H: AllocGlobal, R: Source, W: Sink>(
     ensures read { CountsRead result (R.failures reader.old) (R.failures reader.new) }
     ensures write { CountsWritten result (W.failures writer.old) (W.failures writer.new) }
 {
-    let input = read_input(rt.alloc(), reader)?;
-    let (contents, counts) = join_and_count(rt.alloc(), input)?;
-    Ok(write_fact_line(&contents.retired, &contents.facts, counts, writer)?)
+    let input = read_command_input(rt.alloc(), reader)?;
+    let (contents, counts) = join_and_count_merge_input(rt.alloc(), input)?;
+    Ok(write_fact_file_line(&contents.retired, &contents.facts, counts, writer)?)
 }
 
 /// The join of the files, and its counts. The input is freed.
-fn join_and_count(alloc: Global, input: Vec<u8>) -> Result<(Contents, FileCounts), StreamFault>
+fn join_and_count_merge_input(
+    alloc: Global,
+    input: Vec<u8>,
+) -> Result<(FactFileContents, FactFileCounts), StreamFault>
     ensures join { IfOk result
         (λ counted. IsJoin input.items counted.0.retired.items counted.0.facts.items) }
     ensures counts { IfOk result
         (λ counted. AreCounts counted.1 counted.0.retired.items counted.0.facts.items) }
     ensures fault { IfErr result (IsMergeFault input.items) }
 {
-    let contents = read_contents(alloc, input)?;
-    match count_contents(&contents.retired, &contents.facts) {
+    let contents = read_merge_input(alloc, input)?;
+    match count_fact_file_contents(&contents.retired, &contents.facts) {
         Some(counts) => Ok((contents, counts)),
         None => Err(StreamFault::Memory),
     }

@@ -6,14 +6,14 @@ use Rattle.std.proofs.lemmas.List.{drop_more, length-take-le, take-append-drop, 
 use Rattle.std.proofs.lemmas.List.Elements.{All-nil, All-append, Contains-append_cases, Contains-append_left}
 use Rattle.std.proofs.lemmas.List.Elements.{Contains-append_right, Contains-push, Contains-push_cases, All-cons}
 use Rattle.hex.proofs.HexLemmas.{decode_of-ok, decode_of-same}
-use Rattle.identity.specs.declared.job_ids.Ids.{Ids}
+use Rattle.identity.specs.declared.job_ids.JobId.{JobId}
 use Rattle.tile_fact.specs.FactFile.{IsFactFile, fact_file}
 use Rattle.tile_fact.proofs.WholeLaws.{one_file}
 use Rattle.tile_fact.specs.declared.fact.Fact.{Fact}
 use Rattle.tile_fact.specs.declared.fault.FactFault.{FactFault}
 use Rattle.tile_fact.specs.declared.fault.FactFault.TheVariants as files
 use Rattle.tile_fact.specs.Faults.{IsFault as IsFileFault}
-use Rattle.fact_lines.specs.declared.fault.LinesFault.{LinesFault}
+use Rattle.fact_lines.specs.declared.fault.FactLinesFault.{FactLinesFault}
 use Rattle.fact_lines.specs.Faults.{IsFault, IsLineFault}
 use Rattle.fact_lines.specs.inside.Gathering.{Adds, Gathers, told}
 use Rattle.fact_lines.specs.Texts.{IsDigitsOf, IsFileLine, IsGoodLine, IsOnLines, lines}
@@ -38,17 +38,17 @@ line_fault number line bytes (files.RetiredFact at) some digits first =
 line_fault number line bytes (files.NothingRetired at) some digits first =
     (refl, record { digits = record { some = some; bytes = bytes; digits = digits }; first = first; told = λ same. cc })
 
-pub no_empty_file : (retired : List Ids) (facts : List Fact) → ¬ IsFileLine [] retired facts
+pub no_empty_file : (retired : List JobId) (facts : List Fact) → ¬ IsFileLine [] retired facts
 no_empty_file retired facts file =
     let two = (decode_of-ok [] file.bytes file.digits).2 in
     let empty : length file.bytes ≡ 0 = omega arith in
     some_bytes retired (sym (ap length file.file.spelled) ∙ empty)
   where
-    some_bytes : (jobs : List Ids) → length (fact_file jobs facts) ≡ 0 → ⊥
+    some_bytes : (jobs : List JobId) → length (fact_file jobs facts) ≡ 0 → ⊥
     some_bytes [] none = omega arith
     some_bytes (i ∷ more) none = omega arith
 
-pub same_lines : (line : List ℕ) (retired others : List Ids) (facts other_facts : List Fact) → IsFileLine line retired facts
+pub same_lines : (line : List ℕ) (retired others : List JobId) (facts other_facts : List Fact) → IsFileLine line retired facts
     → IsFileLine line others other_facts → (retired ≡ others) × (facts ≡ other_facts)
 same_lines line retired others facts other_facts one two =
     let bytes = decode_of-same line one.bytes two.bytes one.digits two.digits in
@@ -57,7 +57,7 @@ same_lines line retired others facts other_facts one two =
 
 -- ---- what some lines have in one part of their files
 
-module _ {X : Type 0} (part : List Ids → List Fact → List X) where
+module _ {X : Type 0} (part : List JobId → List Fact → List X) where
   -- these and no others are on the lines
   abbrev pub AreThose : List (List ℕ) → List X → Type 0
   AreThose all xs = (x : X) → Contains xs x ↔ IsOnLines part all x
@@ -97,7 +97,7 @@ module _ {X : Type 0} (part : List Ids → List Fact → List X) where
           ])),
     )
 
-    pub those_more : (retired : List Ids) (facts : List Fact) → IsFileLine line retired facts → new ≡ old ++ part retired facts
+    pub those_more : (retired : List JobId) (facts : List Fact) → IsFileLine line retired facts → new ≡ old ++ part retired facts
         → AreThose (all ++ line ∷ []) new
     those_more retired facts file same x = (
       (λ has. elim (Contains-append_cases old (part retired facts) x (subst (λ (l : List X). Contains l x) same has)) [
@@ -144,7 +144,7 @@ gathers_good : (all : List (List ℕ)) (line : List ℕ) → All IsGoodLine all 
 gathers_good all line good last =
     All-append IsGoodLine all (line ∷ []) good (All-cons IsGoodLine line [] last (All-nil IsGoodLine))
 
-pub gathers_more : (all : List (List ℕ)) (line : List ℕ) (jobs new_jobs : List Ids) (old new : List Fact) → Gathers all jobs old
+pub gathers_more : (all : List (List ℕ)) (line : List ℕ) (jobs new_jobs : List JobId) (old new : List Fact) → Gathers all jobs old
     → Adds line jobs old new_jobs new → Gathers (all ++ line ∷ []) new_jobs new
 gathers_more all line jobs new_jobs old new before (inl none) = record {
   good = gathers_good all line before.good (inl none.0);
@@ -159,14 +159,14 @@ gathers_more all line jobs new_jobs old new before (inr some) = record {
 
 -- ---- one line after the other
 
-pub takes_line : (all : List (List ℕ)) (n : ℕ) (line : List ℕ) (jobs new_jobs : List Ids) (old new : List Fact)
+pub takes_line : (all : List (List ℕ)) (n : ℕ) (line : List ℕ) (jobs new_jobs : List JobId) (old new : List Fact)
     → (n < length all) × (line ≡ get_or all n line)
     → Gathers (take n all) jobs old → Adds line jobs old new_jobs new → Gathers (take (n + 1) all) new_jobs new
 takes_line all n line jobs new_jobs old new here before adds =
     let more = take_more all n line here.0 ∙ ap (λ (l : List ℕ). take n all ++ l ∷ []) (sym here.1) in
     subst (λ (ls : List (List ℕ)). Gathers ls new_jobs new) (sym more) (gathers_more (take n all) line jobs new_jobs old new before adds)
 
-pub line_at_fault : (text : List ℕ) (n number : ℕ) (line : List ℕ) (fault : LinesFault) (jobs : List Ids) (old : List Fact)
+pub line_at_fault : (text : List ℕ) (n number : ℕ) (line : List ℕ) (fault : FactLinesFault) (jobs : List JobId) (old : List Fact)
     → (n < length (lines text)) × (line ≡ get_or (lines text) n line) → number ≡ n + 1 → Gathers (take n (lines text)) jobs old
     → IsLineFault number line fault → IsFault text fault
 line_at_fault text n number line fault jobs old here is before wrong =
@@ -182,7 +182,7 @@ line_at_fault text n number line fault jobs old here is before wrong =
       wrong = subst (λ (m : ℕ). IsLineFault m line fault) (is ∙ ap (λ m. m + 1) (sym len)) wrong;
     }
 
-pub all_lines : (text : List ℕ) (n : ℕ) (jobs : List Ids) (facts : List Fact) → n ≡ length (lines text)
+pub all_lines : (text : List ℕ) (n : ℕ) (jobs : List JobId) (facts : List Fact) → n ≡ length (lines text)
     → Gathers (take n (lines text)) jobs facts → Gathers (lines text) jobs facts
 all_lines text n jobs facts is whole =
     subst (λ (ls : List (List ℕ)). Gathers ls jobs facts) (take_all n (lines text) (omega (arith, is))) whole

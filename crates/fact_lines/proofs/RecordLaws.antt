@@ -9,7 +9,7 @@ use Rattle.tile_fact.specs.Bodies.{kind, numbers}
 use Rattle.tile_fact.specs.declared.body.Body.{Body}
 use Rattle.tile_fact.specs.declared.body.Body.TheVariants.{Tile, Partial}
 use Rattle.tile_fact.specs.declared.fact.Fact.{Fact}
-use Rattle.identity.specs.declared.job_ids.Ids.{Ids}
+use Rattle.identity.specs.declared.job_ids.JobId.{JobId}
 use Rattle.tile_fact.specs.FactFile.{key_bytes, number_bytes, body_bytes, fact_record, magic, retired_magic, head_of, ids_bytes}
 use Rattle.write_buffer.specs.Passing.{Passes, Breaks, Puts}
 use Rattle.write_buffer.proofs.HexLaws.{breaks_digits_front, lower_all, puts_digits_then}
@@ -97,31 +97,31 @@ counted_then r spelled have want ys was mid waits a b c n m k same first second 
 
 -- ---- the head of a file
 
-pub head_none : (retired : List Ids) → length retired ≡ 0 → head_of retired ≡ magic
+pub head_none : (retired : List JobId) → length retired ≡ 0 → head_of retired ≡ magic
 head_none [] none = refl
 head_none (i ∷ more) none = absurd (omega arith)
 
 -- the magic and the count
-abbrev pub head_front : List Ids → List ℕ
+abbrev pub head_front : List JobId → List ℕ
 head_front retired = retired_magic ++ to_be_bytes w32 (length retired)
 
-pub head_some : (retired : List Ids) → 0 < length retired → head_of retired ≡ head_front retired ++ flat_map ids_bytes retired
+pub head_some : (retired : List JobId) → 0 < length retired → head_of retired ≡ head_front retired ++ flat_map ids_bytes retired
 head_some [] some = absurd (omega arith)
 head_some (i ∷ more) some = refl
 
-pub front_is : (retired : List Ids) (count : ℕ) (bytes : List ℕ) → bytes ≡ to_be_bytes w32 count → count ≡ length retired
+pub front_is : (retired : List JobId) (count : ℕ) (bytes : List ℕ) → bytes ≡ to_be_bytes w32 count → count ≡ length retired
     → retired_magic ++ (bytes ++ []) ≡ head_front retired
 front_is retired count bytes same is =
     ap (λ (l : List ℕ). retired_magic ++ l) (append-nil bytes ∙ same ∙ ap (to_be_bytes w32) is)
 
-pub head_breaks : (retired : List Ids) (count : ℕ) (bytes was : List ℕ) (a b : Option (List ℕ)) (n m : ℕ) → 0 < length retired
+pub head_breaks : (retired : List JobId) (count : ℕ) (bytes was : List ℕ) (a b : Option (List ℕ)) (n m : ℕ) → 0 < length retired
     → bytes ≡ to_be_bytes w32 count → count ≡ length retired → Breaks (encode_lower (retired_magic ++ (bytes ++ []))) was a b n m
     → Breaks (encode_lower (head_of retired)) was a b n m
 head_breaks retired count bytes was a b n m some same is first =
     subst (λ (l : List ℕ). Breaks (encode_lower l) was a b n m) (sym (head_some retired some))
     (counted_breaks ids_bytes _ (head_front retired) retired was a b n m (front_is retired count bytes same is) first)
 
-pub head_then : {X E : Type 0} (r : Result X E) (retired : List Ids) (count : ℕ) (bytes was mid waits : List ℕ)
+pub head_then : {X E : Type 0} (r : Result X E) (retired : List JobId) (count : ℕ) (bytes was mid waits : List ℕ)
     (a b c : Option (List ℕ)) (n m k : ℕ) → 0 < length retired
     → bytes ≡ to_be_bytes w32 count → count ≡ length retired → Passes (encode_lower (retired_magic ++ (bytes ++ []))) was mid a b n m
     → Puts r (flat_map (λ job. encode_lower (ids_bytes job)) retired) mid waits b c m k

@@ -13,7 +13,7 @@ use Rattle.std.specs.declared.cmp.Ordering.TheVariants.{Less, Equal, Greater}
 use Rattle.std.specs.List.{Any, AllByRecursion, Contains}
 use Rattle.std.specs.List.Sorted.{IsStrictlySortedBy}
 use Rattle.std.specs.Ordering.{eq_by_cmp, is_eq, nat_cmp, ordering_then}
-use Rattle.identity.specs.declared.job_ids.Ids.{Ids}
+use Rattle.identity.specs.declared.job_ids.JobId.{JobId}
 use Rattle.identity.specs.Keys.{ids_in, ids_cmp}
 use Rattle.tile_fact.specs.declared.fact.Fact.{Fact}
 use Rattle.tile_fact.specs.FactFile.{is_retired}
@@ -22,9 +22,6 @@ use Rattle.tile_fact.proofs.OrderLaws.{same_fact}
 use Rattle.tile_fact.proofs.PairLaws.{ids_order}
 use Rattle.fact_lines.specs.inside.Gathering.{Gathers}
 use Rattle.fact_lines.specs.Texts.{IsJoin, AreRetiredOn, IsFactOn, lines}
-
-pub any_as : {X : Type 0} (P Q : X → Type 0) → ((x : X) → P x → Q x) → (xs : List X) → Any P xs → Any Q xs
-any_as P Q more xs (k, x, within, at, p) = (k, x, within, at, more x p)
 
 is_equal : (o : Ordering) → is_eq o ≡ true → o ≡ Equal
 is_equal Less h = cc
@@ -38,10 +35,10 @@ tied Less b h = cc
 tied Equal b h = (refl, h)
 tied Greater b h = cc
 
-one_pair : (a b : Ids) → a.program ≡ b.program → a.input ≡ b.input → a ≡ b
+one_pair : (a b : JobId) → a.program ≡ b.program → a.input ≡ b.input → a ≡ b
 one_pair a b p q i = record { program = p i; input = q i }
 
-same_ids : (a b : Ids) → ids_cmp a b ≡ Equal → a ≡ b
+same_ids : (a b : JobId) → ids_cmp a b ≡ Equal → a ≡ b
 same_ids a b h =
     let parts = tied (slice_cmp nat_cmp a.program b.program) _ h in one_pair a b (exact_bytes _ _ parts.0) (exact_bytes _ _ parts.1)
 
@@ -111,14 +108,14 @@ only_one true h k = cc
 only_one false h k = cc
 
 module _
-    (text : List ℕ) (old_jobs jobs : List Ids) (old sorted facts : List Fact) (gathered : Gathers (lines text) old_jobs old)
+    (text : List ℕ) (old_jobs jobs : List JobId) (old sorted facts : List Fact) (gathered : Gathers (lines text) old_jobs old)
     (ids : IsSortedOnce ids_cmp old_jobs jobs) (all : IsSortedOnce fact_cmp old sorted)
     (left : facts ≡ filter (λ fact. not (is_retired jobs fact)) sorted)
   where
     live : Fact → Bool
     live fact = not (is_retired jobs fact)
 
-    retired_here : (i : Ids) → Contains jobs i ↔ AreRetiredOn (lines text) i
+    retired_here : (i : JobId) → Contains jobs i ↔ AreRetiredOn (lines text) i
     retired_here i = (
       (λ has. (gathered.same_ids i).0 (ids.none_new i has)),
       λ on. has_it ids_cmp same_ids jobs i (ids.kept i ((gathered.same_ids i).1 on)),

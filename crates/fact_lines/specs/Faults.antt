@@ -1,8 +1,8 @@
 -- Why a text is not one of fact files: its first bad line.
 use Rattle.std.specs.List.{All}
 use Rattle.std.specs.Prelude.{◌≡◌, ◌≢◌, ℕ, ◌+◌, List, [], ◌∷◌, ◌++◌, length}
-use Rattle.fact_lines.specs.declared.fault.LinesFault.{LinesFault}
-use Rattle.fact_lines.specs.declared.fault.LinesFault.TheVariants.{BadHex, BadFile, Memory}
+use Rattle.fact_lines.specs.declared.fault.FactLinesFault.{FactLinesFault}
+use Rattle.fact_lines.specs.declared.fault.FactLinesFault.TheVariants.{BadHex, BadFile, Memory}
 use Rattle.fact_lines.specs.Texts.{lines, IsDigitsOf, IsGoodLine}
 use Rattle.tile_fact.specs.declared.fault.FactFault.{FactFault}
 use Rattle.tile_fact.specs.declared.fault.FactFault.TheVariants as files
@@ -25,13 +25,13 @@ pub record IsBadFile (line : List ℕ) (fault : FactFault) : Type 0 where
   pub told : fault ≢ files.Memory
 
 -- what is wrong with the line of this number; memory is refused only for digits
-abbrev pub IsLineFault : ℕ → List ℕ → LinesFault → Type 0
+abbrev pub IsLineFault : ℕ → List ℕ → FactLinesFault → Type 0
 IsLineFault number line (BadHex at) = (at ≡ number) × IsBadHex line
 IsLineFault number line (BadFile at fault) = (at ≡ number) × IsBadFile line fault
 IsLineFault number line Memory = AreDigits line
 
 -- a line of the text that is at fault, while each line before it is good; lines are counted from 1
-pub record IsFault (text : List ℕ) (fault : LinesFault) : Type 0 where
+pub record IsFault (text : List ℕ) (fault : FactLinesFault) : Type 0 where
   pub before : List (List ℕ)
   pub line : List ℕ
   pub behind : List (List ℕ)

@@ -1,11 +1,11 @@
 //! What fact files hold.
 
-use identity::Ids;
+use identity::JobId;
 use tile_fact::Fact;
 
 /// Identities of retired jobs, and facts.
 #[derive(Debug, Drop)]
-pub struct Contents {
-    pub retired: Vec<Ids>,
+pub struct FactFileContents {
+    pub retired: Vec<JobId>,
     pub facts: Vec<Fact>,
 }

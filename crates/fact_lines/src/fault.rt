@@ -8,7 +8,7 @@ use tile_fact::FactFault;
 
 /// The first fault of a text, by the number of its line. Lines are counted from 1, empty ones too.
 #[derive(Clone, Copy, Debug, PartialEq, Eq, Error)]
-pub enum LinesFault {
+pub enum FactLinesFault {
     /// The line is not empty, and is not hexadecimal digits, two for each byte.
     #[error("line {line}: bad hex")]
     BadHex { line: usize },
@@ -21,13 +21,13 @@ pub enum LinesFault {
     Memory,
 }
 
-impl From<AllocError> for LinesFault {
+impl From<AllocError> for FactLinesFault {
     ghost use Rattle.std.specs.Prelude.{◌≡◌};
-    ghost use Rattle.fact_lines.specs.declared.fault.LinesFault.TheVariants.{Memory};
+    ghost use Rattle.fact_lines.specs.declared.fault.FactLinesFault.TheVariants.{Memory};
 
     ghost from_gives = { λ _ fault. fault ≡ Memory };
 
-    fn from(_fault: AllocError) -> LinesFault {
-        LinesFault::Memory
+    fn from(_fault: AllocError) -> FactLinesFault {
+        FactLinesFault::Memory
     }
 }

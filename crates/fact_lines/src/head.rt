@@ -6,16 +6,16 @@ ghost use Rattle.std.specs.Prelude.{◌≡◌, length};
 ghost use Rattle.tile_fact.specs.FactFile.{head_of, ids_bytes};
 ghost use Rattle.write_buffer.specs.Passing.{Puts};
 
-use identity::Ids;
+use identity::JobId;
 use streams::{Sink, WriteFailed};
 use write_buffer::WriteBuffer;
 
 /// Puts the digits of the magic, and of the retired jobs where there are any.
-pub fn put_hex_head<W: Sink>(
+pub fn put_hex_fact_file_head<W: Sink>(
     buffer: &mut WriteBuffer,
     writer: &mut W,
     count: u32,
-    retired: &[Ids],
+    retired: &[JobId],
 ) -> Result<(), WriteFailed>
     requires { count ≡ length retired.now }
     ensures { Puts result (encode_lower (head_of retired.now)) buffer.old buffer.new
@@ -25,34 +25,34 @@ pub fn put_hex_head<W: Sink>(
     if retired.is_empty() {
         buffer.put_hex(writer, b"PTF1")
     } else {
-        buffer.put_hex_parts(writer, &[b"PTF2", &count.to_be_bytes()])?;
-        put_hex_jobs(buffer, writer, retired)
+        buffer.put_hex_slices(writer, &[b"PTF2", &count.to_be_bytes()])?;
+        put_hex_retired_jobs(buffer, writer, retired)
     }
 }
 
-fn put_hex_jobs<W: Sink>(
+fn put_hex_retired_jobs<W: Sink>(
     buffer: &mut WriteBuffer,
     writer: &mut W,
-    jobs: &[Ids],
+    jobs: &[JobId],
 ) -> Result<(), WriteFailed>
     ensures { Puts result (flat_map (λ job. encode_lower (ids_bytes job)) jobs.now)
         buffer.old buffer.new (W.contents writer.old) (W.contents writer.new)
         (W.failures writer.old) (W.failures writer.new) }
 {
     for job in jobs {
-        put_hex_job(buffer, writer, job)?;
+        put_hex_retired_job(buffer, writer, job)?;
     }
     Ok(())
 }
 
-fn put_hex_job<W: Sink>(
+fn put_hex_retired_job<W: Sink>(
     buffer: &mut WriteBuffer,
     writer: &mut W,
-    job: &Ids,
+    job: &JobId,
 ) -> Result<(), WriteFailed>
     ensures { Puts result (encode_lower (ids_bytes job.now)) buffer.old buffer.new
         (W.contents writer.old) (W.contents writer.new)
         (W.failures writer.old) (W.failures writer.new) }
 {
-    buffer.put_hex_parts(writer, &[job.program.as_bytes(), job.input.as_bytes()])
+    buffer.put_hex_slices(writer, &[job.program.as_bytes(), job.input.as_bytes()])
 }

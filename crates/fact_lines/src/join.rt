@@ -8,11 +8,11 @@ ghost use Rattle.fact_lines.specs.inside.Gathering.{Gathers};
 ghost use Rattle.identity.specs.Keys.{ids_cmp};
 ghost use Rattle.tile_fact.specs.FactFile.{is_retired};
 
-use crate::contents::Contents;
-use crate::distinct::sort_once;
-use crate::fault::LinesFault;
-use crate::line::add_fact_line;
-use identity::Ids;
+use crate::contents::FactFileContents;
+use crate::fault::FactLinesFault;
+use crate::line::add_fact_file_line;
+use distinct::sort_without_repeats;
+use identity::JobId;
 use std::alloc::Global;
 use tile_fact::Fact;
 
@@ -21,52 +21,52 @@ use tile_fact::Fact;
 ///
 /// Each line ends with LF or at the end of the text. It is one file in hexadecimal digits of either case, or empty and skipped. A
 /// text of no file has neither. A line's bad digits are found without any memory.
-pub fn join_fact_files(alloc: Global, text: &[u8]) -> Result<Contents, LinesFault>
+pub fn join_fact_files(alloc: Global, text: &[u8]) -> Result<FactFileContents, FactLinesFault>
     // The lists are what the text's files hold together.
     ensures found { IfOk result (λ contents. IsJoin text.now contents.retired.items contents.facts.items) }
 
     // A fault is the first one of the text, at its line; memory is refused only for a line that has no fault before it.
     ensures fault { IfErr result (IsFault text.now) }
 {
-    let Contents {
+    let FactFileContents {
         mut retired,
         mut facts,
-    } = read_fact_lines(alloc, text)?;
-    sort_once(&mut retired);
-    sort_once(&mut facts);
-    remove_facts_of_jobs(&retired, &mut facts);
-    Ok(Contents { retired, facts })
+    } = read_fact_file_lines(alloc, text)?;
+    sort_without_repeats(&mut retired);
+    sort_without_repeats(&mut facts);
+    remove_retired_facts_of_files(&retired, &mut facts);
+    Ok(FactFileContents { retired, facts })
 }
 
 // The retired jobs and the facts of all files in the order of the text.
-fn read_fact_lines(alloc: Global, text: &[u8]) -> Result<Contents, LinesFault>
+fn read_fact_file_lines(alloc: Global, text: &[u8]) -> Result<FactFileContents, FactLinesFault>
     ensures found { IfOk result
         (λ contents. Gathers (lines text.now) contents.retired.items contents.facts.items) }
     ensures fault { IfErr result (IsFault text.now) }
 {
-    let mut contents = Contents {
+    let mut contents = FactFileContents {
         retired: Vec::new(alloc),
         facts: Vec::new(alloc),
     };
     let mut number = 0;
     for line in text.split(|byte| *byte == b'\n') {
         number += 1;
-        add_fact_line(alloc, number, line, &mut contents)?;
+        add_fact_file_line(alloc, number, line, &mut contents)?;
     }
     Ok(contents)
 }
 
 // Removes the facts of these jobs, which rise, from the list.
-fn remove_facts_of_jobs(jobs: &[Ids], facts: &mut Vec<Fact>)
+fn remove_retired_facts_of_files(jobs: &[JobId], facts: &mut Vec<Fact>)
     ensures { IsStrictlySortedBy ids_cmp jobs.now
         → facts.new.items ≡ filter (λ fact. not (is_retired jobs.now fact)) facts.old.items }
 {
-    facts.retain(|fact| !has_job_of_fact(jobs, fact));
+    facts.retain(|fact| !is_retired_fact_of_files(jobs, fact));
 }
 
 // Whether the fact is of one of these jobs, if they rise.
-fn has_job_of_fact(jobs: &[Ids], fact: &Fact) -> bool
+fn is_retired_fact_of_files(jobs: &[JobId], fact: &Fact) -> bool
     ensures { IsStrictlySortedBy ids_cmp jobs.now → result ≡ is_retired jobs.now fact.now }
 {
-    jobs.binary_search(&Ids::of_key(fact.key())).is_ok()
+    jobs.binary_search(&JobId::from_key(fact.key())).is_ok()
 }

@@ -2,7 +2,6 @@
 #![tactic(auto)]
 
 mod contents;
-mod distinct;
 mod fault;
 mod head;
 mod join;
@@ -10,7 +9,9 @@ mod line;
 mod records;
 mod writing;
 
-pub use contents::Contents;
-pub use fault::LinesFault;
+pub use contents::FactFileContents;
+pub use fault::FactLinesFault;
 pub use join::join_fact_files;
-pub use writing::{FileCounts, count_contents, put_fact_line, write_fact_line};
+pub use writing::{
+    FactFileCounts, count_fact_file_contents, put_fact_file_line, write_fact_file_line,
+};

@@ -13,7 +13,7 @@ use tile_fact::{Body, Fact};
 use write_buffer::WriteBuffer;
 
 /// Puts the digits of the count of the facts and of their records.
-pub fn put_hex_facts<W: Sink>(
+pub fn put_hex_counted_facts<W: Sink>(
     buffer: &mut WriteBuffer,
     writer: &mut W,
     count: u32,
@@ -25,10 +25,10 @@ pub fn put_hex_facts<W: Sink>(
         (W.failures writer.old) (W.failures writer.new) }
 {
     buffer.put_hex(writer, &count.to_be_bytes())?;
-    put_hex_records(buffer, writer, facts)
+    put_hex_fact_records(buffer, writer, facts)
 }
 
-fn put_hex_records<W: Sink>(
+fn put_hex_fact_records<W: Sink>(
     buffer: &mut WriteBuffer,
     writer: &mut W,
     facts: &[Fact],
@@ -38,12 +38,12 @@ fn put_hex_records<W: Sink>(
         (W.failures writer.old) (W.failures writer.new) }
 {
     for fact in facts {
-        put_hex_record(buffer, writer, fact)?;
+        put_hex_fact_record(buffer, writer, fact)?;
     }
     Ok(())
 }
 
-fn put_hex_record<W: Sink>(
+fn put_hex_fact_record<W: Sink>(
     buffer: &mut WriteBuffer,
     writer: &mut W,
     fact: &Fact,
@@ -52,15 +52,15 @@ fn put_hex_record<W: Sink>(
         (W.contents writer.old) (W.contents writer.new)
         (W.failures writer.old) (W.failures writer.new) }
 {
-    put_hex_label(buffer, writer, fact)?;
+    put_hex_fact_record_label(buffer, writer, fact)?;
     match fact.body() {
-        Body::Tile(samples) => put_hex_samples(buffer, writer, samples.as_slice()),
-        Body::Partial(bins) => put_hex_bins(buffer, writer, bins.as_slice()),
+        Body::Tile(samples) => put_hex_fact_samples(buffer, writer, samples.as_slice()),
+        Body::Partial(bins) => put_hex_fact_bins(buffer, writer, bins.as_slice()),
     }
 }
 
 // What comes before the numbers.
-fn put_hex_label<W: Sink>(
+fn put_hex_fact_record_label<W: Sink>(
     buffer: &mut WriteBuffer,
     writer: &mut W,
     fact: &Fact,
@@ -74,7 +74,7 @@ fn put_hex_label<W: Sink>(
         Body::Partial(bins) => (1, bins.as_slice().len()),
     };
     let key = fact.key();
-    buffer.put_hex_parts(
+    buffer.put_hex_slices(
         writer,
         &[
             key.program.as_bytes(),
@@ -88,7 +88,7 @@ fn put_hex_label<W: Sink>(
     )
 }
 
-fn put_hex_samples<W: Sink>(
+fn put_hex_fact_samples<W: Sink>(
     buffer: &mut WriteBuffer,
     writer: &mut W,
     samples: &[i32],
@@ -103,7 +103,7 @@ fn put_hex_samples<W: Sink>(
     Ok(())
 }
 
-fn put_hex_bins<W: Sink>(
+fn put_hex_fact_bins<W: Sink>(
     buffer: &mut WriteBuffer,
     writer: &mut W,
     bins: &[i64],

@@ -5,7 +5,7 @@ use Rattle.std.proofs.lemmas.Bool.{true≢false}
 use Rattle.std.proofs.lemmas.List.Folds.{list_any-append}
 use Rattle.std.specs.List.{list_any}
 use Rattle.std.specs.Ordering.{eq_by_cmp}
-use Rattle.identity.specs.declared.job_ids.Ids.{Ids}
+use Rattle.identity.specs.declared.job_ids.JobId.{JobId}
 use Rattle.identity.specs.Keys.{ids_cmp, ids_in}
 use Rattle.tile_fact.specs.declared.fact.Fact.{Fact}
 use Rattle.tile_fact.specs.Order.{fact_cmp}
@@ -17,11 +17,11 @@ use Rattle.fact_store.proofs.SortedLaws.{facts_in-set_of, holds-set_of}
 use Rattle.fact_store.proofs.RemoveLaws.{rises_filter, set_of-stays, stays}
 
 -- the facts of the set that are of these jobs, rising
-abbrev pub of_jobs : FactSet → List Ids → List Fact
+abbrev pub of_jobs : FactSet → List JobId → List Fact
 of_jobs s jobs = filter (λ f. names_one jobs f.key) (facts_in s)
 
 -- no fact of the set is of these jobs
-abbrev pub HasNone : FactSet → List Ids → Type 0
+abbrev pub HasNone : FactSet → List JobId → Type 0
 HasNone s jobs = (f : Fact) → holds s f ≡ true → names_one jobs f.key ≡ false
 
 -- lists that rise and have the same are one
@@ -35,7 +35,7 @@ same_list xs ys h k same =
 set_of-facts_in : (s : FactSet) → set_of (facts_in s) ≡ s
 set_of-facts_in s = same_set _ _ (λ g. holds-set_of (facts_in s) g (rises-facts_in s) ∙ sym (holds-facts_in s g))
 
-pub facts_in-without : (s : FactSet) (jobs : List Ids) → facts_in (without s jobs) ≡ filter (stays jobs) (facts_in s)
+pub facts_in-without : (s : FactSet) (jobs : List JobId) → facts_in (without s jobs) ≡ filter (stays jobs) (facts_in s)
 facts_in-without s jobs =
     ap (λ t. facts_in (without t jobs)) (sym (set_of-facts_in s))
     ∙ ap facts_in (sym (set_of-stays jobs (facts_in s) (rises-facts_in s)))
@@ -66,8 +66,8 @@ in_other false true true false h k = refl
 in_other false true false false h k = refl
 in_other false false x y h k = refl
 
-module _ (old other : FactSet) (ours theirs : List Ids) (own : HasNone old ours) (their : HasNone other theirs) where
-  abbrev jobs : List Ids
+module _ (old other : FactSet) (ours theirs : List JobId) (own : HasNone old ours) (their : HasNone other theirs) where
+  abbrev jobs : List JobId
   jobs = ours ++ theirs
 
   -- what a join adds of retired jobs are the other's facts of jobs that are retired here

@@ -9,7 +9,7 @@ use Rattle.std.specs.Prelude.{◌≡◌, ℕ, ℤ, Bool, true, not, List, [], �
 use Rattle.std.proofs.Common.{inl, inr}
 use Rattle.identity.specs.declared.key.Key.{Key}
 use Rattle.identity.specs.Keys.{key_cmp, ids_cmp, ids_in}
-use Rattle.identity.specs.declared.job_ids.Ids.{Ids}
+use Rattle.identity.specs.declared.job_ids.JobId.{JobId}
 use Rattle.tile_fact.specs.declared.body.Body.{Body}
 use Rattle.tile_fact.specs.declared.body.Body.TheVariants.{Tile, Partial}
 use Rattle.tile_fact.specs.declared.fact.Fact.{Fact}
@@ -66,11 +66,11 @@ facts_of s key = filter (λ f. same_key key f.key) (facts_in s)
 -- ---- jobs
 
 -- whether a key names a tile of one of these jobs
-abbrev pub names_one : List Ids → Key → Bool
+abbrev pub names_one : List JobId → Key → Bool
 names_one jobs key = list_any (eq_by_cmp ids_cmp (ids_in key)) jobs
 
 -- the set without the facts of these jobs
-unfoldable pub without : FactSet → List Ids → FactSet
+unfoldable pub without : FactSet → List JobId → FactSet
 without s jobs = map.retain_keys s (λ f. not (names_one jobs f.key))
 
 -- ---- from fact to fact

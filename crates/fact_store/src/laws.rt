@@ -1,7 +1,7 @@
 //! Consequences of the definitions, proved once for dependent crates. A law is a function whose clauses are the law.
 
 ghost use Rattle.fact_store.specs.Facts.{FactSet, nothing, holds, facts_in, with_fact, join, IsSubset, lacked, facts_of, names_one, without};
-ghost use Rattle.identity.specs.declared.job_ids.Ids.{Ids};
+ghost use Rattle.identity.specs.declared.job_ids.JobId.{JobId};
 ghost use Rattle.identity.specs.declared.key.Key.{Key};
 ghost use Rattle.std.specs.List.{Contains};
 ghost use Rattle.std.specs.Prelude.{◌≡◌, ◌↔◌, ◌⊎◌, ◌+◌, ◌++◌, true, false, List, length, filter};
@@ -52,7 +52,7 @@ pub fn order_of_facts_is_forgotten()
 /// Of what a merge adds, the facts of jobs that either side has retired are left out. Those are the other's facts of jobs that
 /// are retired here.
 pub fn merges_count_new_facts()
-    ensures { (old other : FactSet) (ours theirs : List Ids)
+    ensures { (old other : FactSet) (ours theirs : List JobId)
         → ((f : Fact) → holds old f ≡ true → names_one ours f.key ≡ false)
         → ((f : Fact) → holds other f ≡ true → names_one theirs f.key ≡ false)
         → length (lacked old (without (join old other) (ours ++ theirs)))

@@ -6,6 +6,6 @@ mod sorted;
 mod store;
 mod tables;
 
-pub use sorted::{SortedFacts, has_job_of_key};
+pub use sorted::{SortedFacts, is_fact_key_of_jobs};
 pub use store::FactStore;
 pub use tables::TableFacts;

@@ -4,7 +4,7 @@ ghost use Rattle.fact_store.specs.Facts.{FactSet, nothing, with_fact, join, hold
 ghost use Rattle.std.specs.Option.{option_copied};
 ghost use Rattle.std.specs.Prelude.{◌≡◌, ◌<◌, ◌^◌, OnOk, OnErr, IfOk, IfErr, length, slice_get, not, false};
 
-use identity::{Ids, Key};
+use identity::{JobId, Key};
 use std::alloc::{AllocError, AllocFailed, Global};
 use tile_fact::Fact;
 
@@ -41,7 +41,7 @@ pub trait FactStore: Drop + Sized {
         ensures unchanged { OnErr result (content self.new ≡ content self.old) };
 
     /// Removes the facts of the tiles of these jobs. No memory is allocated.
-    fn remove_facts_of_jobs(&mut self, jobs: &[Ids])
+    fn remove_facts_of_jobs(&mut self, jobs: &[JobId])
         ensures { content self.new ≡ without (content self.old) jobs.now };
 
     /// How many facts of a key there are.
@@ -49,14 +49,14 @@ pub trait FactStore: Drop + Sized {
         ensures { result ≡ length (facts_of (content self.now) key.now) };
 
     /// The fact of a key that has exactly `n` facts of the key below it.
-    fn find_nth_fact(&self, key: &Key, n: usize) -> Option<&Fact>
+    fn find_nth_fact_of_key(&self, key: &Key, n: usize) -> Option<&Fact>
         ensures { option_copied result ≡ slice_get (facts_of (content self.now) key.now) n };
 
     /// The least fact.
-    fn find_least_fact(&self) -> Option<&Fact>
+    fn find_least_fact_of_all_keys(&self) -> Option<&Fact>
         ensures { option_copied result ≡ least (content self.now) };
 
     /// The least fact above a given one, which need not be in the store.
-    fn find_least_above(&self, fact: &Fact) -> Option<&Fact>
+    fn find_least_fact_above(&self, fact: &Fact) -> Option<&Fact>
         ensures { option_copied result ≡ least_above (content self.now) fact.now };
 }

@@ -9,9 +9,12 @@ ghost use Rattle.std.specs.Ordering.{eq_by_cmp};
 ghost use Rattle.std.specs.Prelude.{◌≡◌, ◌≤◌, ◌<◌, ◌^◌, true, false, not, IfOk, IfErr, IfSome, IfNone, OnOk, OnErr, length, slice_get, insert};
 ghost use Rattle.tile_fact.specs.Order.{fact_cmp};
 
-use crate::sorted::{count_facts_through, get_fact, has_job_of_key, push_fact_copies, search_fact};
+use crate::sorted::{
+    count_facts_not_above, find_fact_place, get_fact_at_index, is_fact_key_of_jobs,
+    push_fact_copies,
+};
 use crate::store::FactStore;
-use identity::{Ids, Key};
+use identity::{JobId, Key};
 use std::alloc::{AllocError, AllocFailed, Global};
 use std::collections::BTreeMap;
 use std::marker::Model;
@@ -112,39 +115,39 @@ impl FactStore for TableFacts {
     // The facts of the other store are added in their order. If memory runs out, what was added is removed again.
     fn join_facts(&mut self, other: &TableFacts) -> Result<usize, AllocError> {
         let mut undo = Vec::new(self.alloc);
-        match self.add_tables_with_undo(&other.tables, &mut undo) {
+        match self.add_fact_tables_with_undo(&other.tables, &mut undo) {
             Ok(new) => Ok(new),
             Err(fault) => {
-                restore_entries(&mut self.tables, undo);
+                restore_facts_of_keys(&mut self.tables, undo);
                 Err(fault)
             }
         }
     }
 
-    fn remove_facts_of_jobs(&mut self, jobs: &[Ids]) {
-        self.tables.retain(|key, _| !has_job_of_key(jobs, key));
+    fn remove_facts_of_jobs(&mut self, jobs: &[JobId]) {
+        self.tables.retain(|key, _| !is_fact_key_of_jobs(jobs, key));
     }
 
     fn count_facts_of_key(&self, key: &Key) -> usize {
         self.find_facts_of_key(key).len()
     }
 
-    fn find_nth_fact(&self, key: &Key, n: usize) -> Option<&Fact> {
-        get_fact(self.find_facts_of_key(key), n)
+    fn find_nth_fact_of_key(&self, key: &Key, n: usize) -> Option<&Fact> {
+        get_fact_at_index(self.find_facts_of_key(key), n)
     }
 
-    fn find_least_fact(&self) -> Option<&Fact> {
+    fn find_least_fact_of_all_keys(&self) -> Option<&Fact> {
         match self.tables.first_key_value() {
-            Some((_, table)) => get_fact(table.as_slice(), 0),
+            Some((_, table)) => get_fact_at_index(table.as_slice(), 0),
             None => None,
         }
     }
 
-    fn find_least_above(&self, fact: &Fact) -> Option<&Fact> {
+    fn find_least_fact_above(&self, fact: &Fact) -> Option<&Fact> {
         let facts = self.find_facts_of_key(fact.key());
-        match get_fact(facts, count_facts_through(facts, fact)) {
+        match get_fact_at_index(facts, count_facts_not_above(facts, fact)) {
             Some(next) => Some(next),
-            None => self.find_least_after_key(fact.key()),
+            None => self.find_least_fact_above_key(fact.key()),
         }
     }
 }
@@ -162,13 +165,13 @@ impl TableFacts {
     }
 
     // The least fact of the keys above the key.
-    fn find_least_after_key(&self, key: &Key) -> Option<&Fact>
+    fn find_least_fact_above_key(&self, key: &Key) -> Option<&Fact>
         ensures { option_copied result
             ≡ slice_get (all_facts (tables_above key.now self.now.tables.entries)) 0 }
     {
         let above = (Bound::Excluded(*key), Bound::Unbounded);
         match self.tables.range(above).next() {
-            Some((_, table)) => get_fact(table.as_slice(), 0),
+            Some((_, table)) => get_fact_at_index(table.as_slice(), 0),
             None => None,
         }
     }
@@ -188,7 +191,7 @@ impl TableFacts {
         ensures unchanged { OnErr result (self.new.tables.entries ≡ self.old.tables.entries) }
     {
         let facts = self.find_facts_of_key(fact.key());
-        let Err(at) = search_fact(facts, fact) else {
+        let Err(at) = find_fact_place(facts, fact) else {
             return Ok(None);
         };
         let table = KeyFacts::from_insertion(self.alloc, facts, at, fact)?;
@@ -197,7 +200,7 @@ impl TableFacts {
     }
 
     // Adds a copy of a fact, and returns whether it is new. The former entry of its key is noted.
-    fn add_copy_with_undo(
+    fn add_fact_copy_with_undo(
         &mut self,
         fact: &Fact,
         undo: &mut Vec<(Key, Option<KeyFacts>)>,
@@ -220,7 +223,7 @@ impl TableFacts {
     }
 
     // Adds copies of facts, and returns how many are new. If memory runs out, some are added.
-    fn add_copies_with_undo(
+    fn add_fact_copies_with_undo(
         &mut self,
         facts: &[Fact],
         undo: &mut Vec<(Key, Option<KeyFacts>)>,
@@ -235,14 +238,14 @@ impl TableFacts {
     {
         let mut new: usize = 0;
         for fact in facts {
-            new += usize::from(self.add_copy_with_undo(fact, undo)?);
+            new += usize::from(self.add_fact_copy_with_undo(fact, undo)?);
         }
         Ok(new)
     }
 
     // Adds copies of the facts of tables, and returns how many are new. Facts that are too many to count would not fit into
     // memory.
-    fn add_tables_with_undo(
+    fn add_fact_tables_with_undo(
         &mut self,
         tables: &BTreeMap<Key, KeyFacts>,
         undo: &mut Vec<(Key, Option<KeyFacts>)>,
@@ -258,7 +261,7 @@ impl TableFacts {
     {
         let mut new: usize = 0;
         for (_, table) in tables {
-            let more = self.add_copies_with_undo(table.as_slice(), undo)?;
+            let more = self.add_fact_copies_with_undo(table.as_slice(), undo)?;
             new = new.checked_add(more).ok_or(AllocError)?;
         }
         if new > isize::MAX as usize {
@@ -269,7 +272,7 @@ impl TableFacts {
 }
 
 // Restores the former entry of a key.
-fn restore_entry(tables: &mut BTreeMap<Key, KeyFacts>, key: &Key, former: Option<KeyFacts>)
+fn restore_facts_of_key(tables: &mut BTreeMap<Key, KeyFacts>, key: &Key, former: Option<KeyFacts>)
     ensures { tables.new.entries ≡ undo_one (key.now, former) tables.old.entries }
 {
     match former {
@@ -285,11 +288,11 @@ fn restore_entry(tables: &mut BTreeMap<Key, KeyFacts>, key: &Key, former: Option
 }
 
 // Undoes changes, from the last on.
-fn restore_entries(tables: &mut BTreeMap<Key, KeyFacts>, undo: Vec<(Key, Option<KeyFacts>)>)
+fn restore_facts_of_keys(tables: &mut BTreeMap<Key, KeyFacts>, undo: Vec<(Key, Option<KeyFacts>)>)
     ensures { tables.new.entries ≡ undone undo.items tables.old.entries }
 {
     let mut rest = undo;
     while let Some((key, former)) = rest.pop() {
-        restore_entry(tables, &key, former);
+        restore_facts_of_key(tables, &key, former);
     }
 }

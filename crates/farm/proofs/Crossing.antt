@@ -19,21 +19,21 @@ use Rattle.operators.specs.contracts.operator.Relation as Relation
 use Rattle.operators.specs.contracts.operator.TernaryOp as TernaryOp
 use Rattle.operators.specs.contracts.operator.UnaryOp as UnaryOp
 use Rattle.operators.specs.contracts.point_test.Axis as Axis
-use Rattle.tables.specs.contracts.entries.Entries as Entries
+use Rattle.tables.specs.contracts.entries.TableEntries as Entries
 use Rattle.tables.specs.contracts.table.Table as Table
 use Rattle.catalog.specs.contracts.catalog.Catalog as Catalog
-use Rattle.farm.proofs.hand.Hand.TheSendSync as Hand
+use Rattle.farm.proofs.hand.WorkerSeat.TheSendSync as WorkerSeat
 use Rattle.leases.proofs.live.LiveDesk.TheSendSync as Desk
 use Rattle.leases.specs.contracts.live.LiveDesk as LiveDesk
-use Rattle.posts.proofs.line.Line.TheSendSync as Line'
-use Rattle.posts.specs.contracts.line.Line as Line
+use Rattle.posts.proofs.line.MailboxPort.TheSendSync as MailboxPort'
+use Rattle.posts.specs.contracts.line.MailboxPort as MailboxPort
 use Rattle.std.specs.contracts.marker.PhantomData as PhantomData
 use Rattle.farm_setup.specs.contracts.setup.FarmSetup as FarmSetup
-use Rattle.farm.specs.contracts.worker.Worker as Worker
-use Rattle.farm_work.specs.contracts.work.Work as Work
+use Rattle.farm.specs.contracts.worker.FarmWorker as FarmWorker
+use Rattle.farm_work.specs.contracts.work.FarmWork as Work
 use Rattle.grouping.specs.contracts.schedule.Schedule as Schedule
 use Rattle.identity.specs.contracts.key.Key as Key
-use Rattle.named_catalogs.specs.declared.NamedCatalog.{Ghosts}
+use Rattle.catalog.specs.declared.named_catalog.NamedCatalog.{Ghosts}
 use Rattle.job.specs.contracts.bound_pipeline.BoundPipeline as BoundPipeline
 use Rattle.job.specs.contracts.formula.Formula as Formula
 use Rattle.job.specs.contracts.job.Job as Job
@@ -174,8 +174,8 @@ module _ (a : NamedLft) (T : RattleType) (g : Ghosts T.Denot) where
     ),
   )
 
-  pub worker_send : IsSend (Worker.the_row a T g)
-  worker_send = declared_send (Worker.the_type a T g) (
+  pub worker_send : IsSend (FarmWorker.the_row a T g)
+  worker_send = declared_send (FarmWorker.the_type a T g) (
     as_row_send u8-field (search sendable),
     (
       as_row_send u8-field (search sendable),
@@ -183,7 +183,7 @@ module _ (a : NamedLft) (T : RattleType) (g : Ghosts T.Denot) where
         setup_send,
         (
           reference_send a (Work.the_row a T g) tt work_sync,
-          (reference_send a LiveDesk.the_row tt Desk.the_sync, (Hand.the_send a T g, (owners.Vec-send (Line.the_row a T g) (Line'.the_send a T g), tt))),
+          (reference_send a LiveDesk.the_row tt Desk.the_sync, (WorkerSeat.the_send a T g, (owners.Vec-send (MailboxPort.the_row a T g) (MailboxPort'.the_send a T g), tt))),
         ),
       ),
     ),

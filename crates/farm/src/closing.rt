@@ -9,12 +9,12 @@ ghost use Rattle.live_nodes.specs.Ends.{HaveAllReceipts, IsSomeCloseFault};
 ghost use Rattle.live_nodes.specs.declared.fault.CloseFault.{CloseFault};
 
 use crate::fault::FarmFault;
-use crate::hand::End;
-use crate::node::{Node, WORKERS};
+use crate::hand::WorkerReceipts;
+use crate::node::{FarmNode, WORKERS};
+use catalog::NamedCatalog;
 use held_facts::{HeldFacts, LendFault};
 use identity::Key;
 use live_nodes::{ClosedNode, LiveNode, Receipt, Seat};
-use named_catalogs::NamedCatalog;
 use std::alloc::{AllocError, Global};
 use std::vec;
 
@@ -23,28 +23,31 @@ use std::vec;
 /// # Errors
 ///
 /// `Close` where receipts do not match a node's history, before `Memory` of a worker.
-pub fn close_nodes<C: NamedCatalog>(
+pub fn close_nodes_and_check_memory<C: NamedCatalog>(
     alloc: Global,
-    nodes: Vec<Node<C>>,
-    ends: Vec<End>,
+    nodes: Vec<FarmNode<C>>,
+    ends: Vec<WorkerReceipts>,
 ) -> Result<Vec<ClosedNode>, FarmFault>
     ensures sound { IfOk result (λ closed. All (IsSoundEnd C.catalog) closed.items) }
     ensures count { IfOk result (λ closed. length closed.items ≡ length nodes.items) }
     ensures memory { IfOk result (λ _. list_any (λ end. end.memory) ends.items ≡ false) }
 {
-    let memory = has_memory_fault(&ends);
-    add_memory_fault(memory, close_each_node(alloc, nodes, ends))
+    let memory = has_worker_memory_fault(&ends);
+    add_worker_memory_fault(memory, close_each_farm_node(alloc, nodes, ends))
 }
 
 // Whether one of these workers ran out of memory.
-fn has_memory_fault(ends: &[End]) -> bool
+fn has_worker_memory_fault(ends: &[WorkerReceipts]) -> bool
     ensures { result ≡ list_any (λ end. end.memory) ends.now }
 {
     ends.iter().any(|end| end.memory)
 }
 
 // The result of closing all nodes, by whether some worker ran out of memory.
-fn add_memory_fault<T: Drop>(memory: bool, closing: Result<T, FarmFault>) -> Result<T, FarmFault>
+fn add_worker_memory_fault<T: Drop>(
+    memory: bool,
+    closing: Result<T, FarmFault>,
+) -> Result<T, FarmFault>
     ensures told { result ≡ result_of_closing memory closing }
     ensures none { IfOk result (λ _. memory ≡ false) }
 {
@@ -56,10 +59,10 @@ fn add_memory_fault<T: Drop>(memory: bool, closing: Result<T, FarmFault>) -> Res
 }
 
 // Closes each node with the receipts of its workers, whether or not these ran out of memory.
-fn close_each_node<C: NamedCatalog>(
+fn close_each_farm_node<C: NamedCatalog>(
     alloc: Global,
-    nodes: Vec<Node<C>>,
-    ends: Vec<End>,
+    nodes: Vec<FarmNode<C>>,
+    ends: Vec<WorkerReceipts>,
 ) -> Result<Vec<ClosedNode>, FarmFault>
     ensures sound { IfOk result (λ closed. All (IsSoundEnd C.catalog) closed.items) }
     ensures count { IfOk result (λ closed. length closed.items ≡ length nodes.items) }
@@ -67,8 +70,8 @@ fn close_each_node<C: NamedCatalog>(
     let mut closed: Vec<ClosedNode> = Vec::new(alloc);
     let mut rest = ends.into_iter();
     for node in nodes {
-        let mine = take_ends(alloc, &mut rest)?;
-        let one = close_node(node.live, mine)?;
+        let mine = take_worker_receipts_of_node(alloc, &mut rest)?;
+        let one = close_farm_node(node.live, mine)?;
         closed.reserve(1)?;
         closed.push_reserved(one);
     }
@@ -76,16 +79,16 @@ fn close_each_node<C: NamedCatalog>(
 }
 
 // The seats of one node's workers, with their receipts.
-fn take_ends(
+fn take_worker_receipts_of_node(
     alloc: Global,
-    rest: &mut vec::IntoIter<End>,
+    rest: &mut vec::IntoIter<WorkerReceipts>,
 ) -> Result<Vec<(Seat, Vec<Receipt>)>, AllocError>
     ensures { IfOk result (λ mine. HaveAllReceipts mine.items) }
 {
     let mut mine: Vec<(Seat, Vec<Receipt>)> = Vec::new(alloc);
     for _ in 0..WORKERS {
         if let Some(end) = rest.next() {
-            let End { seat, receipts, .. } = end;
+            let WorkerReceipts { seat, receipts, .. } = end;
             mine.reserve(1)?;
             mine.push_reserved((seat, receipts));
         }
@@ -93,7 +96,7 @@ fn take_ends(
     Ok(mine)
 }
 
-fn close_node<C: NamedCatalog>(
+fn close_farm_node<C: NamedCatalog>(
     node: LiveNode<C>,
     ends: Vec<(Seat, Vec<Receipt>)>,
 ) -> Result<ClosedNode, FarmFault>
@@ -109,7 +112,7 @@ fn close_node<C: NamedCatalog>(
 }
 
 /// The facts of the keys that any of the nodes holds at the end. A retirement at one node excludes no fact of another.
-pub fn gather_facts(
+pub fn collect_facts_of_closed_nodes(
     alloc: Global,
     keys: &[Key],
     closed: &[ClosedNode],
@@ -118,19 +121,23 @@ pub fn gather_facts(
 {
     let mut all = HeldFacts::new(alloc);
     for one in closed {
-        let lent = lend_held_facts(alloc, keys, one.state().held())?;
+        let lent = lend_facts_of_closed_node(alloc, keys, one.state().held())?;
         all.merge(&lent)?;
     }
     Ok(all)
 }
 
 // The held facts of the keys. Of some keys nothing may be held.
-fn lend_held_facts(alloc: Global, keys: &[Key], held: &HeldFacts) -> Result<HeldFacts, AllocError>
+fn lend_facts_of_closed_node(
+    alloc: Global,
+    keys: &[Key],
+    held: &HeldFacts,
+) -> Result<HeldFacts, AllocError>
     ensures { IfOk result (λ found. found ≡ lent held.now keys.now) }
 {
     let mut there = keys.to_vec(alloc)?;
     there.retain(|key| held.count_facts_of_key(key) != 0);
-    match held.lend_state(&there) {
+    match held.lend_fact_set(&there) {
         Ok(lent) => Ok(lent),
         Err(LendFault::Memory) => Err(AllocError),
         Err(LendFault::NotHeld(_)) => unreachable!(),

@@ -6,24 +6,23 @@ ghost use Rattle.farm.specs.Reports.{IsSoundEnd, all_held};
 ghost use Rattle.farm_answers.specs.Answering.{IsAnswerOf, IsPlanned, missing_work};
 ghost use Rattle.netpbm.specs.Image.{IsImage};
 
-use crate::closing::{close_nodes, gather_facts};
+use crate::closing::{close_nodes_and_check_memory, collect_facts_of_closed_nodes};
 use crate::fault::FarmFault;
-use crate::hand::{End, Hand};
-use crate::node::{Node, WORKERS, open_lines, open_nodes};
+use crate::hand::{WorkerReceipts, WorkerSeat};
+use crate::node::{FarmNode, WORKERS, open_farm_nodes, open_mailbox_ports};
 use crate::report::FarmReport;
-use crate::threads::run_tasks;
-use crate::worker::Worker;
-use catalog::Catalog;
-use farm_answers::complete_answer;
+use crate::threads::run_and_join_farm_threads;
+use crate::worker::FarmWorker;
+use catalog::{Catalog, NamedCatalog};
+use farm_answers::complete_farm_answer;
 use farm_setup::FarmSetup;
-use farm_work::{Gate, Work};
+use farm_work::{FarmWork, Gate};
 use grouping::Schedule;
 use identity::Key;
 use job::Job;
 use leases::LiveDesk;
 use live_nodes::ClosedNode;
-use named_catalogs::NamedCatalog;
-use overlap_tiles::work_keys;
+use overlap_tiles::list_work_keys;
 use std::alloc::{AllocError, Global};
 use std::marker::Brand;
 use std::sync::Wait;
@@ -61,15 +60,15 @@ impl Farm {
         let Some(asked) = catalog.job(job) else {
             unreachable!();
         };
-        let keys = work_keys(alloc, asked, schedule)?;
-        let plan = WorkPlan {
+        let keys = list_work_keys(alloc, asked, schedule)?;
+        let plan = FarmWorkPlan {
             job: asked,
             schedule,
             keys: &keys,
         };
-        let closed = run_nodes::<Brand, G, R>(rt, alloc, catalog, &plan, setup, gate)?;
-        let held = gather_facts(alloc, &keys, &closed)?;
-        let done = complete_answer(alloc, catalog, job, schedule, held)?;
+        let closed = run_farm_nodes::<Brand, G, R>(rt, alloc, catalog, &plan, setup, gate)?;
+        let held = collect_facts_of_closed_nodes(alloc, &keys, &closed)?;
+        let done = complete_farm_answer(alloc, catalog, job, schedule, held)?;
         Ok(FarmReport {
             answer: done.answer,
             closed,
@@ -80,7 +79,7 @@ impl Farm {
 
 // What is to be made, and how.
 #[derive(Clone, Copy)]
-struct WorkPlan<'a> {
+struct FarmWorkPlan<'a> {
     job: &'a Job,
     schedule: &'a Schedule,
     keys: &'a [Key],
@@ -88,18 +87,23 @@ struct WorkPlan<'a> {
 
 // What all workers share.
 #[derive(Drop)]
-struct SharedState<'a, C: NamedCatalog> {
-    work: Work<'a, C>,
+struct FarmSharedState<'a, C: NamedCatalog> {
+    work: FarmWork<'a, C>,
     desk: LiveDesk,
-    nodes: Vec<Node<C>>,
+    nodes: Vec<FarmNode<C>>,
 }
 
 // The ends of all nodes, after their workers have gone through all turns.
-fn run_nodes<'a, C: NamedCatalog + Send + Sync + 'static, G: Gate + Sync, R: Threads + Wait + Sync>(
+fn run_farm_nodes<
+    'a,
+    C: NamedCatalog + Send + Sync + 'static,
+    G: Gate + Sync,
+    R: Threads + Wait + Sync,
+>(
     rt: &R,
     alloc: Global,
     catalog: &'a Catalog,
-    plan: &WorkPlan<'a>,
+    plan: &FarmWorkPlan<'a>,
     setup: &FarmSetup,
     gate: &G,
 ) -> Result<Vec<ClosedNode>, FarmFault>
@@ -107,51 +111,56 @@ fn run_nodes<'a, C: NamedCatalog + Send + Sync + 'static, G: Gate + Sync, R: Thr
     ensures sound { IfOk result (λ closed. All (IsSoundEnd C.catalog) closed.items) }
     ensures count { IfOk result (λ closed. length closed.items ≡ setup.now.nodes) }
 {
-    let (nodes, seats) = open_nodes::<C>(alloc, catalog, setup)?;
-    let shared = SharedState {
-        work: Work::new(catalog, plan.job, plan.schedule, plan.keys),
+    let (nodes, seats) = open_farm_nodes::<C>(alloc, catalog, setup)?;
+    let shared = FarmSharedState {
+        work: FarmWork::new(catalog, plan.job, plan.schedule, plan.keys),
         desk: LiveDesk::new(alloc),
         nodes,
     };
-    let workers = make_workers(alloc, setup, &shared, seats)?;
-    let ends = run_workers(rt, alloc, workers, gate)?;
-    let SharedState { nodes, .. } = shared;
-    close_nodes(alloc, nodes, ends)
+    let workers = make_farm_workers(alloc, setup, &shared, seats)?;
+    let ends = run_farm_workers(rt, alloc, workers, gate)?;
+    let FarmSharedState { nodes, .. } = shared;
+    close_nodes_and_check_memory(alloc, nodes, ends)
 }
 
 // Runs all workers in threads of their own.
-fn run_workers<
+fn run_farm_workers<
     'a,
     C: NamedCatalog + Send + Sync + 'static,
     G: Gate + Sync,
     R: Threads + Wait + Sync,
->(rt: &R, alloc: Global, workers: Vec<Worker<'a, C>>, gate: &G) -> Result<Vec<End>, FarmFault> {
-    run_tasks(rt, alloc, workers, gate)
+>(
+    rt: &R,
+    alloc: Global,
+    workers: Vec<FarmWorker<'a, C>>,
+    gate: &G,
+) -> Result<Vec<WorkerReceipts>, FarmFault> {
+    run_and_join_farm_threads(rt, alloc, workers, gate)
 }
 
 // The workers of all nodes, before their first turn.
-fn make_workers<'a, C: NamedCatalog>(
+fn make_farm_workers<'a, C: NamedCatalog>(
     alloc: Global,
     setup: &FarmSetup,
-    shared: &'a SharedState<'a, C>,
-    seats: Vec<Vec<End>>,
-) -> Result<Vec<Worker<'a, C>>, AllocError> {
-    let mut workers: Vec<Worker<'a, C>> = Vec::new(alloc);
+    shared: &'a FarmSharedState<'a, C>,
+    seats: Vec<Vec<WorkerReceipts>>,
+) -> Result<Vec<FarmWorker<'a, C>>, AllocError> {
+    let mut workers: Vec<FarmWorker<'a, C>> = Vec::new(alloc);
     let mut number: u8 = 0;
     for (node, ends) in shared.nodes.iter().zip(seats) {
         for end in ends {
             workers.reserve(1)?;
-            workers.push_reserved(Worker {
+            workers.push_reserved(FarmWorker {
                 number,
                 home: number / WORKERS,
                 setup: *setup,
                 work: &shared.work,
                 desk: &shared.desk,
-                hand: Hand {
+                hand: WorkerSeat {
                     node: &node.live,
                     end,
                 },
-                lines: open_lines(alloc, &shared.nodes)?,
+                ports: open_mailbox_ports(alloc, &shared.nodes)?,
             });
             number = number.saturating_add(1);
         }

@@ -2,7 +2,7 @@
 
 ghost use Rattle.std.specs.Prelude.{◌≡◌};
 
-use crate::start::Refusal;
+use crate::start::ThreadRefusal;
 use fault_rows::{Fault, FaultRow, fault_row};
 use live_nodes::CloseFault;
 use std::alloc::AllocError;
@@ -13,7 +13,7 @@ use thiserror::Error;
 pub enum FarmFault {
     /// 1: a thread could not be started. Only the start of a thread makes what it holds.
     #[error("a thread could not be started")]
-    SpawnFailed(Refusal),
+    SpawnFailed(ThreadRefusal),
     /// 2: memory ran out.
     #[error("out of memory")]
     Memory,
@@ -34,12 +34,12 @@ impl Fault for FarmFault {
     }
 }
 
-impl From<Refusal> for FarmFault {
+impl From<ThreadRefusal> for FarmFault {
     ghost use Rattle.farm.specs.declared.fault.FarmFault.TheVariants.{SpawnFailed};
 
     ghost from_gives = { λ refusal fault. fault ≡ SpawnFailed refusal };
 
-    fn from(refusal: Refusal) -> FarmFault {
+    fn from(refusal: ThreadRefusal) -> FarmFault {
         FarmFault::SpawnFailed(refusal)
     }
 }

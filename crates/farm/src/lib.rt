@@ -17,4 +17,4 @@ pub use farm::Farm;
 pub use fault::FarmFault;
 pub use live_nodes::ClosedNode;
 pub use report::FarmReport;
-pub use start::Refusal;
+pub use start::ThreadRefusal;

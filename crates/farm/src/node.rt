@@ -2,12 +2,11 @@
 
 ghost use Rattle.std.specs.Prelude.{◌≡◌, All, IfOk, length};
 
-use crate::hand::End;
-use catalog::Catalog;
+use crate::hand::WorkerReceipts;
+use catalog::{Catalog, NamedCatalog};
 use farm_setup::FarmSetup;
 use live_nodes::{LiveNode, Seat};
-use named_catalogs::NamedCatalog;
-use posts::{Line, Post};
+use posts::{MailboxPort, Post};
 use std::alloc::{AllocError, Global};
 
 /// How many workers a node has.
@@ -15,39 +14,42 @@ pub const WORKERS: u8 = 2;
 
 /// A node and its mailbox.
 #[derive(Drop)]
-pub struct Node<C: NamedCatalog> {
+pub struct FarmNode<C: NamedCatalog> {
     pub live: LiveNode<C>,
     pub post: Post<C>,
 }
 
-impl<C: NamedCatalog> Node<C> {
+impl<C: NamedCatalog> FarmNode<C> {
     // A node, and the seats of its workers.
     fn open(
         alloc: Global,
         catalog: &Catalog,
         setup: &FarmSetup,
-    ) -> Result<(Node<C>, Vec<End>), AllocError>
+    ) -> Result<(FarmNode<C>, Vec<WorkerReceipts>), AllocError>
         requires { catalog.now ≡ C.catalog }
     {
         let (live, seats) = LiveNode::open(alloc, catalog, usize::from(WORKERS))?;
         let (post, _) = Post::new(alloc, catalog, setup.capacity, 0)?;
-        Ok((Node { live, post }, wrap_seats(alloc, seats)?))
+        Ok((
+            FarmNode { live, post },
+            wrap_seats_as_worker_receipts(alloc, seats)?,
+        ))
     }
 }
 
 /// All nodes, each with the seats of its workers.
-pub fn open_nodes<C: NamedCatalog>(
+pub fn open_farm_nodes<C: NamedCatalog>(
     alloc: Global,
     catalog: &Catalog,
     setup: &FarmSetup,
-) -> Result<(Vec<Node<C>>, Vec<Vec<End>>), AllocError>
+) -> Result<(Vec<FarmNode<C>>, Vec<Vec<WorkerReceipts>>), AllocError>
     requires { catalog.now ≡ C.catalog }
     ensures { IfOk result (λ opened. length opened.0.items ≡ setup.now.nodes) }
 {
-    let mut nodes: Vec<Node<C>> = Vec::new(alloc);
-    let mut ends: Vec<Vec<End>> = Vec::new(alloc);
+    let mut nodes: Vec<FarmNode<C>> = Vec::new(alloc);
+    let mut ends: Vec<Vec<WorkerReceipts>> = Vec::new(alloc);
     for _ in 0..setup.nodes {
-        let (node, mine) = Node::open(alloc, catalog, setup)?;
+        let (node, mine) = FarmNode::open(alloc, catalog, setup)?;
         nodes.reserve(1)?;
         nodes.push_reserved(node);
         ends.reserve(1)?;
@@ -56,26 +58,29 @@ pub fn open_nodes<C: NamedCatalog>(
     Ok((nodes, ends))
 }
 
-fn wrap_seats(alloc: Global, seats: Vec<Seat>) -> Result<Vec<End>, AllocError>
+fn wrap_seats_as_worker_receipts(
+    alloc: Global,
+    seats: Vec<Seat>,
+) -> Result<Vec<WorkerReceipts>, AllocError>
     requires { All (λ seat. seat ≡ 0) seats.items }
 {
-    let mut ends: Vec<End> = Vec::new(alloc);
+    let mut ends: Vec<WorkerReceipts> = Vec::new(alloc);
     for seat in seats {
         ends.reserve(1)?;
-        ends.push_reserved(End::new(alloc, seat));
+        ends.push_reserved(WorkerReceipts::new(alloc, seat));
     }
     Ok(ends)
 }
 
-/// A line to each node's mailbox.
-pub fn open_lines<'a, C: NamedCatalog>(
+/// A port to each node's mailbox.
+pub fn open_mailbox_ports<'a, C: NamedCatalog>(
     alloc: Global,
-    nodes: &'a [Node<C>],
-) -> Result<Vec<Line<'a, C>>, AllocError> {
-    let mut lines: Vec<Line<'a, C>> = Vec::new(alloc);
+    nodes: &'a [FarmNode<C>],
+) -> Result<Vec<MailboxPort<'a, C>>, AllocError> {
+    let mut ports: Vec<MailboxPort<'a, C>> = Vec::new(alloc);
     for node in nodes {
-        lines.reserve(1)?;
-        lines.push_reserved(Line::new(&node.post));
+        ports.reserve(1)?;
+        ports.push_reserved(MailboxPort::new(&node.post));
     }
-    Ok(lines)
+    Ok(ports)
 }

@@ -1,33 +1,33 @@
 //! What takes the calls of a worker of a farm.
 
-use crate::hand::{Hand, Step};
-use farm_turns::{Place, Standing};
-use farm_work::{Gate, Work};
+use crate::hand::{CheckpointStep, WorkerSeat};
+use catalog::NamedCatalog;
+use farm_turns::{KeyReadiness, WorkerPlace};
+use farm_work::{FarmWork, Gate};
 use identity::Key;
 use leases::{Claim, LiveDesk};
-use named_catalogs::NamedCatalog;
 use node_state::{LendFault, NodeState};
 use overlap_tiles::TilePlan;
-use posts::{Line, Parcel};
+use posts::{MailboxPort, Parcel};
 use std::alloc::{AllocError, Global};
 use std::sync::Wait;
 use tile_fact::{Fact, Update};
-use updates::{copy_updates, wrap_fact};
+use updates::{copy_fact_to_updates, copy_updates};
 
 /// The node, the mailboxes, the desk and the gate that a worker calls.
 #[derive(Drop)]
-pub struct Site<'s, 'a, C: NamedCatalog, R, G> {
+pub struct WorkerSite<'s, 'a, C: NamedCatalog, R, G> {
     pub rt: &'s R,
     pub gate: &'s G,
     pub alloc: Global,
-    pub work: &'a Work<'a, C>,
+    pub work: &'a FarmWork<'a, C>,
     pub desk: &'a LiveDesk,
-    pub hand: Hand<'a, C>,
-    /// A line to the mailbox of each node.
-    pub lines: Vec<Line<'a, C>>,
+    pub hand: WorkerSeat<'a, C>,
+    /// A port to the mailbox of each node.
+    pub ports: Vec<MailboxPort<'a, C>>,
 }
 
-impl<'s, 'a, C: NamedCatalog, R: Wait, G: Gate> Place for Site<'s, 'a, C, R, G> {
+impl<'s, 'a, C: NamedCatalog, R: Wait, G: Gate> WorkerPlace for WorkerSite<'s, 'a, C, R, G> {
     ghost use Rattle.fact_audit.specs.TrueFacts.{IsTrueFact};
     ghost use Rattle.updates.specs.TrueUpdates.{AreTrue};
 
@@ -47,45 +47,51 @@ impl<'s, 'a, C: NamedCatalog, R: Wait, G: Gate> Place for Site<'s, 'a, C, R, G> 
         self.gate.enter_turn(worker, turn);
     }
 
-    fn receive(&mut self, node: u8) -> Option<Vec<Update>> {
-        let line = self.lines.get_mut(usize::from(node))?;
-        let parcel = line.take(self.rt)?;
+    fn receive_parcel_updates(&mut self, node: u8) -> Option<Vec<Update>> {
+        let port = self.ports.get_mut(usize::from(node))?;
+        let parcel = port.take_parcel(self.rt)?;
         Some(parcel.updates)
     }
 
-    fn take(&mut self, updates: Vec<Update>) -> Result<(), AllocError> {
-        self.hand.take(self.rt, updates)
+    fn add_updates_to_node(&mut self, updates: Vec<Update>) -> Result<(), AllocError> {
+        self.hand.add_updates_to_node(self.rt, updates)
     }
 
-    fn take_copies(&mut self, updates: &[Update]) -> Result<(), AllocError> {
+    fn add_update_copies_to_node(&mut self, updates: &[Update]) -> Result<(), AllocError> {
         let copies = copy_updates(self.alloc, updates)?;
-        self.hand.take(self.rt, copies)
+        self.hand.add_updates_to_node(self.rt, copies)
     }
 
-    fn take_fact(&mut self, fact: &Fact) -> Result<(), AllocError> {
-        let updates = wrap_fact(self.alloc, fact)?;
-        self.hand.take(self.rt, updates)
+    fn add_fact_to_node(&mut self, fact: &Fact) -> Result<(), AllocError> {
+        let updates = copy_fact_to_updates(self.alloc, fact)?;
+        self.hand.add_updates_to_node(self.rt, updates)
     }
 
-    fn copy_held(&mut self) -> Result<NodeState, AllocError> {
+    fn copy_held_state(&mut self) -> Result<NodeState, AllocError> {
         self.hand.node.state(self.rt)
     }
 
-    fn find_standing(
+    fn check_work_key_readiness(
         &mut self,
         held: &NodeState,
         key: &Key,
-    ) -> Result<Standing<TilePlan<'a>>, AllocError> {
+    ) -> Result<KeyReadiness<TilePlan<'a>>, AllocError> {
         if held.held().count_facts_of_key(key) > 0 {
-            return Ok(Standing::Known);
+            return Ok(KeyReadiness::Known);
         }
         match self.work.plan_ready_tile(self.alloc, held.held(), key)? {
-            Some(plan) => Ok(Standing::Open(plan)),
-            None => Ok(Standing::Waiting),
+            Some(plan) => Ok(KeyReadiness::Open(plan)),
+            None => Ok(KeyReadiness::Waiting),
         }
     }
 
-    fn claim(&mut self, time: u64, worker: u8, key: &Key, ttl: u64) -> Result<bool, AllocError> {
+    fn claim_key(
+        &mut self,
+        time: u64,
+        worker: u8,
+        key: &Key,
+        ttl: u64,
+    ) -> Result<bool, AllocError> {
         match self.desk.claim(self.rt, time, worker, *key, ttl) {
             Claim::Granted { .. } | Claim::Renewed { .. } => Ok(true),
             Claim::Held { .. } => Ok(false),
@@ -93,8 +99,8 @@ impl<'s, 'a, C: NamedCatalog, R: Wait, G: Gate> Place for Site<'s, 'a, C, R, G> 
         }
     }
 
-    fn lend(&mut self, plan: &TilePlan<'a>) -> Result<Option<Vec<Fact>>, AllocError> {
-        match self.hand.lend(self.rt, plan.needs()) {
+    fn lend_needed_facts(&mut self, plan: &TilePlan<'a>) -> Result<Option<Vec<Fact>>, AllocError> {
+        match self.hand.lend_node_facts(self.rt, plan.needs()) {
             Ok(facts) => Ok(Some(facts)),
             Err(LendFault::NotHeld(_)) => Ok(None),
             Err(LendFault::Memory) => Err(AllocError),
@@ -109,24 +115,26 @@ impl<'s, 'a, C: NamedCatalog, R: Wait, G: Gate> Place for Site<'s, 'a, C, R, G> 
         self.gate.report_fact(worker, turn, fact);
     }
 
-    fn put(&mut self, node: u8, from: u8, fact: &Fact) -> Result<(), AllocError> {
-        let Some(line) = self.lines.get_mut(usize::from(node)) else {
+    fn post_fact(&mut self, node: u8, from: u8, fact: &Fact) -> Result<(), AllocError> {
+        let Some(port) = self.ports.get_mut(usize::from(node)) else {
             return Ok(());
         };
-        let updates = wrap_fact(self.alloc, fact)?;
-        let _ = line.put(self.rt, Parcel { from, updates });
+        let updates = copy_fact_to_updates(self.alloc, fact)?;
+        let _ = port.put_parcel(self.rt, Parcel { from, updates });
         Ok(())
     }
 
-    fn release(&mut self, time: u64, worker: u8, key: &Key) {
+    fn release_key(&mut self, time: u64, worker: u8, key: &Key) {
         self.desk.release(self.rt, time, worker, key);
     }
 
-    fn keep(&mut self) -> Result<(), AllocError> {
-        self.hand.run_step(self.rt, Step::Keep)
+    fn keep_node_state(&mut self) -> Result<(), AllocError> {
+        self.hand
+            .keep_or_restart_node(self.rt, CheckpointStep::Keep)
     }
 
-    fn restart(&mut self) -> Result<(), AllocError> {
-        self.hand.run_step(self.rt, Step::Restart)
+    fn restart_node(&mut self) -> Result<(), AllocError> {
+        self.hand
+            .keep_or_restart_node(self.rt, CheckpointStep::Restart)
     }
 }

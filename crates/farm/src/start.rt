@@ -4,19 +4,19 @@ use std::thread::{JoinHandle, Scope};
 
 /// The system refused to start a thread. Only [`start`] makes one, from what the toolchain's `spawn` hands back.
 #[derive(Clone, Copy, Debug, PartialEq, Eq)]
-pub struct Refusal {
+pub struct ThreadRefusal {
     by_spawn: (),
 }
 
 /// Starts work in a thread of its own.
-pub fn start_thread<'s, E, F: FnOnce() -> T + Send + Drop + 's, T: Send + Drop + 's>(
+pub fn start_worker_thread<'s, E, F: FnOnce() -> T + Send + Drop + 's, T: Send + Drop + 's>(
     scope: &Scope<'s, E>,
     work: F,
-) -> Result<JoinHandle<T>, Refusal>
+) -> Result<JoinHandle<T>, ThreadRefusal>
     requires { F.pre work }
 {
     match scope.spawn(work) {
         Ok(handle) => Ok(handle),
-        Err(_) => Err(Refusal { by_spawn: () }),
+        Err(_) => Err(ThreadRefusal { by_spawn: () }),
     }
 }

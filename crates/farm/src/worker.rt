@@ -1,63 +1,63 @@
 //! The threads of a farm's nodes.
 
-use crate::hand::{End, Hand};
-use crate::site::Site;
-use crate::threads::Task;
+use crate::hand::{WorkerReceipts, WorkerSeat};
+use crate::site::WorkerSite;
+use crate::threads::FarmThreadTask;
+use catalog::NamedCatalog;
 use farm_setup::FarmSetup;
-use farm_turns::{Rules, Shift};
-use farm_work::{Gate, Work};
+use farm_turns::{TurnRules, WorkerShift};
+use farm_work::{FarmWork, Gate};
 use leases::LiveDesk;
-use named_catalogs::NamedCatalog;
-use posts::Line;
+use posts::MailboxPort;
 use std::alloc::Global;
 use std::sync::Wait;
 
 /// One thread's work at a node.
 #[derive(Drop)]
-pub struct Worker<'a, C: NamedCatalog> {
+pub struct FarmWorker<'a, C: NamedCatalog> {
     /// Its number among all workers.
     pub number: u8,
     /// The number of its node.
     pub home: u8,
     pub setup: FarmSetup,
-    pub work: &'a Work<'a, C>,
+    pub work: &'a FarmWork<'a, C>,
     pub desk: &'a LiveDesk,
-    pub hand: Hand<'a, C>,
-    /// A line to the mailbox of each node.
-    pub lines: Vec<Line<'a, C>>,
+    pub hand: WorkerSeat<'a, C>,
+    /// A port to the mailbox of each node.
+    pub ports: Vec<MailboxPort<'a, C>>,
 }
 
-impl<'a, C: NamedCatalog + 'static> Task for Worker<'a, C> {
-    fn run<R: Wait, G: Gate>(self, rt: &R, alloc: Global, gate: &G) -> End {
-        let Worker {
+impl<'a, C: NamedCatalog + 'static> FarmThreadTask for FarmWorker<'a, C> {
+    fn run<R: Wait, G: Gate>(self, rt: &R, alloc: Global, gate: &G) -> WorkerReceipts {
+        let FarmWorker {
             number,
             home,
             setup,
             work,
             desk,
             hand,
-            lines,
+            ports,
         } = self;
-        let rules = Rules {
+        let rules = TurnRules {
             number,
             home,
             setup,
             keys: work.keys,
         };
-        let site = Site {
+        let site = WorkerSite {
             rt,
             gate,
             alloc,
             work,
             desk,
             hand,
-            lines,
+            ports,
         };
-        let mut shift = Shift::new(rules, site);
+        let mut shift = WorkerShift::new(rules, site);
         let memory = shift.run().is_err();
-        let Shift { place, .. } = shift;
-        let Site { hand, .. } = place;
-        let Hand { mut end, .. } = hand;
+        let WorkerShift { place, .. } = shift;
+        let WorkerSite { hand, .. } = place;
+        let WorkerSeat { mut end, .. } = hand;
         end.memory = memory;
         end
     }

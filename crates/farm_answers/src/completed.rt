@@ -6,7 +6,7 @@ ghost use Rattle.farm_answers.specs.Answering.{IsAnswerOf, IsPlanned, missing_wo
 ghost use Rattle.held_facts.specs.HeldFacts.{HoldsTrueFacts};
 ghost use Rattle.netpbm.specs.Image.{IsImage};
 
-use crate::plan::AnswerPlan;
+use crate::plan::FarmAnswerPlan;
 use accumulators::Answer;
 use catalog::Catalog;
 use grouping::Schedule;
@@ -26,7 +26,7 @@ pub struct CompletedAnswer {
 /// # Errors
 ///
 /// Fails only where memory is refused.
-pub fn complete_answer(
+pub fn complete_farm_answer(
     alloc: Global,
     catalog: &Catalog,
     job: usize,
@@ -43,16 +43,16 @@ pub fn complete_answer(
     let Some(asked) = catalog.job(job) else {
         unreachable!();
     };
-    let plan = AnswerPlan {
+    let plan = FarmAnswerPlan {
         catalog,
         job: asked,
         schedule,
     };
-    let keys = plan.list_missing_work(alloc, &held)?;
+    let keys = plan.list_missing_work_keys(alloc, &held)?;
     let Ok(made) = u32::try_from(keys.len()) else {
         return Err(AllocError);
     };
-    let full = plan.make_all(held, &keys)?;
+    let full = plan.make_missing_facts(held, &keys)?;
     let answer = plan.compose_answer(&full)?;
     Ok(CompletedAnswer { answer, made })
 }

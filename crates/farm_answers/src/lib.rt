@@ -4,4 +4,4 @@
 mod completed;
 mod plan;
 
-pub use completed::{CompletedAnswer, complete_answer};
+pub use completed::{CompletedAnswer, complete_farm_answer};

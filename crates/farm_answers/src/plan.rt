@@ -16,31 +16,35 @@ use grouping::Schedule;
 use held_facts::{AnswerFault, HeldFacts, MakeFault};
 use identity::Key;
 use job::Job;
-use overlap_tiles::work_keys;
+use overlap_tiles::list_work_keys;
 use std::alloc::{AllocError, Global};
 use tile_fact::Fact;
 
 /// A job of a catalog, and a schedule of it.
 #[derive(Clone, Copy)]
-pub struct AnswerPlan<'a> {
+pub struct FarmAnswerPlan<'a> {
     pub catalog: &'a Catalog,
     pub job: &'a Job,
     pub schedule: &'a Schedule,
 }
 
-impl AnswerPlan<'_> {
+impl FarmAnswerPlan<'_> {
     /// The keys of the work tiles of which nothing is held.
-    pub fn list_missing_work(&self, alloc: Global, held: &HeldFacts) -> Result<Vec<Key>, AllocError>
+    pub fn list_missing_work_keys(
+        &self,
+        alloc: Global,
+        held: &HeldFacts,
+    ) -> Result<Vec<Key>, AllocError>
         ensures { IfOk result (λ keys. keys.items
             ≡ lacked_work held.now (entry_of self.now.job.now) self.now.schedule.now.inlining) }
     {
-        let mut keys = work_keys(alloc, self.job, self.schedule)?;
+        let mut keys = list_work_keys(alloc, self.job, self.schedule)?;
         keys.retain(|key| held.count_facts_of_key(key) == 0);
         Ok(keys)
     }
 
     /// Makes the tiles of these keys one after another, and adds their facts. They are all that is missing of the job's work.
-    pub fn make_all(&self, held: HeldFacts, keys: &[Key]) -> Result<HeldFacts, AllocError>
+    pub fn make_missing_facts(&self, held: HeldFacts, keys: &[Key]) -> Result<HeldFacts, AllocError>
         requires { IsLeft self.now.catalog.now (entry_of self.now.job.now)
             self.now.schedule.now.inlining held keys.now }
         ensures { IfOk result (λ full. IsLeft self.now.catalog.now (entry_of self.now.job.now)
@@ -49,7 +53,7 @@ impl AnswerPlan<'_> {
         let mut held = held;
         for key in keys {
             let fact = self.make_fact(&held, key)?;
-            held.take(fact)?;
+            held.hold_fact(fact)?;
         }
         Ok(held)
     }

@@ -9,7 +9,7 @@ use Rattle.command_inputs.specs.Input.{IsInputJob}
 use Rattle.command_outcomes.specs.Outcomes.{Refusing}
 use Rattle.command_faults.specs.declared.faults.StreamFault.{StreamFault}
 use Rattle.command_faults.specs.declared.faults.StreamFault.TheVariants.{Farm, Memory}
-use Rattle.command_faults.specs.declared.lines.FarmLine.TheVariants.{SpawnFailed, Close}
+use Rattle.command_faults.specs.declared.lines.FarmFaultLine.TheVariants.{SpawnFailed, Close}
 use Rattle.job.specs.Pipeline.{Pipeline}
 use Rattle.pipe_tree.specs.Tree.{Declaration}
 

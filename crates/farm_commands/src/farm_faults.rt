@@ -3,16 +3,16 @@
 ghost use Rattle.std.specs.Prelude.{◌≡◌};
 ghost use Rattle.farm_commands.specs.RunFaults.{fault_at_farm};
 
-use command_faults::{FarmLine, StreamFault};
+use command_faults::{FarmFaultLine, StreamFault};
 use farm::FarmFault;
 
 /// The fault of the command where its farm has this one. A refusal of memory is the command's own.
-pub fn report_farm_fault(fault: FarmFault) -> StreamFault
+pub fn convert_farm_fault_for_command(fault: FarmFault) -> StreamFault
     ensures { result ≡ fault_at_farm fault }
 {
     match fault {
-        FarmFault::SpawnFailed(_) => StreamFault::Farm(FarmLine::SpawnFailed),
+        FarmFault::SpawnFailed(_) => StreamFault::Farm(FarmFaultLine::SpawnFailed),
         FarmFault::Memory => StreamFault::Memory,
-        FarmFault::Close(_) => StreamFault::Farm(FarmLine::Close),
+        FarmFault::Close(_) => StreamFault::Farm(FarmFaultLine::Close),
     }
 }

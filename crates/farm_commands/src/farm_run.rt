@@ -10,13 +10,13 @@ ghost use Rattle.command_jobs.specs.RequestedSchedule.{requested_inlining};
 ghost use Rattle.command_outcomes.specs.Replies.{reply_bytes};
 ghost use Rattle.command_jobs.specs.Results.{result_bytes};
 
-use crate::farm_faults::report_farm_fault;
+use crate::farm_faults::convert_farm_fault_for_command;
 use catalog::Catalog;
 use command_faults::StreamFault;
-use command_inputs::make_catalog;
-use command_jobs::{make_reply, make_schedule};
+use command_inputs::make_catalog_of_input_job;
+use command_jobs::{make_result_reply, make_schedule_of_options};
 use command_line::Options;
-use command_outcomes::Reply;
+use command_outcomes::JobReply;
 use farm::{ClosedNode, Farm};
 use farm_setup::FarmSetup;
 use farm_work::OpenGate;
@@ -27,13 +27,13 @@ use std::thread::Threads;
 /// What a farm has computed of a job: the result, the end of each node, and how many tiles it left to the caller's thread.
 #[derive(Drop)]
 pub struct FarmRun {
-    pub reply: Reply,
+    pub reply: JobReply,
     pub closed: Vec<ClosedNode>,
     pub by_caller: u32,
 }
 
 /// The result of a job, which a farm computes by the schedule that the options request.
-pub fn run_farm<H: AllocGlobal + Threads + Wait + Sync>(
+pub fn run_farm_for_command_job<H: AllocGlobal + Threads + Wait + Sync>(
     rt: &H,
     setup: &FarmSetup,
     options: &Options,
@@ -48,15 +48,15 @@ pub fn run_farm<H: AllocGlobal + Threads + Wait + Sync>(
         (all_held farmed.closed.items))) }
     ensures fault { IfErr result IsOfFarm }
 {
-    let catalog = make_catalog(rt.alloc(), job)?;
+    let catalog = make_catalog_of_input_job(rt.alloc(), job)?;
     match catalog.job(0) {
-        Some(job) => run_only_job(rt, setup, options, &catalog, job),
+        Some(job) => run_farm_for_only_command_job(rt, setup, options, &catalog, job),
         None => unreachable!(),
     }
 }
 
 /// The result of the only job of a catalog.
-fn run_only_job<H: AllocGlobal + Threads + Wait + Sync>(
+fn run_farm_for_only_command_job<H: AllocGlobal + Threads + Wait + Sync>(
     rt: &H,
     setup: &FarmSetup,
     options: &Options,
@@ -74,13 +74,13 @@ fn run_only_job<H: AllocGlobal + Threads + Wait + Sync>(
     ensures fault { IfErr result IsOfFarm }
 {
     let alloc = rt.alloc();
-    let schedule = make_schedule(alloc, job, options)?;
+    let schedule = make_schedule_of_options(alloc, job, options)?;
     match Farm::run(rt, alloc, catalog, 0, setup, &schedule, &OpenGate) {
         Ok(report) => Ok(FarmRun {
-            reply: make_reply(alloc, job, report.answer)?,
+            reply: make_result_reply(alloc, job, report.answer)?,
             closed: report.closed,
             by_caller: report.by_caller,
         }),
-        Err(fault) => Err(report_farm_fault(fault)),
+        Err(fault) => Err(convert_farm_fault_for_command(fault)),
     }
 }

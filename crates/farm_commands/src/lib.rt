@@ -5,5 +5,5 @@ mod farm_faults;
 mod farm_run;
 mod stream;
 
-pub use farm_run::{FarmRun, run_farm};
-pub use stream::{run_input, run_stream};
+pub use farm_run::{FarmRun, run_farm_for_command_job};
+pub use stream::{run_farm_for_command_input, run_stream};

@@ -59,7 +59,7 @@ impl FarmSetup {
     }
 
     /// Two nodes, 1,000 turns, a capacity of eight parcels, and no faults.
-    pub fn usual() -> FarmSetup
+    pub fn with_defaults() -> FarmSetup
         ensures nodes { result.nodes ≡ 2 }
         ensures turns { result.turns ≡ 1000 }
         ensures capacity { result.capacity ≡ 8 }

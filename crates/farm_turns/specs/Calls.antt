@@ -3,8 +3,8 @@ use Rattle.std.specs.Prelude.{ℕ, Bool, Option, List, [], ◌∷◌, ◌++◌}
 use Rattle.identity.specs.declared.key.Key.{Key}
 use Rattle.tile_fact.specs.declared.fact.Fact.{Fact}
 use Rattle.tile_fact.specs.declared.update.Update.{Update}
-use Rattle.farm_turns.specs.declared.standing.Standing.{Standing}
-use Rattle.farm_turns.specs.declared.standing.Standing.TheVariants.{Known as known, Waiting as waiting, Open as open_by}
+use Rattle.farm_turns.specs.declared.standing.KeyReadiness.{KeyReadiness}
+use Rattle.farm_turns.specs.declared.standing.KeyReadiness.TheVariants.{Known as known, Waiting as waiting, Open as open_by}
 
 pub data Call : Type 0 where
   -- a worker enters a turn
@@ -37,7 +37,7 @@ pub data Call : Type 0 where
   Restarted : Call
 
 -- what a look at a key finds, where plans need these keys
-abbrev pub finding_call : {P : Type 0} → (P → List Key) → Key → Standing P → Call
+abbrev pub finding_call : {P : Type 0} → (P → List Key) → Key → KeyReadiness P → Call
 finding_call needs_of key known = Found_known key
 finding_call needs_of key waiting = Found_waiting key
 finding_call needs_of key (open_by plan) = Found_open key (needs_of plan)

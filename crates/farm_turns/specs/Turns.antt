@@ -6,7 +6,7 @@ use Rattle.tile_fact.specs.declared.update.Update.{Update}
 use Rattle.tile_fact.specs.declared.update.Update.TheVariants.{Fact as update}
 use Rattle.farm_turns.specs.Calls.{Call, Entered, Received, Found_empty, Took, Looked, Found_known, Found_waiting, Found_open, Claimed, Lent, Computed, Made, Put, Released, Kept, Restarted}
 use Rattle.farm_turns.specs.Periods.{is_selected, count_after}
-use Rattle.farm_turns.specs.declared.rules.Rules.{Rules}
+use Rattle.farm_turns.specs.declared.rules.TurnRules.{TurnRules}
 
 -- for how many turns a key is leased
 abbrev pub lease_turns : ℕ
@@ -32,18 +32,18 @@ with_call g call = record g { log = g.log ++ call ∷ [] }
 -- ---- what is received
 
 -- the node takes the updates of a parcel; it takes one of every `repeat` parcels twice
-abbrev pub after_giving : Rules → Progress → List Update → Progress
+abbrev pub after_giving : TurnRules → Progress → List Update → Progress
 after_giving rules g updates =
     let once = with_call g (Took updates) in
     record (if is_selected rules.setup.faults.repeat g.repeated then with_call once (Took updates) else once) {
       repeated = count_after rules.setup.faults.repeat g.repeated;
     }
 
-abbrev pub after_parcel : Rules → Progress → List Update → Progress
+abbrev pub after_parcel : TurnRules → Progress → List Update → Progress
 after_parcel rules g updates = after_giving rules (with_call g (Received rules.home updates)) updates
 
 -- if fewer parcels come than the capacity of the mailbox, it was found empty
-abbrev pub after_parcels : Rules → Progress → List (List Update) → Progress
+abbrev pub after_parcels : TurnRules → Progress → List (List Update) → Progress
 after_parcels rules g parcels =
     let all = fold (after_parcel rules) g parcels in
     if nat_lt (length parcels) rules.setup.capacity then with_call all (Found_empty rules.home) else all
@@ -57,7 +57,7 @@ pub data PassReason : Type 0 where
   Is_taken : (needs : List Key) → PassReason
 
 -- a key that is passed over. While all keys so far are known, and no node restarts, it is known for good
-abbrev pub after_passing : Rules → ℕ → Progress → Key → PassReason → Progress
+abbrev pub after_passing : TurnRules → ℕ → Progress → Key → PassReason → Progress
 after_passing rules turn g key Is_known =
     record (with_call g (Found_known key)) { settled = if g.settling then g.settled + 1 else g.settled }
 after_passing rules turn g key Waits = record (with_call g (Found_waiting key)) { settling = false }
@@ -65,26 +65,26 @@ after_passing rules turn g key (Is_taken needs) =
     record (with_call (with_call g (Found_open key needs)) (Claimed turn rules.number key lease_turns false)) { settling = false }
 
 -- the key can be made from these, and is leased to the worker
-abbrev pub after_picking : Rules → ℕ → Progress → Key → List Key → Progress
+abbrev pub after_picking : TurnRules → ℕ → Progress → Key → List Key → Progress
 after_picking rules turn g key needs =
     record (with_call (with_call g (Found_open key needs)) (Claimed turn rules.number key lease_turns true)) { settling = false }
 
 -- the keys that a worker looks at
-abbrev pub open_keys : Rules → Progress → List Key
+abbrev pub open_keys : TurnRules → Progress → List Key
 open_keys rules g = drop g.settled rules.keys.now
 
 -- a copy of what the node holds is taken
-abbrev pub after_looking : Rules → Progress → Progress
+abbrev pub after_looking : TurnRules → Progress → Progress
 after_looking rules g = record (with_call g Looked) { settling = nat_eq rules.setup.faults.restart 0 }
 
 -- and keys are passed over, in order
-abbrev pub after_passing_all : Rules → ℕ → Progress → List (Key × PassReason) → Progress
+abbrev pub after_passing_all : TurnRules → ℕ → Progress → List (Key × PassReason) → Progress
 after_passing_all rules turn g passed = fold (λ before p. after_passing rules turn before p.0 p.1) (after_looking rules g) passed
 
 -- ---- what is made and sent
 
 -- each node but the worker's own is sent a parcel with the fact, except that one of every `lose` is lost
-abbrev pub after_sending_to : Rules → Fact → Progress → ℕ → Progress
+abbrev pub after_sending_to : TurnRules → Fact → Progress → ℕ → Progress
 after_sending_to rules fact g node =
     if nat_eq node rules.home then g else
     record (if is_selected rules.setup.faults.lose g.lost then g else with_call g (Put node rules.home fact)) {
@@ -92,7 +92,7 @@ after_sending_to rules fact g node =
     }
 
 -- so are the nodes below a number, in order
-abbrev pub after_sending_below : Rules → Fact → Progress → ℕ → Progress
+abbrev pub after_sending_below : TurnRules → Fact → Progress → ℕ → Progress
 after_sending_below rules fact g zero = g
 after_sending_below rules fact g (suc node) = after_sending_to rules fact (after_sending_below rules fact g node) node
 
@@ -102,7 +102,7 @@ pub data MakeOutcome : Type 0 where
   Nothing_made : (facts : List Fact) → MakeOutcome
   Fact_made : (facts : List Fact) (fact : Fact) → MakeOutcome
 
-abbrev pub after_making : Rules → ℕ → Key → List Key → Progress → MakeOutcome → Progress
+abbrev pub after_making : TurnRules → ℕ → Key → List Key → Progress → MakeOutcome → Progress
 after_making rules turn key needs g Needs_gone = with_call g (Lent needs None)
 after_making rules turn key needs g (Nothing_made facts) =
     with_call (with_call g (Lent needs (Some facts))) (Computed key facts None)
@@ -118,7 +118,7 @@ pub data WorkOutcome : Type 0 where
   A_key : (passed : List (Key × PassReason)) (key : Key) (needs : List Key) (making : MakeOutcome) → WorkOutcome
 
 -- the lease is given back at the end
-abbrev pub after_working : Rules → ℕ → Progress → WorkOutcome → Progress
+abbrev pub after_working : TurnRules → ℕ → Progress → WorkOutcome → Progress
 after_working rules turn g All_settled = g
 after_working rules turn g (No_key passed) = after_passing_all rules turn g passed
 after_working rules turn g (A_key passed key needs making) =
@@ -129,7 +129,7 @@ abbrev pub passed_key : Key × PassReason → Key
 passed_key passed = passed.0
 
 -- the keys are passed over in order, all of them or those before the one that is picked
-abbrev pub IsWorkOutcome : Rules → Progress → WorkOutcome → Type 0
+abbrev pub IsWorkOutcome : TurnRules → Progress → WorkOutcome → Type 0
 IsWorkOutcome rules g All_settled = open_keys rules g ≡ []
 IsWorkOutcome rules g (No_key passed) = open_keys rules g ≡ map passed_key passed
 IsWorkOutcome rules g (A_key passed key needs making) =
@@ -140,7 +140,7 @@ IsWorkOutcome rules g (A_key passed key needs making) =
 abbrev pub after_keeping : ℕ → Progress → Progress
 after_keeping turn g = if nat_eq (turn % keep_period) 0 then with_call g Kept else g
 
-abbrev pub after_restarting : Rules → ℕ → Progress → Progress
+abbrev pub after_restarting : TurnRules → ℕ → Progress → Progress
 after_restarting rules turn g =
     if nat_lt 0 rules.setup.faults.restart && nat_eq (turn % rules.setup.faults.restart) 0 then with_call g Restarted else g
 
@@ -151,14 +151,14 @@ pub record TurnResults : Type 0 where
   pub parcels : List (List Update)
   pub finding : WorkOutcome
 
-abbrev pub after_receiving : Rules → ℕ → Progress → TurnResults → Progress
+abbrev pub after_receiving : TurnRules → ℕ → Progress → TurnResults → Progress
 after_receiving rules turn g results = after_parcels rules (with_call g (Entered rules.number turn)) results.parcels
 
-abbrev pub after_turn : Rules → ℕ → Progress → TurnResults → Progress
+abbrev pub after_turn : TurnRules → ℕ → Progress → TurnResults → Progress
 after_turn rules turn g results =
     after_restarting rules turn (after_keeping turn (after_working rules turn (after_receiving rules turn g results) results.finding))
 
 -- these results are possible
-pub record AreTurnResults (rules : Rules) (turn : ℕ) (g : Progress) (results : TurnResults) : Type 0 where
+pub record AreTurnResults (rules : TurnRules) (turn : ℕ) (g : Progress) (results : TurnResults) : Type 0 where
   pub room : length results.parcels ≤ rules.setup.capacity
   pub in_order : IsWorkOutcome rules (after_receiving rules turn g results) results.finding

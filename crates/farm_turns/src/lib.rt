@@ -8,8 +8,8 @@ mod rules;
 mod shift;
 mod standing;
 
-pub use period::PeriodCounter;
-pub use place::Place;
-pub use rules::Rules;
-pub use shift::Shift;
-pub use standing::Standing;
+pub use period::ParcelPeriodCounter;
+pub use place::WorkerPlace;
+pub use rules::TurnRules;
+pub use shift::WorkerShift;
+pub use standing::KeyReadiness;

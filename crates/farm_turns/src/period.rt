@@ -5,19 +5,19 @@ ghost use Rattle.farm_turns.specs.Periods.{is_selected, count_after};
 
 /// Counts, and selects one of every `period`; none if this is 0.
 #[derive(Debug, Drop)]
-pub struct PeriodCounter {
+pub struct ParcelPeriodCounter {
     period: u32,
     passed: u32,
     ghost below: { passed < max 1 period },
 }
 
-impl PeriodCounter {
+impl ParcelPeriodCounter {
     /// Selects one of every `period`, and has counted none yet.
-    pub fn new(period: u32) -> PeriodCounter
+    pub fn new(period: u32) -> ParcelPeriodCounter
         ensures period { result.period ≡ period }
         ensures passed { result.passed ≡ 0 }
     {
-        PeriodCounter { period, passed: 0 }
+        ParcelPeriodCounter { period, passed: 0 }
     }
 
     /// Counts one more, and returns whether it is selected, as the last of `period`.

@@ -5,7 +5,7 @@ use identity::Key;
 
 /// What a worker uses in all its turns.
 #[derive(Clone, Copy, Debug)]
-pub struct Rules<'a> {
+pub struct TurnRules<'a> {
     /// Its number among all workers.
     pub number: u8,
     /// The number of its node.

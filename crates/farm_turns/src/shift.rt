@@ -2,11 +2,11 @@
 
 ghost use Rattle.std.specs.Prelude.{◌≡◌};
 
-use crate::counts::Counts;
-use crate::period::PeriodCounter;
-use crate::place::Place;
-use crate::rules::Rules;
-use crate::standing::Standing;
+use crate::counts::TurnCounts;
+use crate::period::ParcelPeriodCounter;
+use crate::place::WorkerPlace;
+use crate::rules::TurnRules;
+use crate::standing::KeyReadiness;
 use farm_setup::Faults;
 use identity::Key;
 use std::alloc::AllocError;
@@ -20,15 +20,15 @@ const KEEP_PERIOD: u32 = 4;
 
 /// A worker at its place.
 #[derive(Drop)]
-pub struct Shift<'a, P: Place> {
-    pub rules: Rules<'a>,
+pub struct WorkerShift<'a, P: WorkerPlace> {
+    pub rules: TurnRules<'a>,
     pub place: P,
-    pub counts: Counts,
+    pub counts: TurnCounts,
     ghost lose: { counts.lost.period ≡ rules.setup.faults.lose },
     ghost repeat: { counts.repeated.period ≡ rules.setup.faults.repeat },
 }
 
-impl<'a, P: Place> Shift<'a, P> {
+impl<'a, P: WorkerPlace> WorkerShift<'a, P> {
     ghost use Rattle.farm_turns.specs.Calls.{Call, Released};
     ghost use Rattle.farm_turns.specs.Shifts.{HasRun, HasTurned, IsAt};
     ghost use Rattle.farm_turns.specs.Turns.{WorkOutcome, Progress, IsWorkOutcome, MakeOutcome, PassReason, with_call, passed_key, after_giving, after_keeping, after_looking, after_making, open_keys, after_picking, after_parcels, after_restarting, after_sending_below, after_sending_to, after_passing_all, after_passing, after_working};
@@ -37,18 +37,18 @@ impl<'a, P: Place> Shift<'a, P> {
     ghost use Rattle.tile_fact.specs.declared.update.Update.{Update as UpdateOf};
 
     /// A worker before its first turn, which has counted nothing.
-    pub fn new(rules: Rules<'a>, place: P) -> Shift<'a, P>
+    pub fn new(rules: TurnRules<'a>, place: P) -> WorkerShift<'a, P>
         ensures rules { result.rules ≡ rules.entry }
         ensures at { (log : List Call) → P.has_log place log → IsAt P.has_log result.place result.counts
             (record { log = log; repeated = 0; lost = 0; settled = 0; settling = false }) }
     {
         let Faults { lose, repeat, .. } = rules.setup.faults;
-        Shift {
+        WorkerShift {
             rules,
             place,
-            counts: Counts {
-                repeated: PeriodCounter::new(repeat),
-                lost: PeriodCounter::new(lose),
+            counts: TurnCounts {
+                repeated: ParcelPeriodCounter::new(repeat),
+                lost: ParcelPeriodCounter::new(lose),
                 settled: 0,
                 settling: false,
             },
@@ -83,9 +83,9 @@ impl<'a, P: Place> Shift<'a, P> {
     {
         self.place.enter_turn(self.rules.number, turn);
         self.receive_parcels()?;
-        self.work(turn)?;
-        self.keep_if_due(turn)?;
-        self.restart_if_due(turn)
+        self.lease_and_make_one_tile(turn)?;
+        self.keep_node_state_if_due(turn)?;
+        self.restart_node_if_due(turn)
     }
 
     // Takes parcels from the mailbox of its node, and gives them to the node.
@@ -96,53 +96,54 @@ impl<'a, P: Place> Shift<'a, P> {
             × IsAt P.has_log self.new.place self.new.counts (after_parcels self.old.rules g parcels)) }
     {
         for _ in 0..self.rules.setup.capacity {
-            let Some(updates) = self.place.receive(self.rules.home) else {
+            let Some(updates) = self.place.receive_parcel_updates(self.rules.home) else {
                 return Ok(());
             };
-            self.give_updates(updates)?;
+            self.give_updates_to_node(updates)?;
         }
         Ok(())
     }
 
     // Gives the updates of a parcel to the node, once or twice.
-    fn give_updates(&mut self, updates: Vec<Update>) -> Result<(), AllocError>
+    fn give_updates_to_node(&mut self, updates: Vec<Update>) -> Result<(), AllocError>
         requires { P.are_true updates.items }
         ensures rules { self.new.rules ≡ self.old.rules }
         ensures given { OnOk result ((g : Progress) → IsAt P.has_log self.old.place self.old.counts g
             → IsAt P.has_log self.new.place self.new.counts (after_giving self.old.rules g updates.items)) }
     {
         if self.counts.repeated.count_next() {
-            self.place.take_copies(&updates)?;
+            self.place.add_update_copies_to_node(&updates)?;
         }
-        self.place.take(updates)
+        self.place.add_updates_to_node(updates)
     }
 
     // Makes the tile of the first key that can be made and is leased to the worker, and gives the lease back.
-    fn work(&mut self, turn: u32) -> Result<(), AllocError>
+    fn lease_and_make_one_tile(&mut self, turn: u32) -> Result<(), AllocError>
         ensures rules { self.new.rules ≡ self.old.rules }
         ensures worked { OnOk result ((g : Progress) → IsAt P.has_log self.old.place self.old.counts g
             → (finding : WorkOutcome) × IsWorkOutcome self.old.rules g finding
             × IsAt P.has_log self.new.place self.new.counts (after_working self.old.rules turn g finding)) }
     {
-        if let Some((key, plan)) = self.pick_key(turn)? {
-            let done = self.make_tile(turn, &key, &plan);
-            self.release_key(turn, &key);
+        if let Some((key, plan)) = self.pick_and_lease_work_key(turn)? {
+            let done = self.make_and_share_tile(turn, &key, &plan);
+            self.release_work_key(turn, &key);
             done?;
         }
         Ok(())
     }
 
     // Gives the lease of a key back.
-    fn release_key(&mut self, turn: u32, key: &Key)
+    fn release_work_key(&mut self, turn: u32, key: &Key)
         ensures rules { self.new.rules ≡ self.old.rules }
         ensures released { (g : Progress) → IsAt P.has_log self.old.place self.old.counts g
             → IsAt P.has_log self.new.place self.new.counts (with_call g (Released turn self.old.rules.number key.now)) }
     {
-        self.place.release(u64::from(turn), self.rules.number, key);
+        self.place
+            .release_key(u64::from(turn), self.rules.number, key);
     }
 
     // The first key that can be made and is leased to the worker, by a copy of what its node holds.
-    fn pick_key(&mut self, turn: u32) -> Result<Option<(Key, P::Plan)>, AllocError>
+    fn pick_and_lease_work_key(&mut self, turn: u32) -> Result<Option<(Key, P::Plan)>, AllocError>
         ensures rules { self.new.rules ≡ self.old.rules }
         ensures none { IfOk result (λ found. IfNone found
             ((g : Progress) → IsAt P.has_log self.old.place self.old.counts g
@@ -160,9 +161,9 @@ impl<'a, P: Place> Shift<'a, P> {
         if start >= keys.len() {
             return Ok(None);
         }
-        let held = self.copy_held()?;
+        let held = self.copy_held_state()?;
         for key in &keys[start..] {
-            if let Some(plan) = self.try_key(turn, &held, key)? {
+            if let Some(plan) = self.plan_and_lease_work_key(turn, &held, key)? {
                 return Ok(Some((*key, plan)));
             }
         }
@@ -170,18 +171,18 @@ impl<'a, P: Place> Shift<'a, P> {
     }
 
     // A copy of what the node holds.
-    fn copy_held(&mut self) -> Result<P::HeldState, AllocError>
+    fn copy_held_state(&mut self) -> Result<P::HeldState, AllocError>
         ensures rules { self.new.rules ≡ self.old.rules }
         ensures settled { self.new.counts.settled ≡ self.old.counts.settled }
         ensures looked { OnOk result ((g : Progress) → IsAt P.has_log self.old.place self.old.counts g
             → IsAt P.has_log self.new.place self.new.counts (after_looking self.old.rules g)) }
     {
         self.counts.settling = self.rules.setup.faults.restart == 0;
-        self.place.copy_held()
+        self.place.copy_held_state()
     }
 
     // How the tile of a key is made, if it can be made and is leased to the worker.
-    fn try_key(
+    fn plan_and_lease_work_key(
         &mut self,
         turn: u32,
         held: &P::HeldState,
@@ -198,20 +199,20 @@ impl<'a, P: Place> Shift<'a, P> {
             → IsAt P.has_log self.new.place self.new.counts
             (after_picking self.old.rules turn g key.now (P.needs_of plan)))) }
     {
-        let standing = self.place.find_standing(held, key)?;
-        if let Standing::Known = standing {
+        let standing = self.place.check_work_key_readiness(held, key)?;
+        if let KeyReadiness::Known = standing {
             if self.counts.settling {
                 self.counts.settled += 1;
             }
             return Ok(None);
         }
         self.counts.settling = false;
-        let Standing::Open(plan) = standing else {
+        let KeyReadiness::Open(plan) = standing else {
             return Ok(None);
         };
         let leased = self
             .place
-            .claim(u64::from(turn), self.rules.number, key, LEASE_TURNS)?;
+            .claim_key(u64::from(turn), self.rules.number, key, LEASE_TURNS)?;
         if !leased {
             return Ok(None);
         }
@@ -220,25 +221,30 @@ impl<'a, P: Place> Shift<'a, P> {
 
     // Makes the tile of a key from what its node lends, and gives its fact to the node and to all others. Nothing is made if the
     // other worker has restarted the node, so that it no longer holds the needs.
-    fn make_tile(&mut self, turn: u32, key: &Key, plan: &P::Plan) -> Result<(), AllocError>
+    fn make_and_share_tile(
+        &mut self,
+        turn: u32,
+        key: &Key,
+        plan: &P::Plan,
+    ) -> Result<(), AllocError>
         ensures rules { self.new.rules ≡ self.old.rules }
         ensures made { OnOk result ((g : Progress) → IsAt P.has_log self.old.place self.old.counts g
             → (making : MakeOutcome) × IsAt P.has_log self.new.place self.new.counts
             (after_making self.old.rules turn key.now (P.needs_of plan.now) g making)) }
     {
-        let Some(facts) = self.place.lend(plan)? else {
+        let Some(facts) = self.place.lend_needed_facts(plan)? else {
             return Ok(());
         };
         let Some(fact) = self.place.compute_fact(&facts, key)? else {
             return Ok(());
         };
         self.place.report_fact(self.rules.number, turn, &fact);
-        self.place.take_fact(&fact)?;
-        self.send_fact(&fact)
+        self.place.add_fact_to_node(&fact)?;
+        self.send_fact_to_other_nodes(&fact)
     }
 
     // Puts a parcel with the fact into each other node's mailbox, but for those that are to be lost.
-    fn send_fact(&mut self, fact: &Fact) -> Result<(), AllocError>
+    fn send_fact_to_other_nodes(&mut self, fact: &Fact) -> Result<(), AllocError>
         requires { P.is_true fact.now }
         ensures rules { self.new.rules ≡ self.old.rules }
         ensures sent { OnOk result ((g : Progress) → IsAt P.has_log self.old.place self.old.counts g
@@ -246,13 +252,13 @@ impl<'a, P: Place> Shift<'a, P> {
             (after_sending_below self.old.rules fact.now g self.old.rules.setup.nodes)) }
     {
         for node in 0..self.rules.setup.nodes {
-            self.send_fact_to(node, fact)?;
+            self.send_fact_to_node_unless_lost(node, fact)?;
         }
         Ok(())
     }
 
     // Puts a parcel with the fact into a node's mailbox, if it is another node, and the parcel is not lost.
-    fn send_fact_to(&mut self, node: u8, fact: &Fact) -> Result<(), AllocError>
+    fn send_fact_to_node_unless_lost(&mut self, node: u8, fact: &Fact) -> Result<(), AllocError>
         requires { P.is_true fact.now }
         ensures rules { self.new.rules ≡ self.old.rules }
         ensures sent { OnOk result ((g : Progress) → IsAt P.has_log self.old.place self.old.counts g
@@ -260,32 +266,32 @@ impl<'a, P: Place> Shift<'a, P> {
             (after_sending_to self.old.rules fact.now g node)) }
     {
         if node != self.rules.home && !self.counts.lost.count_next() {
-            self.place.put(node, self.rules.home, fact)?;
+            self.place.post_fact(node, self.rules.home, fact)?;
         }
         Ok(())
     }
 
     // Has the node keep what it holds, in some turns.
-    fn keep_if_due(&mut self, turn: u32) -> Result<(), AllocError>
+    fn keep_node_state_if_due(&mut self, turn: u32) -> Result<(), AllocError>
         ensures rules { self.new.rules ≡ self.old.rules }
         ensures kept { OnOk result ((g : Progress) → IsAt P.has_log self.old.place self.old.counts g
             → IsAt P.has_log self.new.place self.new.counts (after_keeping turn g)) }
     {
         if turn % KEEP_PERIOD == 0 {
-            self.place.keep()?;
+            self.place.keep_node_state()?;
         }
         Ok(())
     }
 
     // Restarts the node, in some turns.
-    fn restart_if_due(&mut self, turn: u32) -> Result<(), AllocError>
+    fn restart_node_if_due(&mut self, turn: u32) -> Result<(), AllocError>
         ensures rules { self.new.rules ≡ self.old.rules }
         ensures restarted { OnOk result ((g : Progress) → IsAt P.has_log self.old.place self.old.counts g
             → IsAt P.has_log self.new.place self.new.counts (after_restarting self.old.rules turn g)) }
     {
         let restart = self.rules.setup.faults.restart;
         if restart > 0 && turn % restart == 0 {
-            self.place.restart()?;
+            self.place.restart_node()?;
         }
         Ok(())
     }

@@ -1,8 +1,8 @@
-//! The standing of a key at a node.
+//! The readiness of a key at a node.
 
 /// What is to be done with a key, by a copy of what a node holds.
 #[derive(Debug, Drop)]
-pub enum Standing<P> {
+pub enum KeyReadiness<P> {
     /// Nothing: a fact of it is held.
     Known,
     /// Its tile is to wait: something that it needs is not held, or there is no such tile.

@@ -5,4 +5,4 @@ mod gate;
 mod work;
 
 pub use gate::{Gate, OpenGate};
-pub use work::Work;
+pub use work::FarmWork;

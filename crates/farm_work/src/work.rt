@@ -10,12 +10,11 @@ ghost use Rattle.fact_audit.specs.TrueFacts.{IsTrueFact};
 ghost use Rattle.job.specs.Kept.{pipeline_in, program_id_in};
 ghost use Rattle.overlap_tiles.specs.Plans.{IsTilePlan};
 
-use catalog::Catalog;
+use catalog::{Catalog, NamedCatalog};
 use grouping::Schedule;
 use held_facts::{HeldFacts, MakeFault};
 use identity::Key;
 use job::Job;
-use named_catalogs::NamedCatalog;
 use overlap_tiles::{PlanFault, TilePlan};
 use std::alloc::{AllocError, Global};
 use std::marker::PhantomData;
@@ -24,7 +23,7 @@ use tile_fact::Fact;
 /// A job of the catalog that the type names, a schedule of it, and the keys of its stored functions' and its accumulators' tiles
 /// in dependence order.
 #[derive(Drop)]
-pub struct Work<'a, C: NamedCatalog> {
+pub struct FarmWork<'a, C: NamedCatalog> {
     pub catalog: &'a Catalog,
     pub job: &'a Job,
     pub schedule: &'a Schedule,
@@ -33,17 +32,17 @@ pub struct Work<'a, C: NamedCatalog> {
     ghost named: { catalog.now ≡ C.catalog },
 }
 
-impl<'a, C: NamedCatalog> Work<'a, C> {
+impl<'a, C: NamedCatalog> FarmWork<'a, C> {
     /// The work of a job of the named catalog.
     pub fn new(
         catalog: &'a Catalog,
         job: &'a Job,
         schedule: &'a Schedule,
         keys: &'a [Key],
-    ) -> Work<'a, C>
+    ) -> FarmWork<'a, C>
         requires { catalog.now ≡ C.catalog }
     {
-        Work {
+        FarmWork {
             catalog,
             job,
             schedule,
@@ -66,13 +65,13 @@ impl<'a, C: NamedCatalog> Work<'a, C> {
         ensures ready { IfOk result
             (λ found. IfSome found (λ plan. list_any (lacks held.now) plan.needs ≡ false)) }
     {
-        if !is_missing(held, key) {
+        if !is_farm_key_missing(held, key) {
             return Ok(None);
         }
         let Some(plan) = self.plan_tile(alloc, key)? else {
             return Ok(None);
         };
-        if is_any_missing(held, plan.needs()) {
+        if is_any_farm_key_missing(held, plan.needs()) {
             return Ok(None);
         }
         Ok(Some(plan))
@@ -106,7 +105,7 @@ impl<'a, C: NamedCatalog> Work<'a, C> {
         ensures none { IfOk result (λ made. IfNone made (IsNotMade
             C.catalog facts.now self.now.schedule.now.inlining key.now)) }
     {
-        let held = hold_facts(alloc, facts)?;
+        let held = build_worker_held_facts(alloc, facts)?;
         match held.make(self.catalog, self.schedule, key) {
             Ok(fact) => Ok(Some(fact)),
             Err(MakeFault::Memory) => Err(AllocError),
@@ -116,28 +115,28 @@ impl<'a, C: NamedCatalog> Work<'a, C> {
 }
 
 // Whether nothing is held of a key.
-fn is_missing(held: &HeldFacts, key: &Key) -> bool
+fn is_farm_key_missing(held: &HeldFacts, key: &Key) -> bool
     ensures { result ≡ lacks held.now key.now }
 {
     held.count_facts_of_key(key) == 0
 }
 
 // Whether nothing is held of one of these keys.
-fn is_any_missing(held: &HeldFacts, keys: &[Key]) -> bool
+fn is_any_farm_key_missing(held: &HeldFacts, keys: &[Key]) -> bool
     ensures { result ≡ list_any (lacks held.now) keys.now }
 {
-    keys.iter().any(|key| is_missing(held, key))
+    keys.iter().any(|key| is_farm_key_missing(held, key))
 }
 
 // These facts as held facts, all of which are true if these are.
-fn hold_facts(alloc: Global, facts: &[Fact]) -> Result<HeldFacts, AllocError>
+fn build_worker_held_facts(alloc: Global, facts: &[Fact]) -> Result<HeldFacts, AllocError>
     ensures these { IfOk result (λ held. held ≡ fold with_fact nothing facts.now) }
     ensures is_true { (catalog : List Entry) → All (IsTrueFact catalog) facts.now
         → IfOk result (HoldsTrueFacts catalog) }
 {
     let mut held = HeldFacts::new(alloc);
     for fact in facts {
-        held.take(fact.clone()?)?;
+        held.hold_fact(fact.clone()?)?;
     }
     Ok(held)
 }

@@ -17,7 +17,7 @@ use Rattle.held_facts.specs.HeldAnswers.{lacks}
 use Rattle.tile_fact.specs.declared.fact.Fact.{Fact}
 use Rattle.node_state.specs.States.{retires}
 use Rattle.overlap_tiles.specs.Needs.{key_of}
-use Rattle.overlap_tiles.specs.Work.{IsWork, IsWorkedBefore, lacks_room}
+use Rattle.overlap_tiles.specs.Work.{IsWork, IsWorkedBefore, is_tile_over_scratch_limit}
 use Rattle.gossip_events.specs.declared.event.Event.{Event}
 use Rattle.gossip_events.specs.declared.event.Event.TheVariants.{Make, Deliver}
 use Rattle.gossip_core.specs.Finishing.{AllAccepted, IsPlanned, NoneRefused, makings}
@@ -35,7 +35,7 @@ module _ (u : WorldWork) (n j : ℕ) (entry : Entry) (inlining : List Bool) (is 
     (keeps : (w new : Network) (e : Event) → AllTrue u.jobs w → Accepts u w e new → AllTrue u.jobs new)
     (first : FactSet)
     (roomy : (t : Tile) → IsWork entry.pipeline inlining t
-    → lacks first (key_of (ids_of entry).program entry.pipeline t) ≡ true → lacks_room entry.pipeline inlining t ≡ false) where
+    → lacks first (key_of (ids_of entry).program entry.pipeline t) ≡ true → is_tile_over_scratch_limit entry.pipeline inlining t ≡ false) where
   abbrev job : Pipeline
   job = entry.pipeline
 

@@ -28,7 +28,7 @@ use Rattle.overlap_tiles.proofs.Lists.{Contains-from_map}
 use Rattle.overlap_tiles.proofs.NeedsAreExact.{from_needs}
 use Rattle.overlap_tiles.proofs.RoomIsExact.{room_is}
 use Rattle.overlap_tiles.specs.Needs.{key_of, needed_keys, needs}
-use Rattle.overlap_tiles.specs.Work.{IsWork, lacks_room}
+use Rattle.overlap_tiles.specs.Work.{IsWork, is_tile_over_scratch_limit}
 use Rattle.gossip_core.specs.Finishing.{IsPlanned}
 use Rattle.gossip_core.specs.Networks.{Network}
 use Rattle.gossip_core.specs.Steps.{CannotMake, IsScheduleFor, WorldWork, held}
@@ -63,7 +63,7 @@ module _ (u : WorldWork) (n j : ℕ) (entry : Entry) (inlining : List Bool) (is 
   -- ---- no fault
 
   module _ (s : FactSet) (t : Tile) (good : IsJob entry.pipeline) (right : HoldsTrueFacts u.jobs s) (work : IsWork entry.pipeline inlining t)
-      (roomy : lacks_room entry.pipeline inlining t ≡ false)
+      (roomy : is_tile_over_scratch_limit entry.pipeline inlining t ≡ false)
       (lower : (m : Tile) → IsWork entry.pipeline inlining m → rank_of entry.pipeline.stages m.stage < rank_of entry.pipeline.stages t.stage
       → ¬ IsNotHeld s (key_of (ids_of entry).program entry.pipeline m)) where
     -- a need is of the job, and held

@@ -14,7 +14,7 @@ use Rattle.node_state.specs.States.{retires}
 use Rattle.overlap_tiles.proofs.Lists.{Contains-from_map}
 use Rattle.overlap_tiles.proofs.WorkIsExact.{work_has, work_rises}
 use Rattle.overlap_tiles.specs.Needs.{key_of, key_tile}
-use Rattle.overlap_tiles.specs.Work.{IsWork, first_without_room, lacks_room, wanted_keys, work_keys, work_tiles}
+use Rattle.overlap_tiles.specs.Work.{IsWork, find_key_over_scratch_limit, is_tile_over_scratch_limit, wanted_keys, work_keys, work_tiles}
 use Rattle.gossip_events.specs.declared.event.Event.{Event}
 use Rattle.gossip_core.specs.Finishing.{GivesAll, IsPlanned, NoneRefused, lacked_work, makings}
 use Rattle.gossip_core.specs.Networks.{Network}
@@ -28,16 +28,16 @@ module _ (u : WorldWork) (w : Network) (n j : ℕ) (entry : Entry) (inlining : L
     (truth : AllTrue u.jobs w)
     (keeps : (v new : Network) (e : Event) → AllTrue u.jobs v → Accepts u v e new → AllTrue u.jobs new)
     (here : n < length w.nodes) (planned : IsPlanned u n j entry inlining) (live : retires (held w n) (ids_of entry) ≡ false)
-    (room : first_without_room entry.pipeline inlining (lacked_work (held w n).facts entry inlining) ≡ None) where
+    (room : find_key_over_scratch_limit entry.pipeline inlining (lacked_work (held w n).facts entry inlining) ≡ None) where
   abbrev key : Tile → Key
   key t = key_of (ids_of entry).program entry.pipeline t
 
   abbrev events : List Event
   events = makings n (length w.messages) (lacked_work (held w n).facts entry inlining)
 
-  roomy : (t : Tile) → IsWork entry.pipeline inlining t → lacks (held w n).facts (key t) ≡ true → lacks_room entry.pipeline inlining t ≡ false
+  roomy : (t : Tile) → IsWork entry.pipeline inlining t → lacks (held w n).facts (key t) ≡ true → is_tile_over_scratch_limit entry.pipeline inlining t ≡ false
   roomy t work lacked =
-      none_passes (λ k. lacks_room entry.pipeline inlining (key_tile k)) (lacked_work (held w n).facts entry inlining) room (key t)
+      none_passes (λ k. is_tile_over_scratch_limit entry.pipeline inlining (key_tile k)) (lacked_work (held w n).facts entry inlining) room (key t)
       (Contains-filter (lacks (held w n).facts) (work_keys (ids_of entry).program entry.pipeline inlining) (key t)
       (Contains-map key (work_tiles entry.pipeline inlining) t ((work_has entry.pipeline inlining t).1 work)) lacked)
 

@@ -9,12 +9,12 @@ use Rattle.std.proofs.lemmas.List.Folds.{Any-from_list_any}
 use Rattle.domains.specs.Tiles.{HasTile}
 use Rattle.domains.specs.declared.grid.Grid.{Grid}
 use Rattle.tile_boxes.specs.Schedules.{StoresOutputs}
-use Rattle.tile_boxes.specs.Schedules.{is_function, is_function_body, is_inlined}
+use Rattle.tile_boxes.specs.Schedules.{is_function_stage, is_function_body, is_inlined}
 use Rattle.job.specs.Answers.{Tile, height_of, is_output, width_of}
 use Rattle.job.specs.Pipeline.{Body, plane, function, accumulator, Output, Pipeline, Stage}
 use Rattle.job.specs.WellFormed.{IsFunction, IsJob, IsOutputPlane}
 use Rattle.held_facts.proofs.WantedTiles.{IsWantedTile}
-use Rattle.overlap_tiles.specs.Work.{IsWork, is_accumulator_at, is_made}
+use Rattle.overlap_tiles.specs.Work.{IsWork, is_accumulator_at, is_work_stage}
 
 among : (xs : List ℕ) (g : ℕ) → list_any (λ h. h == g) xs ≡ true → Contains xs g
 among xs g e =
@@ -25,11 +25,11 @@ a_function (plane n) is = absurd is
 a_function (function cases otherwise) is = refl
 a_function (accumulator fold bins value bin) is = absurd is
 
-pub output_is_function : (job : Pipeline) (g : ℕ) → IsJob job → is_output job g ≡ true → is_function job g ≡ true
+pub output_is_function : (job : Pipeline) (g : ℕ) → IsJob job → is_output job g ≡ true → is_function_stage job g ≡ true
 output_is_function job g good = by job.output refl
   where
     by : (o : Option Output) → job.output ≡ o → option_map_or (λ x. list_any (λ h. h == g) x.stages) o false ≡ true
-        → is_function job g ≡ true
+        → is_function_stage job g ≡ true
     by None there is = absurd (false≢true is)
     by (Some o) there is =
         let head = slice_index o.stages 0 in
@@ -53,8 +53,8 @@ wanted_is_work job inlining t good stores is = record {
   made = by (is_output job t.stage) refl is.wanted;
 }
   where
-    by : (b : Bool) → is_output job t.stage ≡ b → (b || is_accumulator_at job t.stage) ≡ true → is_made job inlining t.stage ≡ true
+    by : (b : Bool) → is_output job t.stage ≡ b → (b || is_accumulator_at job t.stage) ≡ true → is_work_stage job inlining t.stage ≡ true
     by true out one =
-        stored (is_function job t.stage) (is_inlined inlining t.stage) (is_accumulator_at job t.stage)
+        stored (is_function_stage job t.stage) (is_inlined inlining t.stage) (is_accumulator_at job t.stage)
         (output_is_function job t.stage good out) (λ i. true≢false (sym out ∙ stores t.stage i))
     by false out one = or_right _ (is_accumulator_at job t.stage) one

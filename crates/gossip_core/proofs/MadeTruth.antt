@@ -5,7 +5,7 @@ use Rattle.partials.proofs.LastStepIsTile.{only_area}
 use Rattle.partials.proofs.TrueTilesGiveTotals.{layout_totals_true}
 use Rattle.partials.specs.Partials.{local_totals}
 use Rattle.catalog.specs.Entries.{AreJobs, Entry, IsCatalog}
-use Rattle.identity.specs.declared.job_ids.Ids.{Ids}
+use Rattle.identity.specs.declared.job_ids.JobId.{JobId}
 use Rattle.domains.specs.declared.area.Area.{Area}
 use Rattle.fact_audit.specs.TrueFacts.{BodyIsTrue, IsTrueFact}
 use Rattle.fact_audit.specs.Verdicts.{HasEntry}
@@ -20,7 +20,7 @@ use Rattle.overlap_tiles.specs.Needs.{needed_keys}
 use Rattle.overlap_tiles.specs.Plans.{IsTileAt, IsTileLayout, IsTilePlan, Plan, layout_of}
 use Rattle.overlap_tiles.specs.inside.Made.{ranges_for, size_of}
 use Rattle.sha2.specs.Sha256.{sha256}
-use Rattle.tile_eval.specs.Buffer.{raster}
+use Rattle.tile_eval.specs.Raster.{raster}
 use Rattle.tile_fact.specs.declared.body.Body.{Body}
 use Rattle.tile_fact.specs.declared.body.Body.TheVariants.{Tile, Partial}
 use Rattle.tile_fact.specs.declared.fact.Fact.{Fact}
@@ -78,7 +78,7 @@ module _ (jobs : List Entry) (s : FactSet) (inlining : List Bool) (fact : Fact) 
     plan = record {
       plan =
           record {
-            needs = ap (λ (ids : Ids). needed_keys ids.program target) (sym is.ids);
+            needs = ap (λ (ids : JobId). needed_keys ids.program target) (sym is.ids);
             steps = refl;
             points = refl;
             ranges = have_room target;

@@ -7,7 +7,7 @@ use Rattle.identity.specs.declared.key.Key.{Key}
 use Rattle.held_facts.specs.Answers.{AreHeld}
 use Rattle.held_facts.specs.HeldAnswers.{lacks}
 use Rattle.held_facts.specs.Facts.{FactSet}
-use Rattle.overlap_tiles.specs.Work.{first_without_room, wanted_keys, work_keys}
+use Rattle.overlap_tiles.specs.Work.{find_key_over_scratch_limit, wanted_keys, work_keys}
 use Rattle.gossip_events.specs.declared.event.Event.{Event}
 use Rattle.gossip_events.specs.declared.event.Event.TheVariants.{Make, Deliver}
 use Rattle.gossip_core.specs.Histories.{IsRefused}

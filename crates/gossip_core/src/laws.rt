@@ -16,7 +16,7 @@ ghost use Rattle.tile_boxes.specs.Schedules.{StoresOutputs};
 ghost use Rattle.held_facts.specs.Facts.{FactSet};
 ghost use Rattle.held_facts.specs.Making.{AreNeedsTrue, IsMade};
 ghost use Rattle.node_state.specs.States.{IsBelow, State, retires};
-ghost use Rattle.overlap_tiles.specs.Work.{first_without_room, wanted_keys, work_keys};
+ghost use Rattle.overlap_tiles.specs.Work.{find_key_over_scratch_limit, wanted_keys, work_keys};
 ghost use Rattle.tile_fact.specs.declared.fact.Fact.{Fact};
 ghost use Rattle.tile_fact.specs.declared.update.Update.{Update};
 
@@ -88,20 +88,20 @@ pub fn finishing_events_give_all()
         → IsCatalog u.jobs → AreJobs u.jobs → AllTrue u.jobs w
         → n < length w.nodes → IsPlanned u n j entry inlining
         → retires (held w n) (ids_of entry) ≡ false
-        → first_without_room entry.pipeline inlining (lacked_work (held w n).facts entry inlining) ≡ None
+        → find_key_over_scratch_limit entry.pipeline inlining (lacked_work (held w n).facts entry inlining) ≡ None
         → NoneRefused u w (makings n (length w.messages) (lacked_work (held w n).facts entry inlining)) }
     ensures work { (u : WorldWork) (w : Network) (n j : ℕ) (entry : Entry) (inlining : List Bool)
         → IsCatalog u.jobs → AreJobs u.jobs → AllTrue u.jobs w
         → n < length w.nodes → IsPlanned u n j entry inlining
         → retires (held w n) (ids_of entry) ≡ false
-        → first_without_room entry.pipeline inlining (lacked_work (held w n).facts entry inlining) ≡ None
+        → find_key_over_scratch_limit entry.pipeline inlining (lacked_work (held w n).facts entry inlining) ≡ None
         → GivesAll u w n (makings n (length w.messages) (lacked_work (held w n).facts entry inlining))
         (work_keys (ids_of entry).program entry.pipeline inlining) }
     ensures wanted { (u : WorldWork) (w : Network) (n j : ℕ) (entry : Entry) (inlining : List Bool)
         → IsCatalog u.jobs → AreJobs u.jobs → AllTrue u.jobs w
         → n < length w.nodes → IsPlanned u n j entry inlining
         → retires (held w n) (ids_of entry) ≡ false
-        → first_without_room entry.pipeline inlining (lacked_work (held w n).facts entry inlining) ≡ None
+        → find_key_over_scratch_limit entry.pipeline inlining (lacked_work (held w n).facts entry inlining) ≡ None
         → StoresOutputs entry.pipeline inlining
         → GivesAll u w n (makings n (length w.messages) (lacked_work (held w n).facts entry inlining))
         (wanted_keys (ids_of entry).program entry.pipeline) }

@@ -3,10 +3,10 @@ use Rattle.std.proofs.Common.{◌≡◌, ℕ, List, [], ◌∷◌, refl}
 use Rattle.gossip_events.specs.Scripts.{AreTwo, FollowPlain, FollowVerb, SpellsNode, SpellsNumber}
 use Rattle.gossip_events.specs.declared.event.Event.{Event}
 use Rattle.gossip_events.specs.declared.event.Event.TheVariants as events
-use Rattle.gossip_events.specs.declared.order.Order.{Order}
-use Rattle.gossip_events.specs.declared.order.Order.TheVariants.{Make, Retire, Send, Plain}
-use Rattle.gossip_events.specs.declared.verb.Verb.{Verb}
-use Rattle.gossip_events.specs.declared.verb.Verb.TheVariants as verbs
+use Rattle.gossip_events.specs.declared.order.ScriptRequest.{ScriptRequest}
+use Rattle.gossip_events.specs.declared.order.ScriptRequest.TheVariants.{Make, Retire, Send, Plain}
+use Rattle.gossip_events.specs.declared.verb.EventVerb.{EventVerb}
+use Rattle.gossip_events.specs.declared.verb.EventVerb.TheVariants as verbs
 
 second_number : (words : List (List ℕ)) (m n : ℕ) → AreTwo words (λ w. SpellsNode w m) (λ w. SpellsNode w n)
     → AreTwo words (λ w. SpellsNode w m) (λ w. SpellsNumber w n)
@@ -27,8 +27,8 @@ no_merge words none (events.Keep node) follow = follow
 no_merge words none (events.Restart node) follow = follow
 
 -- after a verb that names neither a job nor a tile, what tells no event asks for nothing
-pub no_order : (verb : Verb) (words : List (List ℕ)) → (verb ≡ verbs.Make → ⊥) → (verb ≡ verbs.Retire → ⊥) → (verb ≡ verbs.Send → ⊥)
-    → ((event : Event) → ¬ FollowPlain verb words event) → (order : Order) → ¬ FollowVerb verb words order
+pub no_order : (verb : EventVerb) (words : List (List ℕ)) → (verb ≡ verbs.Make → ⊥) → (verb ≡ verbs.Retire → ⊥) → (verb ≡ verbs.Send → ⊥)
+    → ((event : Event) → ¬ FollowPlain verb words event) → (order : ScriptRequest) → ¬ FollowVerb verb words order
 no_order verbs.Make words make retire send none order follow = make refl
 no_order verbs.Retire words make retire send none order follow = retire refl
 no_order verbs.Send words make retire send none order follow = send refl

@@ -3,8 +3,8 @@ use Rattle.std.proofs.Common.{◌≡◌, ◌∙◌, ℕ, List, true, false, ap, 
 use Rattle.std.specs.Prelude.{codes}
 use Rattle.std.specs.Str.{bytes_eq}
 use Rattle.gossip_events.specs.Scripts.{verb_word}
-use Rattle.gossip_events.specs.declared.verb.Verb.{Verb}
-use Rattle.gossip_events.specs.declared.verb.Verb.TheVariants.{Make, Retire, Send, Deliver, Merge, Keep, Restart}
+use Rattle.gossip_events.specs.declared.verb.EventVerb.{EventVerb}
+use Rattle.gossip_events.specs.declared.verb.EventVerb.TheVariants.{Make, Retire, Send, Deliver, Merge, Keep, Restart}
 
 no_clash : true ≡ false → ⊥
 no_clash e = cc
@@ -13,7 +13,7 @@ no_clash e = cc
 apart : (a b : List ℕ) → bytes_eq a a ≡ true → bytes_eq b a ≡ false → a ≡ b → ⊥
 apart a b one other same = no_clash (sym one ∙ ap (λ w. bytes_eq w a) same ∙ other)
 
-pub one_verb : (a b : Verb) → verb_word a ≡ verb_word b → a ≡ b
+pub one_verb : (a b : EventVerb) → verb_word a ≡ verb_word b → a ≡ b
 one_verb Make Make same = refl
 one_verb Make Retire same = absurd (apart (codes "make") (codes "retire") refl refl same)
 one_verb Make Send same = absurd (apart (codes "make") (codes "send") refl refl same)

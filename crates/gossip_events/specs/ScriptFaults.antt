@@ -5,15 +5,15 @@ use Rattle.gossip_events.specs.Scripts.{AreEvents, IsAsked, SpellsOrder, is_pass
 use Rattle.gossip_events.specs.declared.event.Event.{Event}
 use Rattle.gossip_events.specs.declared.fault.ScriptFault.{ScriptFault}
 use Rattle.gossip_events.specs.declared.fault.ScriptFault.TheVariants.{BadLine, NoSuchJob, TooManyEvents, Memory}
-use Rattle.gossip_events.specs.declared.order.Order.{Order}
+use Rattle.gossip_events.specs.declared.order.ScriptRequest.{ScriptRequest}
 
 -- the line requests nothing, whatever jobs there are
 abbrev pub IsBadLine : List ℕ → Type 0
-IsBadLine line = (order : Order) → ¬ SpellsOrder (words line) order
+IsBadLine line = (order : ScriptRequest) → ¬ SpellsOrder (words line) order
 
 -- it requests something, and the catalog lacks a job that it names
 abbrev pub LacksJob : List Entry → List ℕ → Type 0
-LacksJob jobs line = (order : Order) × SpellsOrder (words line) order × ((event : Event) → ¬ IsAsked jobs order event)
+LacksJob jobs line = (order : ScriptRequest) × SpellsOrder (words line) order × ((event : Event) → ¬ IsAsked jobs order event)
 
 -- the fault of a line that should specify an event, with this number and this count of events before it
 abbrev pub IsLineFault : List Entry → ℕ → ℕ → List ℕ → ScriptFault → Type 0

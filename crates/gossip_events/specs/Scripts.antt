@@ -4,15 +4,15 @@ use Rattle.std.specs.List.{slice_split}
 use Rattle.std.specs.Prelude.{◌≡◌, ℕ, ◌<◌, ◌^◌, ◌==◌, ◌≤◌, Bool, true, not, Some, List, [], ◌∷◌, codes, filter, length, slice_get}
 use Rattle.std.specs.Str.Parse.{IsNumeral, digits_value}
 use Rattle.catalog.specs.Entries.{Entry, ids_of}
-use Rattle.identity.specs.declared.job_ids.Ids.{Ids}
+use Rattle.identity.specs.declared.job_ids.JobId.{JobId}
 use Rattle.identity.specs.declared.key.Key.{Key}
 use Rattle.gossip_events.specs.declared.event.Event.{Event}
 use Rattle.gossip_events.specs.declared.event.Event.TheVariants as events
-use Rattle.gossip_events.specs.declared.order.Order.{Order}
-use Rattle.gossip_events.specs.declared.order.Order.TheVariants.{Make, Retire, Send, Plain}
+use Rattle.gossip_events.specs.declared.order.ScriptRequest.{ScriptRequest}
+use Rattle.gossip_events.specs.declared.order.ScriptRequest.TheVariants.{Make, Retire, Send, Plain}
 use Rattle.gossip_events.specs.declared.places.TileName.{TileName}
-use Rattle.gossip_events.specs.declared.verb.Verb.{Verb}
-use Rattle.gossip_events.specs.declared.verb.Verb.TheVariants as verbs
+use Rattle.gossip_events.specs.declared.verb.EventVerb.{EventVerb}
+use Rattle.gossip_events.specs.declared.verb.EventVerb.TheVariants as verbs
 
 -- ---- lines and words
 
@@ -66,7 +66,7 @@ SpellPlaces (word ∷ words) [] = ⊥
 
 -- ---- what a line requests
 
-abbrev pub verb_word : Verb → List ℕ
+abbrev pub verb_word : EventVerb → List ℕ
 verb_word verbs.Make = codes "make"
 verb_word verbs.Retire = codes "retire"
 verb_word verbs.Send = codes "send"
@@ -90,7 +90,7 @@ AreSent (first ∷ second ∷ rest) node to places = SpellsNode first node × Sp
 AreSent _ node to places = ⊥
 
 -- the words that follow a verb that names neither a job nor a tile: `deliver N K`, `merge A B`, `keep N`, `restart N`
-abbrev pub FollowPlain : Verb → List (List ℕ) → Event → Type 0
+abbrev pub FollowPlain : EventVerb → List (List ℕ) → Event → Type 0
 FollowPlain verbs.Deliver rest (events.Deliver node message) = AreTwo rest (λ w. SpellsNode w node) (λ w. SpellsNumber w message)
 FollowPlain verbs.Merge rest (events.Merge node other) = AreTwo rest (λ w. SpellsNode w node) (λ w. SpellsNode w other)
 FollowPlain verbs.Keep rest (events.Keep node) = IsLoneNode rest node
@@ -99,7 +99,7 @@ FollowPlain _ rest _ = ⊥
 
 -- the words that follow a verb: `make N KEY`, `retire N JOB`, `send N M KEY..`, or those of an event that names neither a job nor
 -- a tile
-abbrev pub FollowVerb : Verb → List (List ℕ) → Order → Type 0
+abbrev pub FollowVerb : EventVerb → List (List ℕ) → ScriptRequest → Type 0
 FollowVerb verbs.Make rest (Make node place) = AreTwo rest (λ w. SpellsNode w node) (λ w. SpellsPlace w place)
 FollowVerb verbs.Retire rest (Retire node job) = AreTwo rest (λ w. SpellsNode w node) (λ w. SpellsNumber w job)
 FollowVerb verbs.Send rest (Send node to places) = AreSent rest node to places
@@ -107,14 +107,14 @@ FollowVerb verb rest (Plain event) = FollowPlain verb rest event
 FollowVerb _ rest _ = ⊥
 
 -- a verb and what follows it
-abbrev pub SpellsOrder : List (List ℕ) → Order → Type 0
+abbrev pub SpellsOrder : List (List ℕ) → ScriptRequest → Type 0
 SpellsOrder [] order = ⊥
-SpellsOrder (first ∷ rest) order = (verb : Verb) × (first ≡ verb_word verb) × FollowVerb verb rest order
+SpellsOrder (first ∷ rest) order = (verb : EventVerb) × (first ≡ verb_word verb) × FollowVerb verb rest order
 
 -- ---- events
 
 -- the identities of the catalog's job of this number
-abbrev pub AreIdsAt : List Entry → ℕ → Ids → Type 0
+abbrev pub AreIdsAt : List Entry → ℕ → JobId → Type 0
 AreIdsAt jobs number ids = (job : Entry) × (slice_get jobs number ≡ Some job) × (ids ≡ ids_of job)
 
 -- the key of a tile of the catalog's job of this number
@@ -134,15 +134,15 @@ AreKeysOf jobs [] (key ∷ keys) = ⊥
 AreKeysOf jobs (place ∷ places) [] = ⊥
 
 -- the event that is requested, with the keys of its tiles or the identities of its job
-abbrev pub IsAsked : List Entry → Order → Event → Type 0
+abbrev pub IsAsked : List Entry → ScriptRequest → Event → Type 0
 IsAsked jobs (Make node place) event = (key : Key) × IsKeyOf jobs place key × (event ≡ events.Make node key)
-IsAsked jobs (Retire node job) event = (ids : Ids) × AreIdsAt jobs job ids × (event ≡ events.Retire node ids)
+IsAsked jobs (Retire node job) event = (ids : JobId) × AreIdsAt jobs job ids × (event ≡ events.Retire node ids)
 IsAsked jobs (Send node to places) event = (keys : List Key) × AreKeysOf jobs places keys × (event ≡ events.Send node to keys)
 IsAsked jobs (Plain told) event = event ≡ told
 
 -- the line specifies the event
 abbrev pub TellsEvent : List Entry → List ℕ → Event → Type 0
-TellsEvent jobs line event = (order : Order) × SpellsOrder (words line) order × IsAsked jobs order event
+TellsEvent jobs line event = (order : ScriptRequest) × SpellsOrder (words line) order × IsAsked jobs order event
 
 -- ---- scripts
 

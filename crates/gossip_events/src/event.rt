@@ -1,6 +1,6 @@
 //! Events.
 
-use identity::{Ids, Key};
+use identity::{JobId, Key};
 use sequences::Sequence;
 
 /// Keys in the order in which they were named, possibly with repetitions.
@@ -12,7 +12,7 @@ pub enum Event {
     /// The node makes the fact of a tile from what it holds, as a message to itself.
     Make { node: u8, key: Key },
     /// The node retires the job of these identities, by a message to itself.
-    Retire { node: u8, ids: Ids },
+    Retire { node: u8, ids: JobId },
     /// The node sends all facts of the keys that it holds, and all retirements, to another one, or to itself.
     Send { node: u8, to: u8, keys: Keys },
     /// A message comes to the node, perhaps not for the first time.

@@ -4,16 +4,16 @@ ghost use Rattle.std.specs.Prelude.{◌≡◌, ◌≢◌, ◌≤◌, IfErr, IfOk
 ghost use Rattle.gossip_events.specs.ScriptFaults.{IsBadLine, IsLineFault, LacksJob};
 ghost use Rattle.gossip_events.specs.Scripts.{SpellsOrder, TellsEvent, is_passed_over, words};
 ghost use Rattle.gossip_events.specs.inside.Adding.{Adds};
-ghost use Rattle.gossip_events.specs.declared.line.LineFault.TheVariants as faults;
-ghost use Rattle.gossip_events.specs.declared.order.Order.{Order as OrderType};
-ghost use Rattle.gossip_events.specs.declared.order.OrderFault.TheVariants.{NoOrder};
+ghost use Rattle.gossip_events.specs.declared.line.ScriptLineFault.TheVariants as faults;
+ghost use Rattle.gossip_events.specs.declared.order.ScriptRequest.{ScriptRequest as OrderType};
+ghost use Rattle.gossip_events.specs.declared.order.ScriptRequestFault.TheVariants.{NoRequest};
 
 use crate::event::Event;
 use crate::fault::ScriptFault;
-use crate::naming::resolve_order;
-use crate::order::{Order, OrderFault};
-use crate::order_words::parse_order_words;
-use crate::words::split_words;
+use crate::naming::resolve_script_request;
+use crate::order::{ScriptRequest, ScriptRequestFault};
+use crate::order_words::parse_script_request_words;
+use crate::words::split_script_words;
 use catalog::Catalog;
 use std::alloc::{AllocError, Global};
 
@@ -21,7 +21,7 @@ use std::alloc::{AllocError, Global};
 pub const MAX_EVENTS: usize = 65_536;
 
 /// Adds the event that the line of this number specifies, unless the line is passed over.
-pub fn add_event_line(
+pub fn parse_script_line_into_events(
     alloc: Global,
     jobs: &Catalog,
     number: usize,
@@ -35,25 +35,25 @@ pub fn add_event_line(
     ensures fault { IfErr result
         (IsLineFault jobs.now number (length events.old.items) line.now) }
 {
-    if is_skipped_line(line) {
+    if is_skipped_script_line(line) {
         return Ok(());
     }
     if events.len() == MAX_EVENTS {
         return Err(ScriptFault::TooManyEvents);
     }
-    match parse_event(alloc, jobs, line) {
+    match parse_event_line(alloc, jobs, line) {
         Ok(event) => {
             events.push(event).map_err(AllocError::from)?;
             Ok(())
         }
-        Err(LineFault::Bad) => Err(ScriptFault::BadLine { line: number }),
-        Err(LineFault::NoSuchJob) => Err(ScriptFault::NoSuchJob { line: number }),
-        Err(LineFault::Memory) => Err(ScriptFault::Memory),
+        Err(ScriptLineFault::Bad) => Err(ScriptFault::BadLine { line: number }),
+        Err(ScriptLineFault::NoSuchJob) => Err(ScriptFault::NoSuchJob { line: number }),
+        Err(ScriptLineFault::Memory) => Err(ScriptFault::Memory),
     }
 }
 
 // Whether the line is passed over.
-fn is_skipped_line(line: &[u8]) -> bool
+fn is_skipped_script_line(line: &[u8]) -> bool
     ensures { result ≡ is_passed_over line.now }
 {
     match line {
@@ -64,43 +64,43 @@ fn is_skipped_line(line: &[u8]) -> bool
 
 /// Why a line specifies no event.
 #[derive(Clone, Copy, Debug, PartialEq, Eq)]
-pub enum LineFault {
+pub enum ScriptLineFault {
     Bad,
     NoSuchJob,
     Memory,
 }
 
-impl From<OrderFault> for LineFault {
-    ghost from_gives = { λ fault told. (told ≡ faults.Bad → fault ≡ NoOrder) × (told ≢ faults.NoSuchJob) };
+impl From<ScriptRequestFault> for ScriptLineFault {
+    ghost from_gives = { λ fault told. (told ≡ faults.Bad → fault ≡ NoRequest) × (told ≢ faults.NoSuchJob) };
 
-    fn from(fault: OrderFault) -> LineFault {
+    fn from(fault: ScriptRequestFault) -> ScriptLineFault {
         match fault {
-            OrderFault::NoOrder => LineFault::Bad,
-            OrderFault::Memory => LineFault::Memory,
+            ScriptRequestFault::NoRequest => ScriptLineFault::Bad,
+            ScriptRequestFault::Memory => ScriptLineFault::Memory,
         }
     }
 }
 
 // The event that the line specifies.
-fn parse_event(alloc: Global, jobs: &Catalog, line: &[u8]) -> Result<Event, LineFault>
+fn parse_event_line(alloc: Global, jobs: &Catalog, line: &[u8]) -> Result<Event, ScriptLineFault>
     ensures some { IfOk result (TellsEvent jobs.now line.now) }
     ensures bad { IfErr result (λ fault. fault ≡ faults.Bad → IsBadLine line.now) }
     ensures lacks { IfErr result (λ fault. fault ≡ faults.NoSuchJob → LacksJob jobs.now line.now) }
 {
-    let order = parse_order(alloc, line)?;
-    match resolve_order(alloc, jobs, order) {
+    let order = parse_script_request(alloc, line)?;
+    match resolve_script_request(alloc, jobs, order) {
         Ok(Some(event)) => Ok(event),
-        Ok(None) => Err(LineFault::NoSuchJob),
-        Err(_) => Err(LineFault::Memory),
+        Ok(None) => Err(ScriptLineFault::NoSuchJob),
+        Err(_) => Err(ScriptLineFault::Memory),
     }
 }
 
 // What the line requests.
-fn parse_order(alloc: Global, line: &[u8]) -> Result<Order, OrderFault>
+fn parse_script_request(alloc: Global, line: &[u8]) -> Result<ScriptRequest, ScriptRequestFault>
     ensures some { IfOk result (SpellsOrder (words line.now)) }
-    ensures none { IfErr result (λ fault. fault ≡ NoOrder
+    ensures none { IfErr result (λ fault. fault ≡ NoRequest
         → (order : OrderType) → ¬ SpellsOrder (words line.now) order) }
 {
-    let words = split_words(alloc, line)?;
-    parse_order_words(alloc, &words)
+    let words = split_script_words(alloc, line)?;
+    parse_script_request_words(alloc, &words)
 }

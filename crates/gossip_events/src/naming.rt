@@ -3,14 +3,14 @@
 ghost use Rattle.std.specs.Prelude.{IfNone, IfOk, IfSome, List};
 ghost use Rattle.gossip_events.specs.Scripts.{AreIdsAt, AreKeysOf, IsAsked, IsKeyOf};
 ghost use Rattle.gossip_events.specs.declared.event.Event.{Event as EventType};
-ghost use Rattle.identity.specs.declared.job_ids.Ids.{Ids as IdsType};
+ghost use Rattle.identity.specs.declared.job_ids.JobId.{JobId as IdsType};
 ghost use Rattle.identity.specs.declared.key.Key.{Key as KeyType};
 
 use crate::event::{Event, Keys};
-use crate::order::Order;
+use crate::order::ScriptRequest;
 use crate::places::TileName;
-use catalog::{Catalog, ids_of};
-use identity::{Ids, Key};
+use catalog::{Catalog, compute_job_ids};
+use identity::{JobId, Key};
 use std::alloc::{AllocError, Global};
 
 /// The event that is requested, if the catalog has its jobs.
@@ -18,34 +18,38 @@ use std::alloc::{AllocError, Global};
 /// # Errors
 ///
 /// Fails only where memory is refused.
-pub fn resolve_order(
+pub fn resolve_script_request(
     alloc: Global,
     jobs: &Catalog,
-    order: Order,
+    order: ScriptRequest,
 ) -> Result<Option<Event>, AllocError>
     ensures some { IfOk result (λ found. IfSome found (IsAsked jobs.now order)) }
     ensures none { IfOk result (λ found. IfNone found
         ((event : EventType) → ¬ IsAsked jobs.now order event)) }
 {
     match order {
-        Order::Make { node, place } => match resolve_tile(jobs, &place) {
+        ScriptRequest::Make { node, place } => match resolve_script_tile_name(jobs, &place) {
             Some(key) => Ok(Some(Event::Make { node, key })),
             None => Ok(None),
         },
-        Order::Retire { node, job } => match find_job_ids(jobs, job) {
+        ScriptRequest::Retire { node, job } => match find_ids_of_script_job(jobs, job) {
             Some(ids) => Ok(Some(Event::Retire { node, ids })),
             None => Ok(None),
         },
-        Order::Send { node, to, places } => match resolve_tiles(alloc, jobs, places.as_slice())? {
+        ScriptRequest::Send { node, to, places } => match resolve_script_tile_names(
+            alloc,
+            jobs,
+            places.as_slice(),
+        )? {
             Some(keys) => Ok(Some(Event::Send { node, to, keys })),
             None => Ok(None),
         },
-        Order::Plain(event) => Ok(Some(event)),
+        ScriptRequest::Plain(event) => Ok(Some(event)),
     }
 }
 
 // The keys of the tiles, one each, if the catalog has their jobs.
-fn resolve_tiles(
+fn resolve_script_tile_names(
     alloc: Global,
     jobs: &Catalog,
     places: &[TileName],
@@ -56,7 +60,7 @@ fn resolve_tiles(
 {
     let mut keys = Vec::new(alloc);
     for place in places {
-        let Some(key) = resolve_tile(jobs, place) else {
+        let Some(key) = resolve_script_tile_name(jobs, place) else {
             return Ok(None);
         };
         keys.push(key).map_err(AllocError::from)?;
@@ -65,11 +69,11 @@ fn resolve_tiles(
 }
 
 // The key of the tile, if the catalog has its job.
-fn resolve_tile(jobs: &Catalog, place: &TileName) -> Option<Key>
+fn resolve_script_tile_name(jobs: &Catalog, place: &TileName) -> Option<Key>
     ensures some { IfSome result (IsKeyOf jobs.now place.now) }
     ensures none { IfNone result ((key : KeyType) → ¬ IsKeyOf jobs.now place.now key) }
 {
-    let ids = find_job_ids(jobs, place.job)?;
+    let ids = find_ids_of_script_job(jobs, place.job)?;
     Some(Key {
         program: ids.program,
         input: ids.input,
@@ -80,10 +84,10 @@ fn resolve_tile(jobs: &Catalog, place: &TileName) -> Option<Key>
 }
 
 // The identities of the catalog's job of this number.
-fn find_job_ids(jobs: &Catalog, job: u32) -> Option<Ids>
+fn find_ids_of_script_job(jobs: &Catalog, job: u32) -> Option<JobId>
     ensures some { IfSome result (AreIdsAt jobs.now job) }
     ensures none { IfNone result ((ids : IdsType) → ¬ AreIdsAt jobs.now job ids) }
 {
     let job = jobs.job(job as usize)?;
-    Some(ids_of(job))
+    Some(compute_job_ids(job))
 }

@@ -6,7 +6,7 @@ ghost use Rattle.gossip_events.specs.Scripts.{AreEvents, lines};
 
 use crate::event::Event;
 use crate::fault::ScriptFault;
-use crate::line::add_event_line;
+use crate::line::parse_script_line_into_events;
 use catalog::Catalog;
 use std::alloc::Global;
 
@@ -27,7 +27,7 @@ pub fn parse_script(alloc: Global, jobs: &Catalog, text: &[u8]) -> Result<Vec<Ev
     let mut number = 0;
     for line in text.split(|byte| *byte == b'\n') {
         number += 1;
-        add_event_line(alloc, jobs, number, line, &mut events)?;
+        parse_script_line_into_events(alloc, jobs, number, line, &mut events)?;
     }
     Ok(events)
 }

@@ -7,14 +7,17 @@ ghost use Rattle.gossip_events.specs.Scripts.{SpellsNode, SpellsNumber, SpellsSt
 use std::alloc::{AllocError, Global};
 
 /// The words of a line, separated by single blanks.
-pub fn split_words<'a>(alloc: Global, line: &'a [u8]) -> Result<Vec<&'a [u8]>, AllocError>
+pub fn split_script_words<'a>(alloc: Global, line: &'a [u8]) -> Result<Vec<&'a [u8]>, AllocError>
     ensures { IfOk result (λ found. map (λ w. w.now) found.items ≡ words line.now) }
 {
     line.split(|byte| *byte == b' ').collect(alloc)
 }
 
 /// The parts of a word, separated by single colons.
-pub fn split_tile_parts<'a>(alloc: Global, word: &'a [u8]) -> Result<Vec<&'a [u8]>, AllocError>
+pub fn split_script_tile_name<'a>(
+    alloc: Global,
+    word: &'a [u8],
+) -> Result<Vec<&'a [u8]>, AllocError>
     ensures { IfOk result
         (λ found. map (λ p. p.now) found.items ≡ slice_split (λ b. b == 58) word.now) }
 {
@@ -22,7 +25,7 @@ pub fn split_tile_parts<'a>(alloc: Global, word: &'a [u8]) -> Result<Vec<&'a [u8
 }
 
 /// The number that the word spells in digits alone, within 32 bits.
-pub fn parse_number(word: &[u8]) -> Option<u32>
+pub fn parse_script_number(word: &[u8]) -> Option<u32>
     ensures some { IfSome result (SpellsNumber word.now) }
     ensures none { IfNone result ((n : ℕ) → ¬ SpellsNumber word.now n) }
 {
@@ -34,17 +37,17 @@ pub fn parse_number(word: &[u8]) -> Option<u32>
 }
 
 /// The node that the word names.
-pub fn parse_node(word: &[u8]) -> Option<u8>
+pub fn parse_script_node(word: &[u8]) -> Option<u8>
     ensures some { IfSome result (SpellsNode word.now) }
     ensures none { IfNone result ((n : ℕ) → ¬ SpellsNode word.now n) }
 {
-    u8::try_from(parse_number(word)?).ok()
+    u8::try_from(parse_script_number(word)?).ok()
 }
 
 /// The stage that the word names.
-pub fn parse_stage(word: &[u8]) -> Option<u16>
+pub fn parse_script_stage(word: &[u8]) -> Option<u16>
     ensures some { IfSome result (SpellsStage word.now) }
     ensures none { IfNone result ((n : ℕ) → ¬ SpellsStage word.now n) }
 {
-    u16::try_from(parse_number(word)?).ok()
+    u16::try_from(parse_script_number(word)?).ok()
 }

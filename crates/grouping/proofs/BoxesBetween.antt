@@ -15,11 +15,11 @@ use Rattle.job.specs.Formula.{Formula}
 use Rattle.job.specs.Pipeline.{JobCase, Body, plane, function, accumulator, Stage, Pipeline}
 use Rattle.job.specs.Reads.{Read, point, window, stage_read, reads_in}
 use Rattle.job.specs.WellFormed.{IsJob}
-use Rattle.tile_boxes.specs.Demands.{Demand, image_under, widened, grown_by, hull_of_all, read_demand, formula_demands, demands_if}
+use Rattle.tile_boxes.specs.Demands.{Demand, image_under, widen_span, grown_by, hull_of_all, read_demand, formula_demands, demands_if}
 use Rattle.tile_boxes.specs.Demands.{meet_of_areas, meet_of_box, case_demands, other_demands, body_demands, areas_of}
 use Rattle.tile_boxes.specs.Targets.{Target, stage_demands, demands_by, cut_to, box, region}
 use Rattle.grouping.specs.Greedy.{readers}
-use Rattle.grouping.specs.inside.Between.{meets_box, meets_cases, IsWhole, IsBetween}
+use Rattle.grouping.specs.inside.Between.{meets_case_box, meets_all_case_boxes, IsWhole, IsBetween}
 use Rattle.tile_boxes.proofs.AreasMeet.{if_some-is, if_some-there}
 use Rattle.grouping.proofs.ReadersMakeBoxes.{box_of_readers}
 
@@ -33,11 +33,11 @@ record IsSide (side : Area → Ends) : Type 0 where
 
 row_image : (x : Read) (a b : Area) → a.rows ≡ b.rows → (image_under x a).rows ≡ (image_under x b).rows
 row_image (point g i j) a b e = ap (image_of i) e
-row_image (window g kernel) a b e = ap (widened _) e
+row_image (window g kernel) a b e = ap (widen_span _) e
 
 col_image : (x : Read) (a b : Area) → a.cols ≡ b.cols → (image_under x a).cols ≡ (image_under x b).cols
 col_image (point g i j) a b e = ap (image_of j) e
-col_image (window g kernel) a b e = ap (widened _) e
+col_image (window g kernel) a b e = ap (widen_span _) e
 
 rows_side : IsSide (λ a. a.rows)
 rows_side = record {
@@ -63,8 +63,8 @@ meets_is b a meets = by (meet_of_areas b a) refl meets
     by (Some m) e k = e ∙ ap Some (sym (if_some-is (common_of b a) m e).0)
 
 -- what meets a box by its rows and by its columns meets it
-meets_between : (a l u : Area) (o : Option Area) → a.rows ≡ l.rows → a.cols ≡ u.cols → meets_box l o ≡ true → meets_box u o ≡ true
-    → meets_box a o ≡ true
+meets_between : (a l u : Area) (o : Option Area) → a.rows ≡ l.rows → a.cols ≡ u.cols → meets_case_box l o ≡ true → meets_case_box u o ≡ true
+    → meets_case_box a o ≡ true
 meets_between a l u None rows cols left top = refl
 meets_between a l u (Some b) rows cols left top =
     let one = (if_some-is (common_of b l) (common_of b l) (meets_is b l left)).1 in
@@ -76,17 +76,17 @@ meets_between a l u (Some b) rows cols left top =
     ap is_some (if_some-there (common_of b a) down right)
 
 all_meet_between : (a l u : Area) (cases : List JobCase) → a.rows ≡ l.rows → a.cols ≡ u.cols
-    → list_all (λ (p : JobCase). meets_box l p.box) cases ≡ true → list_all (λ (p : JobCase). meets_box u p.box) cases ≡ true
-    → list_all (λ (p : JobCase). meets_box a p.box) cases ≡ true
+    → list_all (λ (p : JobCase). meets_case_box l p.box) cases ≡ true → list_all (λ (p : JobCase). meets_case_box u p.box) cases ≡ true
+    → list_all (λ (p : JobCase). meets_case_box a p.box) cases ≡ true
 all_meet_between a l u [] rows cols left top = refl
 all_meet_between a l u (p ∷ ps) rows cols left top =
-    let one = and_parts (meets_box l p.box) (list_all (λ (p : JobCase). meets_box l p.box) ps) left in
-    let other = and_parts (meets_box u p.box) (list_all (λ (p : JobCase). meets_box u p.box) ps) top in
-    and_from (meets_box a p.box) (list_all (λ (p : JobCase). meets_box a p.box) ps)
+    let one = and_parts (meets_case_box l p.box) (list_all (λ (p : JobCase). meets_case_box l p.box) ps) left in
+    let other = and_parts (meets_case_box u p.box) (list_all (λ (p : JobCase). meets_case_box u p.box) ps) top in
+    and_from (meets_case_box a p.box) (list_all (λ (p : JobCase). meets_case_box a p.box) ps)
     (meets_between a l u p.box rows cols one.0 other.0) (all_meet_between a l u ps rows cols one.1 other.1)
 
-body_meets_between : (a l u : Area) (b : Body) → a.rows ≡ l.rows → a.cols ≡ u.cols → meets_cases b l ≡ true → meets_cases b u ≡ true
-    → meets_cases b a ≡ true
+body_meets_between : (a l u : Area) (b : Body) → a.rows ≡ l.rows → a.cols ≡ u.cols → meets_all_case_boxes b l ≡ true → meets_all_case_boxes b u ≡ true
+    → meets_all_case_boxes b a ≡ true
 body_meets_between a l u (plane n) rows cols left top = refl
 body_meets_between a l u (function cases otherwise) rows cols left top = all_meet_between a l u cases rows cols left top
 body_meets_between a l u (accumulator kind bins value bin) rows cols left top = refl
@@ -108,11 +108,11 @@ module _ {side : Area → Ends} (is : IsSide side) where
   reads_same [] a b e = refl
   reads_same (x ∷ xs) a b e = λ i. (stage_read x, is.image x a b e i) ∷ reads_same xs a b e i
 
-  case_same : (a b : Area) (p : JobCase) → side a ≡ side b → meets_box a p.box ≡ true → meets_box b p.box ≡ true
+  case_same : (a b : Area) (p : JobCase) → side a ≡ side b → meets_case_box a p.box ≡ true → meets_case_box b p.box ≡ true
       → Same (case_demands a p) (case_demands b p)
   case_same a b p e one other = by p.box one other
     where
-      by : (o : Option Area) → meets_box a o ≡ true → meets_box b o ≡ true
+      by : (o : Option Area) → meets_case_box a o ≡ true → meets_case_box b o ≡ true
           → Same (demands_if p.formula (meet_of_box o a)) (demands_if p.formula (meet_of_box o b))
       by None k l = refl
       by (Some c) k l =
@@ -121,12 +121,12 @@ module _ {side : Area → Ends} (is : IsSide side) where
           ∙ sym (ap (λ o. map tag (demands_if p.formula o)) (meets_is c b l))
 
   cases_same : (a b : Area) (cases : List JobCase) → side a ≡ side b
-      → list_all (λ (p : JobCase). meets_box a p.box) cases ≡ true → list_all (λ (p : JobCase). meets_box b p.box) cases ≡ true
+      → list_all (λ (p : JobCase). meets_case_box a p.box) cases ≡ true → list_all (λ (p : JobCase). meets_case_box b p.box) cases ≡ true
       → Same (flat_map (case_demands a) cases) (flat_map (case_demands b) cases)
   cases_same a b [] e one other = refl
   cases_same a b (p ∷ ps) e one other =
-      let first = and_parts (meets_box a p.box) (list_all (λ (p : JobCase). meets_box a p.box) ps) one in
-      let second = and_parts (meets_box b p.box) (list_all (λ (p : JobCase). meets_box b p.box) ps) other in
+      let first = and_parts (meets_case_box a p.box) (list_all (λ (p : JobCase). meets_case_box a p.box) ps) one in
+      let second = and_parts (meets_case_box b p.box) (list_all (λ (p : JobCase). meets_case_box b p.box) ps) other in
       join (case_demands a p) (flat_map (case_demands a) ps) (case_demands b p) (flat_map (case_demands b) ps)
       (case_same a b p e first.0 second.0) (cases_same a b ps e first.1 second.1)
 
@@ -134,7 +134,7 @@ module _ {side : Area → Ends} (is : IsSide side) where
   other_same a b None e = refl
   other_same a b (Some f) e = reads_same (reads_in f) a b e
 
-  body_same : (a b : Area) (body : Body) → side a ≡ side b → meets_cases body a ≡ true → meets_cases body b ≡ true
+  body_same : (a b : Area) (body : Body) → side a ≡ side b → meets_all_case_boxes body a ≡ true → meets_all_case_boxes body b ≡ true
       → Same (body_demands body a) (body_demands body b)
   body_same a b (plane n) e one other = refl
   body_same a b (function cases otherwise) e one other =
@@ -234,10 +234,10 @@ demands_same t l u (r ∷ rs) one other all =
     (join rows_side (d r) (flat_map d rs) (dl r) (flat_map dl rs) left rest.0, join cols_side (d r) (flat_map d rs) (du r) (flat_map du rs) top rest.1)
 
 -- so has its box
-pub box_between : (t l u : Target) (g : ℕ) (a b : Area) → IsJob t.job → l.job ≡ t.job → u.job ≡ t.job
+pub derive_inner_box : (t l u : Target) (g : ℕ) (a b : Area) → IsJob t.job → l.job ≡ t.job → u.job ≡ t.job
     → All (IsSpared t l u) (readers t.job g) → box l g ≡ Some a → box u g ≡ Some b
     → box t g ≡ Some (record { rows = a.rows; cols = b.cols })
-box_between t l u g a b job one other all left top =
+derive_inner_box t l u g a b job one other all left top =
     let rs = readers t.job g in
     let same = demands_same t l u rs one other all in
     let hull : Target → Option Area = λ x. hull_of_all (areas_of g (flat_map (demands_by x (box x)) rs)) in

@@ -22,15 +22,15 @@ use Rattle.job.specs.Readers.{stage_grid}
 use Rattle.job.specs.WellFormed.{IsJob}
 use Rattle.job.proofs.Solving.{ranked_is}
 use Rattle.job.proofs.TotalLaws.{map_same}
-use Rattle.tile_boxes.specs.Order.{ComesBefore, greatest_rank, in_order, backward}
-use Rattle.tile_boxes.specs.Schedules.{is_inlined, is_function}
+use Rattle.tile_boxes.specs.Order.{ComesBefore, greatest_rank, order_stages_by_rank, backward}
+use Rattle.tile_boxes.specs.Schedules.{is_inlined, is_function_stage}
 use Rattle.tile_boxes.specs.Demands.{hull_of_all, areas_of}
-use Rattle.tile_boxes.specs.Targets.{Target, IsTarget, stage_demands, demands_by, cut_to, is_boxed, box_by, box_within, box, target_over}
+use Rattle.tile_boxes.specs.Targets.{Target, IsTarget, stage_demands, demands_by, cut_to, can_have_box, box_by, box_within, box, target_over}
 use Rattle.tile_boxes.specs.Costs.{tile_targets, scratch, most_scratch, points, stage_cost, cost_of, has_scratch, stage_fits}
-use Rattle.tile_boxes.specs.Tallies.{areas_of_tiles, inner_points}
+use Rattle.tile_boxes.specs.Tallies.{list_tile_areas, count_inlined_points}
 use Rattle.grouping.specs.Greedy.{cost_or_zero}
 use Rattle.grouping.specs.inside.Standings.{areas_at, scratch_by_tile, boxes_by_tile, NoneInlinedBelow}
-use Rattle.grouping.specs.inside.Trials.{points_of_box}
+use Rattle.grouping.specs.inside.Trials.{count_box_points}
 use Rattle.tile_boxes.proofs.DemandsFall.{none_of_higher}
 use Rattle.tile_boxes.proofs.BoxesFollowTheRule.{same_areas}
 use Rattle.tile_boxes.proofs.OrderHasEachStage.{order_pairs, order_has}
@@ -130,50 +130,50 @@ before_differs stages x y (inl low) = apart stages x y low
 before_differs stages x y (inr both) = let low = both.1 in grind (arith, nat_tests)
 
 inner_stays : (t : Target) (g x : ℕ) → IsJob t.job → NoneInlinedBelow t.job t.inlining g → nat_eq x g ≡ false
-    → inner_points (with_one t g) x ≡ inner_points t x
+    → count_inlined_points (with_one t g) x ≡ count_inlined_points t x
 inner_stays t g x h behind other = by (is_inlined t.inlining x) refl
   where
     flag : is_inlined (slice_set t.inlining g true) x ≡ is_inlined t.inlining x
     flag = other_flag t.inlining g x other
 
-    by : (b : Bool) → is_inlined t.inlining x ≡ b → inner_points (with_one t g) x ≡ inner_points t x
-    by true e = let stays = box_stays t g x h (behind x e) in (λ i. if flag i && is_boxed t x then points_of_box (stays i) else 0)
+    by : (b : Bool) → is_inlined t.inlining x ≡ b → count_inlined_points (with_one t g) x ≡ count_inlined_points t x
+    by true e = let stays = box_stays t g x h (behind x e) in (λ i. if flag i && can_have_box t x then count_box_points (stays i) else 0)
     by false e =
         let off : is_inlined (slice_set t.inlining g true) x ≡ false = flag ∙ e in
-        (λ i. if off i && is_boxed t x then points_of_box (box (with_one t g) x) else 0)
-        ∙ sym (λ i. if e i && is_boxed t x then points_of_box (box t x) else 0)
+        (λ i. if off i && can_have_box t x then count_box_points (box (with_one t g) x) else 0)
+        ∙ sym (λ i. if e i && can_have_box t x then count_box_points (box t x) else 0)
 
 from_none : (p : ℕ) → p ≡ 0 + p
 from_none p = omega arith
 
-inner_grows : (t : Target) (g : ℕ) → IsJob t.job → is_boxed t g ≡ true → is_inlined t.inlining g ≡ false → g < length t.inlining
-    → inner_points (with_one t g) g ≡ inner_points t g + points_of_box (box t g)
+inner_grows : (t : Target) (g : ℕ) → IsJob t.job → can_have_box t g ≡ true → is_inlined t.inlining g ≡ false → g < length t.inlining
+    → count_inlined_points (with_one t g) g ≡ count_inlined_points t g + count_box_points (box t g)
 inner_grows t g h boxed stored below =
     let on : is_inlined (slice_set t.inlining g true) g ≡ true = get_or-set_same t.inlining g true false below in
     let stays = box_stays t g g h (le_refl (rank_of t.job.stages g)) in
-    let p : ℕ = points_of_box (box t g) in
-    (λ i. if on i && boxed i then points_of_box (stays i) else 0) ∙ from_none p ∙ sym (λ i. (if stored i && is_boxed t g then p else 0) + p)
+    let p : ℕ = count_box_points (box t g) in
+    (λ i. if on i && boxed i then count_box_points (stays i) else 0) ∙ from_none p ∙ sym (λ i. (if stored i && can_have_box t g then p else 0) + p)
 
-pub scratch_grows : (t : Target) (g : ℕ) → IsJob t.job → is_boxed t g ≡ true → is_inlined t.inlining g ≡ false → g < length t.inlining
+pub scratch_grows : (t : Target) (g : ℕ) → IsJob t.job → can_have_box t g ≡ true → is_inlined t.inlining g ≡ false → g < length t.inlining
     → NoneInlinedBelow t.job t.inlining g
-    → scratch (with_one t g) ≡ scratch t + points_of_box (box t g)
+    → scratch (with_one t g) ≡ scratch t + count_box_points (box t g)
 scratch_grows t g h boxed stored below behind =
     let stages = t.job.stages in
-    let stage = there_is t.job g (and_parts (is_function t.job g) (not (nat_eq g t.stage)) boxed).0 in
+    let stage = there_is t.job g (and_parts (is_function_stage t.job g) (not (nat_eq g t.stage)) boxed).0 in
     let there : g < length stages = slice_get_within stages g stage.0 stage.1 in
-    let once : AllPairs Differs (in_order stages) = λ i j d low high. before_differs stages _ _ (order_pairs stages i j d low high) in
+    let once : AllPairs Differs (order_stages_by_rank stages) = λ i j d low high. before_differs stages _ _ (order_pairs stages i j d low high) in
     sym (scratch_is (with_one t g))
-    ∙ grown_sum (inner_points t) (inner_points (with_one t g)) (points_of_box (box t g)) g (in_order stages)
+    ∙ grown_sum (count_inlined_points t) (count_inlined_points (with_one t g)) (count_box_points (box t g)) g (order_stages_by_rank stages)
     (λ x other. inner_stays t g x h behind other)
     (inner_grows t g h boxed stored below) once ((order_has stages g).1 there)
-    ∙ ap (λ n. n + points_of_box (box t g)) (scratch_is t)
+    ∙ ap (λ n. n + count_box_points (box t g)) (scratch_is t)
 
 -- and so do the points of a target and of all tiles of a stage
-pub points_grow : (t : Target) (g : ℕ) → IsJob t.job → is_boxed t g ≡ true → is_inlined t.inlining g ≡ false → g < length t.inlining
+pub points_grow : (t : Target) (g : ℕ) → IsJob t.job → can_have_box t g ≡ true → is_inlined t.inlining g ≡ false → g < length t.inlining
     → NoneInlinedBelow t.job t.inlining g
-    → points (with_one t g) ≡ points t + points_of_box (box t g)
+    → points (with_one t g) ≡ points t + count_box_points (box t g)
 points_grow t g h boxed stored below behind =
-    let p : ℕ = points_of_box (box t g) in
+    let p : ℕ = count_box_points (box t g) in
     points_is (with_one t g) ∙ ap (λ n. n + point_count t.region) (scratch_grows t g h boxed stored below behind)
     ∙ more_first (scratch t) (point_count t.region) p ∙ sym (ap (λ n. n + p) (points_is t))
 
@@ -191,13 +191,13 @@ sum_grows f h p b (x ∷ xs) more =
 
 points_by : (job : Pipeline) (inlining : List Bool) (h : ℕ) → is_inlined inlining h ≡ false → (o : Option Stage)
     → option_map_or (λ n. n) (stage_cost job inlining h o) 0 ≡ sum
-    (map (λ a. points (target_over job inlining h a)) (option_map_or areas_of_tiles (stage_grid job o) []))
+    (map (λ a. points (target_over job inlining h a)) (option_map_or list_tile_areas (stage_grid job o) []))
 points_by job inlining h stored None = refl
 points_by job inlining h stored (Some s) = by (has_tiles s.body)
   where
     by : (b : Bool) → option_map_or (λ n. n) (if b && not (is_inlined inlining h) then Some (cost_of job inlining h s) else None) 0
         ≡ sum
-        (map (λ a. points (target_over job inlining h a)) (option_map_or areas_of_tiles (if b then Some (grid_of job s) else None) []))
+        (map (λ a. points (target_over job inlining h a)) (option_map_or list_tile_areas (if b then Some (grid_of job s) else None) []))
     by false = refl
     by true = ap (λ c. option_map_or (λ n. n) (if not c then Some (cost_of job inlining h s) else None) 0) stored ∙ cost_is job inlining h s
 
@@ -206,35 +206,35 @@ pub points_are : (job : Pipeline) (inlining : List Bool) (h : ℕ) → is_inline
     → cost_or_zero job inlining h ≡ sum (map (λ a. points (target_over job inlining h a)) (areas_at job h))
 points_are job inlining h stored = points_by job inlining h stored (slice_get job.stages h)
 
-boxed_in : (job : Pipeline) (inlining : List Bool) (g h : ℕ) (a : Area) → is_function job g ≡ true → nat_eq g h ≡ false
-    → is_boxed (target_over job inlining h a) g ≡ true
+boxed_in : (job : Pipeline) (inlining : List Bool) (g h : ℕ) (a : Area) → is_function_stage job g ≡ true → nat_eq g h ≡ false
+    → can_have_box (target_over job inlining h a) g ≡ true
 boxed_in job inlining g h a function other = λ i. function i && not (other i)
 
-pub cost_grows : (job : Pipeline) (inlining : List Bool) (g h : ℕ) → IsJob job → is_function job g ≡ true → nat_eq g h ≡ false
+pub cost_grows : (job : Pipeline) (inlining : List Bool) (g h : ℕ) → IsJob job → is_function_stage job g ≡ true → nat_eq g h ≡ false
     → is_inlined inlining g ≡ false → g < length inlining → NoneInlinedBelow job inlining g → is_inlined inlining h ≡ false
     → cost_or_zero job (slice_set inlining g true) h ≡ cost_or_zero job inlining h + sum
-    (map points_of_box (boxes_by_tile job inlining h g))
+    (map count_box_points (boxes_by_tile job inlining h g))
 cost_grows job inlining g h is function other stored below behind group =
     points_are job (slice_set inlining g true) h (other_flag inlining g h (turned g h other) ∙ group)
-    ∙ sum_grows (λ a. points (target_over job inlining h a)) (λ a. points (target_over job (slice_set inlining g true) h a)) points_of_box
+    ∙ sum_grows (λ a. points (target_over job inlining h a)) (λ a. points (target_over job (slice_set inlining g true) h a)) count_box_points
     (λ a. box (target_over job inlining h a) g) (areas_at job h)
     (λ a. points_grow (target_over job inlining h a) g is (boxed_in job inlining g h a function other) stored below behind)
-    ∙ sym (ap (λ n. n + sum (map points_of_box (boxes_by_tile job inlining h g))) (points_are job inlining h group))
+    ∙ sym (ap (λ n. n + sum (map count_box_points (boxes_by_tile job inlining h g))) (points_are job inlining h group))
 
-pub scratch_rises : (job : Pipeline) (inlining : List Bool) (g h : ℕ) → IsJob job → is_function job g ≡ true → nat_eq g h ≡ false
+pub scratch_rises : (job : Pipeline) (inlining : List Bool) (g h : ℕ) → IsJob job → is_function_stage job g ≡ true → nat_eq g h ≡ false
     → is_inlined inlining g ≡ false → g < length inlining → NoneInlinedBelow job inlining g → is_inlined inlining h ≡ false
     → scratch_by_tile job (slice_set inlining g true) h ≡ map
-    (λ a. scratch (target_over job inlining h a) + points_of_box (box (target_over job inlining h a) g)) (areas_at job h)
+    (λ a. scratch (target_over job inlining h a) + count_box_points (box (target_over job inlining h a) g)) (areas_at job h)
 scratch_rises job inlining g h is function other stored below behind group =
     map_same (λ a. scratch (target_over job (slice_set inlining g true) h a))
-    (λ a. scratch (target_over job inlining h a) + points_of_box (box (target_over job inlining h a) g)) (areas_at job h)
+    (λ a. scratch (target_over job inlining h a) + count_box_points (box (target_over job inlining h a) g)) (areas_at job h)
     (λ a. scratch_grows (target_over job inlining h a) g is (boxed_in job inlining g h a function other) stored below behind)
 
 -- ---- room
 
 room_by : (job : Pipeline) (inlining : List Bool) (h : ℕ) → is_inlined inlining h ≡ false → (o : Option Stage)
     → stage_fits job inlining h o ≡ list_all (λ n. nat_le n most_scratch)
-    (map (λ a. scratch (target_over job inlining h a)) (option_map_or areas_of_tiles (stage_grid job o) []))
+    (map (λ a. scratch (target_over job inlining h a)) (option_map_or list_tile_areas (stage_grid job o) []))
 room_by job inlining h stored None = refl
 room_by job inlining h stored (Some s) = by (has_tiles s.body)
   where
@@ -243,12 +243,12 @@ room_by job inlining h stored (Some s) = by (has_tiles s.body)
 
     by : (b : Bool) → (if b && not (is_inlined inlining h) then fits else true)
         ≡ list_all (λ n. nat_le n most_scratch)
-        (map (λ a. scratch (target_over job inlining h a)) (option_map_or areas_of_tiles (if b then Some (grid_of job s) else None) []))
+        (map (λ a. scratch (target_over job inlining h a)) (option_map_or list_tile_areas (if b then Some (grid_of job s) else None) []))
     by false = refl
     by true =
         ap (λ c. if not c then fits else true) stored
         ∙ fits_is job inlining h s
-        ∙ sym (list_all-map (λ n. nat_le n most_scratch) (λ a. scratch (target_over job inlining h a)) (areas_of_tiles (grid_of job s)))
+        ∙ sym (list_all-map (λ n. nat_le n most_scratch) (λ a. scratch (target_over job inlining h a)) (list_tile_areas (grid_of job s)))
 
 -- a stored stage has room where each of its tiles has (a plane has no tiles)
 pub room_is : (job : Pipeline) (inlining : List Bool) (h : ℕ) → is_inlined inlining h ≡ false
@@ -261,19 +261,19 @@ pub areas_are_targets : (job : Pipeline) (inlining : List Bool) (h : ℕ) → Is
 areas_are_targets job inlining h is = by (slice_get job.stages h) refl
   where
     pick : (s : Stage) (b : Bool) → slice_get job.stages h ≡ Some s
-        → All (λ a. IsTarget (target_over job inlining h a)) (option_map_or areas_of_tiles (if b then Some (grid_of job s) else None) [])
+        → All (λ a. IsTarget (target_over job inlining h a)) (option_map_or list_tile_areas (if b then Some (grid_of job s) else None) [])
     pick s true there = tiles_are_targets job inlining h s is there
     pick s false there = All-nil (λ a. IsTarget (target_over job inlining h a))
 
     from : (o : Option Stage) → slice_get job.stages h ≡ o
-        → All (λ a. IsTarget (target_over job inlining h a)) (option_map_or areas_of_tiles (stage_grid job o) [])
+        → All (λ a. IsTarget (target_over job inlining h a)) (option_map_or list_tile_areas (stage_grid job o) [])
     from None there = All-nil (λ a. IsTarget (target_over job inlining h a))
     from (Some s) there = pick s (has_tiles s.body) there
 
     by : (o : Option Stage) → slice_get job.stages h ≡ o → All (λ a. IsTarget (target_over job inlining h a)) (areas_at job h)
     by o there =
         subst
-        (λ (x : Option Stage). All (λ a. IsTarget (target_over job inlining h a)) (option_map_or areas_of_tiles (stage_grid job x) []))
+        (λ (x : Option Stage). All (λ a. IsTarget (target_over job inlining h a)) (option_map_or list_tile_areas (stage_grid job x) []))
         (sym there) (from o there)
 
 -- ---- where g has no box in h, neither the points of h nor its room change
@@ -285,27 +285,27 @@ none_sum : {X Y : Type 0} (p : Y → ℕ) (b : X → Y) (xs : List X) → ((x : 
 none_sum p b [] none = refl
 none_sum p b (x ∷ xs) none = sum_cons p (b x) (map b xs) ∙ (λ i. none x i + none_sum p b xs none i)
 
-pub cost_stays : (job : Pipeline) (inlining : List Bool) (g h : ℕ) → IsJob job → is_function job g ≡ true → nat_eq g h ≡ false
+pub cost_stays : (job : Pipeline) (inlining : List Bool) (g h : ℕ) → IsJob job → is_function_stage job g ≡ true → nat_eq g h ≡ false
     → is_inlined inlining g ≡ false → g < length inlining → NoneInlinedBelow job inlining g → is_inlined inlining h ≡ false
     → ((a : Area) → box (target_over job inlining h a) g ≡ None) → cost_or_zero job
     (slice_set inlining g true) h ≡ cost_or_zero job inlining h
 cost_stays job inlining g h is function other stored below behind group none =
-    let no_points = none_sum points_of_box (λ a. box (target_over job inlining h a) g) (areas_at job h) (λ a. ap points_of_box (none a)) in
+    let no_points = none_sum count_box_points (λ a. box (target_over job inlining h a) g) (areas_at job h) (λ a. ap count_box_points (none a)) in
     cost_grows job inlining g h is function other stored below behind group
-    ∙ and_none (cost_or_zero job inlining h) (sum (map points_of_box (boxes_by_tile job inlining h g))) no_points
+    ∙ and_none (cost_or_zero job inlining h) (sum (map count_box_points (boxes_by_tile job inlining h g))) no_points
 
-pub scratch_stays : (job : Pipeline) (inlining : List Bool) (g h : ℕ) → IsJob job → is_function job g ≡ true → nat_eq g h ≡ false
+pub scratch_stays : (job : Pipeline) (inlining : List Bool) (g h : ℕ) → IsJob job → is_function_stage job g ≡ true → nat_eq g h ≡ false
     → is_inlined inlining g ≡ false → g < length inlining → NoneInlinedBelow job inlining g → is_inlined inlining h ≡ false
     → ((a : Area) → box (target_over job inlining h a) g ≡ None) → scratch_by_tile job
     (slice_set inlining g true) h ≡ scratch_by_tile job inlining h
 scratch_stays job inlining g h is function other stored below behind group none =
     scratch_rises job inlining g h is function other stored below behind group
-    ∙ map_same (λ a. scratch (target_over job inlining h a) + points_of_box (box (target_over job inlining h a) g))
+    ∙ map_same (λ a. scratch (target_over job inlining h a) + count_box_points (box (target_over job inlining h a) g))
     (λ a. scratch (target_over job inlining h a)) (areas_at job h)
-    (λ a. and_none (scratch (target_over job inlining h a)) (points_of_box (box (target_over job inlining h a) g))
-    (ap points_of_box (none a)))
+    (λ a. and_none (scratch (target_over job inlining h a)) (count_box_points (box (target_over job inlining h a) g))
+    (ap count_box_points (none a)))
 
-pub room_stays : (job : Pipeline) (inlining : List Bool) (g h : ℕ) → IsJob job → is_function job g ≡ true → nat_eq g h ≡ false
+pub room_stays : (job : Pipeline) (inlining : List Bool) (g h : ℕ) → IsJob job → is_function_stage job g ≡ true → nat_eq g h ≡ false
     → is_inlined inlining g ≡ false → g < length inlining → NoneInlinedBelow job inlining g → is_inlined inlining h ≡ false
     → ((a : Area) → box (target_over job inlining h a) g ≡ None) → stage_fits job (slice_set inlining g true) h
     (slice_get job.stages h) ≡ stage_fits job inlining h (slice_get job.stages h)

@@ -18,18 +18,18 @@ use Rattle.job.specs.Pipeline.{Pipeline}
 use Rattle.job.specs.Readers.{grid_at}
 use Rattle.job.specs.WellFormed.{IsJob}
 use Rattle.tile_boxes.specs.Targets.{box, target_over}
-use Rattle.tile_boxes.specs.Tallies.{area_of, areas_of_tiles}
+use Rattle.tile_boxes.specs.Tallies.{area_of, list_tile_areas}
 use Rattle.grouping.specs.inside.Standings.{boxes_by_tile, AllStand}
-use Rattle.grouping.specs.inside.Trials.{grouping_of, kept_box, IsCandidate}
+use Rattle.grouping.specs.inside.Trials.{grouping_of, find_kept_box, IsCandidate}
 use Rattle.grouping.specs.inside.Crossed.{crossed, boxes_in, IsCrossed}
-use Rattle.grouping.specs.inside.Between.{kept_region, IsBetween, IsSpot, HasWhole, spot_of, LiesAcross, AreSides}
-use Rattle.grouping.specs.declared.between.Spot.{Spot}
-use Rattle.grouping.specs.declared.boxes.Boxes.{Boxes}
-use Rattle.grouping.specs.declared.boxes.Boxes.TheVariants.{Each, Crossed}
+use Rattle.grouping.specs.inside.Between.{find_kept_region, IsBetween, IsNumberedTile, HasWhole, find_grid_tile, LiesAcross, AreSides}
+use Rattle.grouping.specs.declared.between.NumberedTile.{NumberedTile}
+use Rattle.grouping.specs.declared.boxes.BoxesByTile.{BoxesByTile}
+use Rattle.grouping.specs.declared.boxes.BoxesByTile.TheVariants.{Each, Crossed}
 use Rattle.grouping.specs.declared.greedy.Grouper.{Grouper}
-use Rattle.grouping.specs.declared.standing.Standing.{Standing}
-use Rattle.grouping.specs.declared.standing.Standing.TheVariants.{Inlined}
-use Rattle.grouping.specs.declared.trial.Candidate.{Candidate}
+use Rattle.grouping.specs.declared.standing.StageStatus.{StageStatus}
+use Rattle.grouping.specs.declared.standing.StageStatus.TheVariants.{Inlined}
+use Rattle.grouping.specs.declared.trial.InlineCandidate.{InlineCandidate}
 use Rattle.grouping.proofs.CrossedLists.{length-by_rows, at_row, map_by_rows, same_by_rows}
 use Rattle.grouping.proofs.KeptBetween.{kept_between}
 
@@ -41,7 +41,7 @@ number_at n i low =
     slice_get_read (range_with_len 0 n) n i i (sym (length-range_with_len 0 n)) low (sym (get_or-range_with_len 0 n i i low ∙ same))
 
 -- the tile in a row and a column stands where it should in the list of all
-pub tile_there : (job : Pipeline) (h : ℕ) (g : Grid) (i j : ℕ) → grid_at job h ≡ Some g → HasTile g i j → IsSpot job h (spot_of g i j)
+pub tile_there : (job : Pipeline) (h : ℕ) (g : Grid) (i j : ℕ) → grid_at job h ≡ Some g → HasTile g i j → IsNumberedTile job h (find_grid_tile g i j)
 tile_there job h g i j at has =
     let rows = range_with_len 0 (tile_rows g) in
     let cols = range_with_len 0 (tile_cols g) in
@@ -49,13 +49,13 @@ tile_there job h g i j at has =
     let height = length-range_with_len 0 (tile_rows g) in
     let a = tile_area g i j in
     let place : i * length cols + j ≡ i * tile_cols g + j = ap (λ n. i * n + j) width in
-    let count : length (areas_of_tiles g) ≡ tile_rows g * tile_cols g = length-by_rows (tile_area g) rows cols
+    let count : length (list_tile_areas g) ≡ tile_rows g * tile_cols g = length-by_rows (tile_area g) rows cols
     ∙ (λ k. height k * width k) in
-    let low : i * tile_cols g + j < length (areas_of_tiles g) = omega (arith, count, mul-add-lt i (tile_cols g) j (tile_rows g) has.0 has.1) in
-    let is : get_or (areas_of_tiles g) (i * tile_cols g + j) a ≡ a = ap (λ k. get_or (areas_of_tiles g) k a) (sym place)
+    let low : i * tile_cols g + j < length (list_tile_areas g) = omega (arith, count, mul-add-lt i (tile_cols g) j (tile_rows g) has.0 has.1) in
+    let is : get_or (list_tile_areas g) (i * tile_cols g + j) a ≡ a = ap (λ k. get_or (list_tile_areas g) k a) (sym place)
     ∙ at_row (tile_area g) rows cols i j i j a (number_at (tile_rows g) i has.0) (number_at (tile_cols g) j has.1) in
-    ap (λ o. slice_get (option_map_or areas_of_tiles o []) (i * tile_cols g + j)) at
-    ∙ slice_get_read (areas_of_tiles g) (length (areas_of_tiles g)) (i * tile_cols g + j) a refl low (sym is)
+    ap (λ o. slice_get (option_map_or list_tile_areas o []) (i * tile_cols g + j)) at
+    ∙ slice_get_read (list_tile_areas g) (length (list_tile_areas g)) (i * tile_cols g + j) a refl low (sym is)
 
 -- ---- readers
 
@@ -67,7 +67,7 @@ crossed_at rows cols n i j d width row col =
     ∙ at_row (λ r c. Some (area_of r c)) rows cols i j (get_or rows i d) (get_or cols j d) None (slice_get-get_or rows i d row)
     (slice_get-get_or cols j d low)
 
-between_crossed : (b : Boxes) (g : Grid) (i j : ℕ) → IsCrossed (tile_rows g) (tile_cols g) b → HasTile g i j
+between_crossed : (b : BoxesByTile) (g : Grid) (i j : ℕ) → IsCrossed (tile_rows g) (tile_cols g) b → HasTile g i j
     → IsBetween (slice_index_or (boxes_in b) (i * tile_cols g + j) None) (slice_index_or (boxes_in b) (i * tile_cols g + 0) None)
     (slice_index_or (boxes_in b) (0 * tile_cols g + j) None)
 between_crossed (Each boxes) g i j are has = absurd are
@@ -91,23 +91,23 @@ between_crossed (Crossed spans) g i j are has =
     (Some (area_of (get_or spans.rows.items i d) (get_or spans.cols.items 0 d))) o) (sym top) (refl, refl)))
 
 -- what is kept of an inlined reader by rows and columns lies across
-pub kept_across : (standings : List Standing) (h r : ℕ) (g : Grid) (b : Boxes) → (r ≡ h → ⊥) → slice_get standings r ≡ Some (Inlined b)
+pub kept_across : (standings : List StageStatus) (h r : ℕ) (g : Grid) (b : BoxesByTile) → (r ≡ h → ⊥) → slice_get standings r ≡ Some (Inlined b)
     → IsCrossed (tile_rows g) (tile_cols g) b → LiesAcross standings h g r
 kept_across standings h r g b apart is are i j has =
     let other : nat_eq r h ≡ false = ne_eqb r h apart in
-    let kept : (spot : Spot) → kept_region standings h spot r ≡ slice_index_or (boxes_in b) spot.place None =
-    λ spot k. if other k then Some spot.tile else kept_box (is k) spot.place in
-    subst (λ (o : Option Area). IsBetween o (kept_region standings h (spot_of g i 0) r) (kept_region standings h (spot_of g 0 j) r))
-    (sym (kept (spot_of g i j)))
+    let kept : (spot : NumberedTile) → find_kept_region standings h spot r ≡ slice_index_or (boxes_in b) spot.place None =
+    λ spot k. if other k then Some spot.tile else find_kept_box (is k) spot.place in
+    subst (λ (o : Option Area). IsBetween o (find_kept_region standings h (find_grid_tile g i 0) r) (find_kept_region standings h (find_grid_tile g 0 j) r))
+    (sym (kept (find_grid_tile g i j)))
     (subst (λ (o : Option Area). IsBetween (slice_index_or (boxes_in b) (i * tile_cols g + j) None) o
-    (kept_region standings h (spot_of g 0 j) r)) (sym (kept (spot_of g i 0)))
+    (find_kept_region standings h (find_grid_tile g 0 j) r)) (sym (kept (find_grid_tile g i 0)))
     (subst (λ (o : Option Area). IsBetween (slice_index_or (boxes_in b) (i * tile_cols g + j) None)
-    (slice_index_or (boxes_in b) (i * tile_cols g + 0) None) o) (sym (kept (spot_of g 0 j))) (between_crossed b g i j are has)))
+    (slice_index_or (boxes_in b) (i * tile_cols g + 0) None) o) (sym (kept (find_grid_tile g 0 j))) (between_crossed b g i j are has)))
 
 -- ---- sides
 
 -- one tile more
-pub one_more_side : (job : Pipeline) (c : Grouper) (k : Candidate) (spot : ℕ → Spot) (side : Area → Ends) (n : ℕ) (sides after : List Ends)
+pub one_more_side : (job : Pipeline) (c : Grouper) (k : InlineCandidate) (spot : ℕ → NumberedTile) (side : Area → Ends) (n : ℕ) (sides after : List Ends)
     (area : Area) → AreSides job c k spot side n sides → HasWhole job c k (spot n) area → after ≡ sides ++ side area ∷ []
     → AreSides job c k spot side (n + 1) after
 one_more_side job c k spot side n sides after area are whole is = record {
@@ -134,11 +134,11 @@ one_more_side job c k spot side n sides after area are whole is = record {
 
 -- ---- boxes
 
-pub crossed_is : (job : Pipeline) (c : Grouper) (k : Candidate) (g : Grid) (rows cols : List Ends) → IsJob job
+pub crossed_is : (job : Pipeline) (c : Grouper) (k : InlineCandidate) (g : Grid) (rows cols : List Ends) → IsJob job
     → AllStand job (grouping_of c) c.standings.items → IsCandidate job (grouping_of c) k → grid_at job k.group ≡ Some g
     → All (LiesAcross c.standings.items k.group g) k.readers.items
-    → AreSides job c k (λ i. spot_of g i 0) (λ a. a.rows) (tile_rows g) rows
-    → AreSides job c k (λ j. spot_of g 0 j) (λ a. a.cols) (tile_cols g) cols
+    → AreSides job c k (λ i. find_grid_tile g i 0) (λ a. a.rows) (tile_rows g) rows
+    → AreSides job c k (λ j. find_grid_tile g 0 j) (λ a. a.cols) (tile_cols g) cols
     → crossed rows cols ≡ boxes_by_tile job c.inlining k.group k.number
 crossed_is job c k g rows cols is stand candidate at across down along =
     let inside : Area → Option Area = λ a. box (target_over job c.inlining k.group a) k.number in
@@ -146,7 +146,7 @@ crossed_is job c k g rows cols is stand candidate at across down along =
     (range_with_len 0 (tile_cols g)) (down.count ∙ sym (length-range_with_len 0 (tile_rows g)))
     (along.count ∙ sym (length-range_with_len 0 (tile_cols g))) same
     ∙ sym (map_by_rows inside (tile_area g) (range_with_len 0 (tile_rows g)) (range_with_len 0 (tile_cols g)))
-    ∙ ap (λ o. map inside (option_map_or areas_of_tiles o [])) (sym at)
+    ∙ ap (λ o. map inside (option_map_or list_tile_areas o [])) (sym at)
   where
     here : (i j : ℕ) (r d : Ends) → i < tile_rows g → j < tile_cols g → slice_get rows i ≡ Some r → slice_get cols j ≡ Some d
         → Some (area_of r d) ≡ box (target_over job c.inlining k.group (tile_area g i j)) k.number
@@ -158,7 +158,7 @@ crossed_is job c k g rows cols is stand candidate at across down along =
         let rows_are : r ≡ left.0.rows = same_Some r left.0.rows (sym row ∙ left.2) in
         let cols_are : d ≡ top.0.cols = same_Some d top.0.cols (sym col ∙ top.2) in
         (λ n. Some (area_of (rows_are n) (cols_are n)))
-        ∙ sym (kept_between job c k (spot_of g i j) (spot_of g i 0) (spot_of g 0 j) left.0 top.0 is stand candidate
+        ∙ sym (kept_between job c k (find_grid_tile g i j) (find_grid_tile g i 0) (find_grid_tile g 0 j) left.0 top.0 is stand candidate
         (tile_there job k.group g i j at (below, before)) (tile_there job k.group g i 0 at (below, first))
         (tile_there job k.group g 0 j at (some, before)) left.1 top.1 (λ q e low. across q e low i j (below, before)))
 

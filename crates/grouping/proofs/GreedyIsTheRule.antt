@@ -12,12 +12,12 @@ use Rattle.job.specs.Pipeline.{Pipeline, Stage, rank_of}
 use Rattle.job.specs.Answers.{has_tiles}
 use Rattle.tile_boxes.specs.Order.{backward}
 use Rattle.tile_boxes.specs.Schedules.{is_inlined, all_stored, IsSchedule}
-use Rattle.tile_boxes.specs.Costs.{costs_of, AllFitScratch}
+use Rattle.tile_boxes.specs.Costs.{survey_stage_costs, AllFitScratch}
 use Rattle.tile_boxes.specs.Costs.{tile_targets, has_scratch, stage_fits}
-use Rattle.grouping.specs.Greedy.{Grouping, initial_grouping, readers, does_read, visited, greedy_grouping, greedy_inlining}
+use Rattle.grouping.specs.Greedy.{Grouping, initial_grouping, readers, is_reader_of_stage, visited, group_stages_greedily, greedy_inlining}
 use Rattle.grouping.specs.inside.Standings.{areas_at, StandsStored, Stands, AllStand, NoneInlinedBelow}
-use Rattle.grouping.specs.declared.standing.Standing.{Standing}
-use Rattle.grouping.specs.declared.standing.Standing.TheVariants.{Stored, Inlined}
+use Rattle.grouping.specs.declared.standing.StageStatus.{StageStatus}
+use Rattle.grouping.specs.declared.standing.StageStatus.TheVariants.{Stored, Inlined}
 use Rattle.tile_boxes.proofs.AskedIsSchedule.{stored_is}
 use Rattle.grouping.proofs.KeptIsBox.{standing_there}
 use Rattle.grouping.proofs.VisitsMakeSchedules.{Falls, IsBehind, backward_falls, backward_there, visited_is, not_yet}
@@ -25,12 +25,12 @@ use Rattle.grouping.proofs.VisitsMakeSchedules.{group_at_first, stored_at_first,
 use Rattle.grouping.proofs.VisitsMakeSchedules.{all_have_room}
 
 pub readers_there : (job : Pipeline) (g : ℕ) → All (λ r. r < length job.stages) (readers job g)
-readers_there job g = All-filter (does_read job g) (λ r. r < length job.stages) (backward job.stages) (backward_there job.stages)
+readers_there job g = All-filter (is_reader_of_stage job g) (λ r. r < length job.stages) (backward job.stages) (backward_there job.stages)
 
 -- ---- at first
 
 pub stands_at_first : (job : Pipeline) (g n : ℕ) (tiles : List ℕ)
-    → n ≡ option_map_or (λ n. n) (slice_index_or (costs_of job (all_stored job)) g None) 0 → tiles ≡ map (λ a. 0) (areas_at job g)
+    → n ≡ option_map_or (λ n. n) (slice_index_or (survey_stage_costs job (all_stored job)) g None) 0 → tiles ≡ map (λ a. 0) (areas_at job g)
     → StandsStored job (initial_grouping job) g n tiles
 stands_at_first job g n tiles points none = record {
   stored = stored_at_first job g;
@@ -53,19 +53,19 @@ last_or_before (x ∷ xs) y z (suc g) is = from (last_or_before xs y z g is)
     from (inl before) = inl before
     from (inr last) = inr (ap suc last.0, last.1)
 
-abbrev pub EachStands : Pipeline → Grouping → List Standing → Type 0
-EachStands job c standings = (g : ℕ) (s : Standing) → slice_get standings g ≡ Some s → Stands job c g s
+abbrev pub EachStands : Pipeline → Grouping → List StageStatus → Type 0
+EachStands job c standings = (g : ℕ) (s : StageStatus) → slice_get standings g ≡ Some s → Stands job c g s
 
-pub one_stands_more : (job : Pipeline) (c : Grouping) (standings : List Standing) (s : Standing) → EachStands job c standings
+pub one_stands_more : (job : Pipeline) (c : Grouping) (standings : List StageStatus) (s : StageStatus) → EachStands job c standings
     → Stands job c (length standings) s → EachStands job c (standings ++ s ∷ [])
 one_stands_more job c standings s each stands g z is = from (last_or_before standings s z g is)
   where
     from : (slice_get standings g ≡ Some z) ⊎ ((g ≡ length standings) × (z ≡ s)) → Stands job c g z
     from (inl before) = each g z before
     from (inr last) =
-        subst (λ (k : ℕ). Stands job c k z) (sym last.0) (subst (λ (y : Standing). Stands job c (length standings) y) (sym last.1) stands)
+        subst (λ (k : ℕ). Stands job c k z) (sym last.0) (subst (λ (y : StageStatus). Stands job c (length standings) y) (sym last.1) stands)
 
-pub all_at_first : (job : Pipeline) (standings : List Standing) → length standings ≡ length job.stages
+pub all_at_first : (job : Pipeline) (standings : List StageStatus) → length standings ≡ length job.stages
     → EachStands job (initial_grouping job) standings → AllStand job (initial_grouping job) standings
 all_at_first job standings all each = record {
   inlining = length-map job.stages (λ s. false);
@@ -81,8 +81,8 @@ abbrev pub IsFree : Pipeline → List Bool → ℕ → Type 0
 IsFree job inlining g = (is_inlined inlining g ≡ false) × NoneInlinedBelow job inlining g
 
 -- what holds where these stages are left to visit
-pub record Left (job : Pipeline) (percent : ℕ) (c : Grouping) (standings : List Standing) (rest : List ℕ) : Type 0 where
-  pub grouping : fold (visited job percent) c rest ≡ greedy_grouping job percent
+pub record Left (job : Pipeline) (percent : ℕ) (c : Grouping) (standings : List StageStatus) (rest : List ℕ) : Type 0 where
+  pub grouping : fold (visited job percent) c rest ≡ group_stages_greedily job percent
   pub stand : AllStand job c standings
   pub schedule : IsSchedule job c.inlining
   pub falls : Falls job.stages rest
@@ -95,7 +95,7 @@ free_at_first job (g ∷ gs) =
     All-cons (IsFree job (all_stored job)) g gs (stored_at_first job g, (λ x inlined. absurd (let stored = stored_at_first job x in cc)))
     (free_at_first job gs)
 
-pub all_left : (job : Pipeline) (percent : ℕ) (c : Grouping) (standings : List Standing) → c ≡ initial_grouping job
+pub all_left : (job : Pipeline) (percent : ℕ) (c : Grouping) (standings : List StageStatus) → c ≡ initial_grouping job
     → AllStand job c standings → Left job percent c standings (backward job.stages)
 all_left job percent c standings is stand =
     let inlining : all_stored job ≡ c.inlining = ap (λ (d : Grouping). d.inlining) (sym is) in
@@ -134,7 +134,7 @@ all_free_still job percent c g (y ∷ ys) behind free =
     (free_still job percent c g y (All-head (IsBehind job.stages g) y ys behind) (All-head (IsFree job c.inlining) y ys free))
     (all_free_still job percent c g ys (All-tail (IsBehind job.stages g) y ys behind) (All-tail (IsFree job c.inlining) y ys free))
 
-pub one_left_less : (job : Pipeline) (percent : ℕ) (c d : Grouping) (standings after : List Standing) (g : ℕ) (rest : List ℕ)
+pub one_left_less : (job : Pipeline) (percent : ℕ) (c d : Grouping) (standings after : List StageStatus) (g : ℕ) (rest : List ℕ)
     → Left job percent c standings (g ∷ rest)
     → d ≡ visited job percent c g → AllStand job d after → Left job percent d after rest
 one_left_less job percent c d standings after g rest left is stand =
@@ -151,7 +151,7 @@ one_left_less job percent c d standings after g rest left is stand =
 
 -- ---- at last
 
-pub inlining_at_last : (job : Pipeline) (percent : ℕ) (c : Grouping) (standings : List Standing) → Left job percent c standings []
+pub inlining_at_last : (job : Pipeline) (percent : ℕ) (c : Grouping) (standings : List StageStatus) → Left job percent c standings []
     → c.inlining ≡ greedy_inlining job percent
 unfolding greedy_inlining
 inlining_at_last job percent c standings left = ap (λ (d : Grouping). d.inlining) left.grouping
@@ -166,12 +166,12 @@ room_of_inlined job inlining g (Some s) inlined =
     no_cost true = ap not inlined
     no_cost false = refl
 
-room_of : (job : Pipeline) (c : Grouping) (g : ℕ) (s : Standing) → Stands job c g s
+room_of : (job : Pipeline) (c : Grouping) (g : ℕ) (s : StageStatus) → Stands job c g s
     → stage_fits job c.inlining g (slice_get job.stages g) ≡ true
 room_of job c g (Stored n tiles) stands = stands.room
 room_of job c g (Inlined tiles) stands = room_of_inlined job c.inlining g (slice_get job.stages g) stands.inlined
 
-pub rooms_of : (job : Pipeline) (c : Grouping) (standings : List Standing) → AllStand job c standings → AllFitScratch job c.inlining
+pub rooms_of : (job : Pipeline) (c : Grouping) (standings : List StageStatus) → AllStand job c standings → AllFitScratch job c.inlining
 rooms_of job c standings stand = all_have_room job c.inlining (λ g there.
     let found = standing_there standings g (length job.stages) stand.all there in
     room_of job c g found.0 (stand.each g found.0 found.1))

@@ -14,10 +14,10 @@ use Rattle.domains.proofs.PairLists.{Contains-filter}
 use Rattle.job.specs.Pipeline.{Pipeline, Stage, rank_of}
 use Rattle.job.specs.Reads.{stage_read, reads_of}
 use Rattle.job.specs.WellFormed.{IsJob}
-use Rattle.tile_boxes.specs.Order.{greatest_rank, in_order, backward}
+use Rattle.tile_boxes.specs.Order.{greatest_rank, order_stages_by_rank, backward}
 use Rattle.tile_boxes.specs.Schedules.{is_inlined}
-use Rattle.grouping.specs.Greedy.{does_read, readers, Grouping, initial_grouping}
-use Rattle.grouping.specs.Greedy.{group, common_group, with_inlined, visited, greedy_grouping, greedy_inlining}
+use Rattle.grouping.specs.Greedy.{is_reader_of_stage, readers, Grouping, initial_grouping}
+use Rattle.grouping.specs.Greedy.{group, find_common_group, with_inlined, visited, group_stages_greedily, greedy_inlining}
 use Rattle.grouping.specs.inside.Standings.{NoneInlinedBelow}
 use Rattle.grouping.specs.Chains.{ChainLeads, itself, on, grouping_after}
 use Rattle.tile_boxes.proofs.BoxesFollowTheRule.{rank_below, enough_left, all_enough}
@@ -36,7 +36,7 @@ pub record GroupsFollow (job : Pipeline) (c : Grouping) : Type 0 where
   pub inlining : length c.inlining ≡ length job.stages
   pub groups : length c.groups ≡ length job.stages
   pub own : (x : ℕ) → is_inlined c.inlining x ≡ false → group c x ≡ x
-  pub shared : (x : ℕ) → is_inlined c.inlining x ≡ true → common_group c (readers job x) ≡ Some (group c x)
+  pub shared : (x : ℕ) → is_inlined c.inlining x ≡ true → find_common_group c (readers job x) ≡ Some (group c x)
 
 -- ---- stages of which each has the same group by two groupings
 
@@ -48,7 +48,7 @@ tests_same c d h (r ∷ rs) same =
     let rest = tests_same c d h rs (All-tail (λ r. group d r ≡ group c r) r rs same) in
     λ i. nat_eq (first i) h && rest i
 
-common_group_same : (c d : Grouping) (rs : List ℕ) → All (λ r. group d r ≡ group c r) rs → common_group d rs ≡ common_group c rs
+common_group_same : (c d : Grouping) (rs : List ℕ) → All (λ r. group d r ≡ group c r) rs → find_common_group d rs ≡ find_common_group c rs
 common_group_same c d [] same = refl
 common_group_same c d (r ∷ rs) same =
     let first = All-head (λ r. group d r ≡ group c r) r rs same in
@@ -64,7 +64,7 @@ record IsNext (job : Pipeline) (c : Grouping) (g h : ℕ) : Type 0 where
   follow : GroupsFollow job c
   there : g < length job.stages
   behind : NoneInlinedBelow job c.inlining g
-  one_group : common_group c (readers job g) ≡ Some h
+  one_group : find_common_group c (readers job g) ≡ Some h
 
 module _ {job : Pipeline} {c : Grouping} {g h : ℕ} (next : IsNext job c g h) where
   flag_is_set : is_inlined (slice_set c.inlining g true) g ≡ true
@@ -81,9 +81,9 @@ module _ {job : Pipeline} {c : Grouping} {g h : ℕ} (next : IsNext job c g h) w
 
   -- g is no reader of a stage of no lower rank, so that its readers have the groups that they had
   readers_stay : (x : ℕ) → rank_of job.stages g ≤ rank_of job.stages x
-      → common_group (with_inlined c g h) (readers job x) ≡ common_group c (readers job x)
+      → find_common_group (with_inlined c g h) (readers job x) ≡ find_common_group c (readers job x)
   readers_stay x low = common_group_same c (with_inlined c g h) (readers job x) (
-      All-weaker (λ r. does_read job x r ≡ true) (λ r. group (with_inlined c g h) r ≡ group c r)
+      All-weaker (λ r. is_reader_of_stage job x r ≡ true) (λ r. group (with_inlined c g h) r ≡ group c r)
       (λ r reads. group_stays r (ranks_differ job.stages g r (lt_of_le_of_lt low (reader_is_behind job x r next.valid reads))))
       (readers job x) (readers_read job x))
 
@@ -94,15 +94,15 @@ module _ {job : Pipeline} {c : Grouping} {g h : ℕ} (next : IsNext job c g h) w
       by (inl e) = absurd (false≢true (sym off ∙ ap (is_inlined (slice_set c.inlining g true)) e ∙ flag_is_set))
       by (inr other) = group_stays x other ∙ next.follow.own x (sym (flag_stays x other) ∙ off)
 
-  shared_now : common_group (with_inlined c g h) (readers job g) ≡ Some (group (with_inlined c g h) g)
+  shared_now : find_common_group (with_inlined c g h) (readers job g) ≡ Some (group (with_inlined c g h) g)
   shared_now = readers_stay g (le_refl (rank_of job.stages g)) ∙ next.one_group ∙ ap Some (sym new_group)
 
   shared_still : (x : ℕ) → is_inlined (slice_set c.inlining g true) x ≡ true
-      → common_group (with_inlined c g h) (readers job x) ≡ Some (group (with_inlined c g h) x)
+      → find_common_group (with_inlined c g h) (readers job x) ≡ Some (group (with_inlined c g h) x)
   shared_still x inlined = by (cases_eq x g)
     where
-      by : (x ≡ g) ⊎ (x ≡ g → ⊥) → common_group (with_inlined c g h) (readers job x) ≡ Some (group (with_inlined c g h) x)
-      by (inl e) = subst (λ y. common_group (with_inlined c g h) (readers job y) ≡ Some (group (with_inlined c g h) y)) (sym e) shared_now
+      by : (x ≡ g) ⊎ (x ≡ g → ⊥) → find_common_group (with_inlined c g h) (readers job x) ≡ Some (group (with_inlined c g h) x)
+      by (inl e) = subst (λ y. find_common_group (with_inlined c g h) (readers job y) ≡ Some (group (with_inlined c g h) y)) (sym e) shared_now
       by (inr other) =
           let was = sym (flag_stays x other) ∙ inlined in
           readers_stay x (next.behind x was) ∙ next.follow.shared x was ∙ ap Some (sym (group_stays x other))
@@ -155,14 +155,14 @@ follow_after job percent k valid =
     (Falls-take job.stages k (backward job.stages) (backward_falls job.stages))
     (All-take (λ g. g < length job.stages) k (backward job.stages) (backward_there job.stages)) (free_at_first job first)
 
-pub follow_at_last : (job : Pipeline) (percent : ℕ) → IsJob job → GroupsFollow job (greedy_grouping job percent)
+pub follow_at_last : (job : Pipeline) (percent : ℕ) → IsJob job → GroupsFollow job (group_stages_greedily job percent)
 follow_at_last job percent valid =
     follow_all job percent (initial_grouping job) (backward job.stages) valid (follow_at_first job) (backward_falls job.stages)
     (backward_there job.stages) (free_at_first job (backward job.stages))
 
 -- ---- readers
 
-reader_there : (job : Pipeline) (x r : ℕ) → does_read job x r ≡ true → r < length job.stages
+reader_there : (job : Pipeline) (x r : ℕ) → is_reader_of_stage job x r ≡ true → r < length job.stages
 reader_there job x r reads = by (slice_get job.stages r) refl reads
   where
     by : (o : Option Stage) → slice_get job.stages r ≡ o
@@ -170,23 +170,23 @@ reader_there job x r reads = by (slice_get job.stages r) refl reads
     by None e k = absurd (cc)
     by (Some s) e k = slice_get_within job.stages r s e
 
-is_reader : (job : Pipeline) (x r : ℕ) → does_read job x r ≡ true → Contains (readers job x) r
+is_reader : (job : Pipeline) (x r : ℕ) → is_reader_of_stage job x r ≡ true → Contains (readers job x) r
 is_reader job x r reads =
-    Contains-filter (does_read job x) (backward job.stages) r
-    (Contains-reverse (in_order job.stages) r (ordered job.stages r (reader_there job x r reads))) reads
+    Contains-filter (is_reader_of_stage job x) (backward job.stages) r
+    (Contains-reverse (order_stages_by_rank job.stages) r (ordered job.stages r (reader_there job x r reads))) reads
 
 -- ---- from groups back
 
 module _ (job : Pipeline) (c : Grouping) (valid : IsJob job) (follow : GroupsFollow job c) where
   -- what holds of each stored stage, and of each inlined function where it holds of a reader with the same group, holds of all
   module _ (Q : ℕ → Type 0) (first : (x : ℕ) → is_inlined c.inlining x ≡ false → Q x)
-      (further : (x r : ℕ) → is_inlined c.inlining x ≡ true → does_read job x r ≡ true → group c r ≡ group c x → Q r → Q x) where
-    by_readers : (x : ℕ) (rs : List ℕ) → is_inlined c.inlining x ≡ true → common_group c rs ≡ Some (group c x)
-        → All (λ r. does_read job x r ≡ true) rs
+      (further : (x r : ℕ) → is_inlined c.inlining x ≡ true → is_reader_of_stage job x r ≡ true → group c r ≡ group c x → Q r → Q x) where
+    by_readers : (x : ℕ) (rs : List ℕ) → is_inlined c.inlining x ≡ true → find_common_group c rs ≡ Some (group c x)
+        → All (λ r. is_reader_of_stage job x r ≡ true) rs
         → ((r : ℕ) → rank_of job.stages x < rank_of job.stages r → Q r) → Q x
     by_readers x [] inlined shared read higher = absurd (cc)
     by_readers x (r ∷ rs) inlined shared read higher =
-        let reads = All-head (λ r. does_read job x r ≡ true) r rs read in
+        let reads = All-head (λ r. is_reader_of_stage job x r ≡ true) r rs read in
         let same = All-head (λ r. group c r ≡ group c x) r rs (group_shared c (r ∷ rs) (group c x) shared) in
         further x r inlined reads same (higher r (reader_is_behind job x r valid reads))
 
@@ -241,12 +241,12 @@ groups_after job percent k t x valid stored =
     chains_are_groups job (grouping_after job percent k) t x valid (follow_after job percent k valid) stored
 
 pub groups_at_last : (job : Pipeline) (percent t x : ℕ) → IsJob job → is_inlined (greedy_inlining job percent) t ≡ false
-    → ChainLeads job (greedy_inlining job percent) t x ↔ (group (greedy_grouping job percent) x ≡ t)
+    → ChainLeads job (greedy_inlining job percent) t x ↔ (group (group_stages_greedily job percent) x ≡ t)
 unfolding greedy_inlining
 groups_at_last job percent t x valid stored =
-    chains_are_groups job (greedy_grouping job percent) t x valid (follow_at_last job percent valid) stored
+    chains_are_groups job (group_stages_greedily job percent) t x valid (follow_at_last job percent valid) stored
 
 pub groups_are_stored : (job : Pipeline) (percent x : ℕ) → IsJob job
-    → is_inlined (greedy_inlining job percent) (group (greedy_grouping job percent) x) ≡ false
+    → is_inlined (greedy_inlining job percent) (group (group_stages_greedily job percent) x) ≡ false
 unfolding greedy_inlining
-groups_are_stored job percent x valid = group_is_stored job (greedy_grouping job percent) valid (follow_at_last job percent valid) x
+groups_are_stored job percent x valid = group_is_stored job (group_stages_greedily job percent) valid (follow_at_last job percent valid) x

@@ -14,15 +14,15 @@ use Rattle.domains.proofs.Places.{slice_get-set_same, slice_get-set_other}
 use Rattle.job.specs.Pipeline.{Stage, Pipeline, rank_of}
 use Rattle.job.specs.WellFormed.{IsJob}
 use Rattle.job.proofs.TotalLaws.{map_same}
-use Rattle.tile_boxes.specs.Schedules.{is_inlined, is_function}
+use Rattle.tile_boxes.specs.Schedules.{is_inlined, is_function_stage}
 use Rattle.tile_boxes.specs.Targets.{Target, box, region, target_over}
 use Rattle.tile_boxes.specs.Costs.{scratch, most_scratch}
-use Rattle.grouping.specs.Greedy.{does_read, readers, Grouping, group, common_group, with_inlined, cost_or_zero, pays, has_room}
+use Rattle.grouping.specs.Greedy.{is_reader_of_stage, readers, Grouping, group, find_common_group, with_inlined, cost_or_zero, pays, has_room}
 use Rattle.grouping.specs.inside.Standings.{areas_at, boxes_by_tile, StandsStored, StandsInlined, Stands, AllStand, NoneInlinedBelow}
 use Rattle.grouping.specs.inside.Crossed.{boxes_in}
-use Rattle.grouping.specs.inside.Trials.{points_of_box, kept_cost}
-use Rattle.grouping.specs.declared.standing.Standing.{Standing}
-use Rattle.grouping.specs.declared.standing.Standing.TheVariants.{Stored, Inlined}
+use Rattle.grouping.specs.inside.Trials.{count_box_points, find_kept_cost}
+use Rattle.grouping.specs.declared.standing.StageStatus.{StageStatus}
+use Rattle.grouping.specs.declared.standing.StageStatus.TheVariants.{Stored, Inlined}
 use Rattle.grouping.proofs.CostsGrow.{other_flag, box_stays, cost_grows, scratch_rises, room_is, cost_stays, scratch_stays, room_stays}
 use Rattle.grouping.proofs.ReadersMakeBoxes.{no_box, reader_is_behind, readers_read, group_shared}
 
@@ -37,16 +37,16 @@ beyond stages n r low = by (slice_get stages r) refl low
     by (Some s) e k = slice_get_within stages r s e
 
 -- what follows for stored stages and for inlined ones follows for each that is there
-with_standing : (P : Type 0) (job : Pipeline) (c : Grouping) (standings : List Standing) (r : ℕ) → AllStand job c standings
+with_standing : (P : Type 0) (job : Pipeline) (c : Grouping) (standings : List StageStatus) (r : ℕ) → AllStand job c standings
     → r < length job.stages
     → ((n : ℕ) (tiles : List ℕ) → StandsStored job c r n tiles → P) → ((boxes : List (Option Area)) → StandsInlined job c r boxes → P) → P
 with_standing P job c standings r stand there stored inlined = by (slice_get_cases standings r).1
   where
-    from : (s : Standing) → Stands job c r s → P
+    from : (s : StageStatus) → Stands job c r s → P
     from (Stored n tiles) k = stored n tiles.items k
     from (Inlined boxes) k = inlined (boxes_in boxes) k
 
-    by : ((s : Standing) × (r < length standings) × (slice_get standings r ≡ Some s) × (slice_index_or standings r s ≡ s))
+    by : ((s : StageStatus) × (r < length standings) × (slice_get standings r ≡ Some s) × (slice_index_or standings r s ≡ s))
         ⊎ ((length standings ≤ r) × (slice_get standings r ≡ None)) → P
     by (inl (s, below, is, same)) = from s (stand.each r s is)
     by (inr (past, none)) = let all = stand.all in absurd (omega (arith, past, there, all))
@@ -56,7 +56,7 @@ with_standing P job c standings r stand there stored inlined = by (slice_get_cas
 abbrev IsGroup : Pipeline → Grouping → ℕ → ℕ → Type 0
 IsGroup job c g h = (is_inlined c.inlining h ≡ false) × (rank_of job.stages g < rank_of job.stages h) × (h < length job.stages)
 
-group_of_reader : (job : Pipeline) (c : Grouping) (standings : List Standing) (g r : ℕ) → AllStand job c standings
+group_of_reader : (job : Pipeline) (c : Grouping) (standings : List StageStatus) (g r : ℕ) → AllStand job c standings
     → rank_of job.stages g < rank_of job.stages r → IsGroup job c g (group c r)
 group_of_reader job c standings g r stand low = with_standing (IsGroup job c g (group c r)) job c standings r stand there stored inlined
   where
@@ -71,23 +71,23 @@ group_of_reader job c standings g r stand low = with_standing (IsGroup job c g (
         let high = lt_trans low s.before in
         (s.at_group, high, beyond job.stages (rank_of job.stages g) (group c r) high)
 
-group_of_readers : (job : Pipeline) (c : Grouping) (standings : List Standing) (g h : ℕ) (rs : List ℕ) → IsJob job
-    → AllStand job c standings → All (λ r. does_read job g r ≡ true) rs → common_group c rs ≡ Some h → IsGroup job c g h
+group_of_readers : (job : Pipeline) (c : Grouping) (standings : List StageStatus) (g h : ℕ) (rs : List ℕ) → IsJob job
+    → AllStand job c standings → All (λ r. is_reader_of_stage job g r ≡ true) rs → find_common_group c rs ≡ Some h → IsGroup job c g h
 group_of_readers job c standings g h [] is stand read shared = absurd (cc)
 group_of_readers job c standings g h (r ∷ rs) is stand read shared =
-    let behind = reader_is_behind job g r is (All-head (λ r. does_read job g r ≡ true) r rs read) in
+    let behind = reader_is_behind job g r is (All-head (λ r. is_reader_of_stage job g r ≡ true) r rs read) in
     subst (IsGroup job c g) (All-head (λ r. group c r ≡ h) r rs (group_shared c (r ∷ rs) h shared))
     (group_of_reader job c standings g r stand behind)
 
 -- the one group of a function's readers is stored, is there, and has a greater rank
-pub group_is : (job : Pipeline) (c : Grouping) (standings : List Standing) (g h : ℕ) → IsJob job → AllStand job c standings
-    → common_group c (readers job g) ≡ Some h
+pub group_is : (job : Pipeline) (c : Grouping) (standings : List StageStatus) (g h : ℕ) → IsJob job → AllStand job c standings
+    → find_common_group c (readers job g) ≡ Some h
     → (is_inlined c.inlining h ≡ false) × (rank_of job.stages g < rank_of job.stages h) × (h < length job.stages)
 group_is job c standings g h is stand shared = group_of_readers job c standings g h (readers job g) is stand (readers_read job g) shared
 
 -- ---- elsewhere the function has no box
 
-out_of : (job : Pipeline) (c : Grouping) (standings : List Standing) (g r k : ℕ) (a : Area) → AllStand job c standings
+out_of : (job : Pipeline) (c : Grouping) (standings : List StageStatus) (g r k : ℕ) (a : Area) → AllStand job c standings
     → rank_of job.stages g < rank_of job.stages r
     → is_inlined c.inlining k ≡ false → k ≢ group c r → region (target_over job c.inlining k a) r ≡ None
 out_of job c standings g r k a stand low off apart =
@@ -106,21 +106,21 @@ out_of job c standings g r k a stand low off apart =
         let other : nat_eq r k ≡ false = ne_eqb r k (λ e. false≢true (sym off ∙ ap (is_inlined c.inlining) (sym e) ∙ s.inlined)) in
         (λ i. if other i then Some a else (if s.inlined i then s.elsewhere k a off apart i else None))
 
-out_of_all : (job : Pipeline) (c : Grouping) (standings : List Standing) (g h k : ℕ) (a : Area) (rs : List ℕ) → IsJob job
+out_of_all : (job : Pipeline) (c : Grouping) (standings : List StageStatus) (g h k : ℕ) (a : Area) (rs : List ℕ) → IsJob job
     → AllStand job c standings → is_inlined c.inlining k ≡ false → k ≢ h
-    → All (λ r. does_read job g r ≡ true) rs → All (λ r. group c r ≡ h) rs → All (λ r. region (target_over job c.inlining k a) r ≡ None) rs
+    → All (λ r. is_reader_of_stage job g r ≡ true) rs → All (λ r. group c r ≡ h) rs → All (λ r. region (target_over job c.inlining k a) r ≡ None) rs
 out_of_all job c standings g h k a [] is stand off apart read shared = All-nil (λ r. region (target_over job c.inlining k a) r ≡ None)
 out_of_all job c standings g h k a (r ∷ rs) is stand off apart read shared =
-    let behind = reader_is_behind job g r is (All-head (λ r. does_read job g r ≡ true) r rs read) in
+    let behind = reader_is_behind job g r is (All-head (λ r. is_reader_of_stage job g r ≡ true) r rs read) in
     let here = All-head (λ r. group c r ≡ h) r rs shared in
     All-cons (λ r. region (target_over job c.inlining k a) r ≡ None) r rs
     (out_of job c standings g r k a stand behind off (λ e. apart (e ∙ here)))
-    (out_of_all job c standings g h k a rs is stand off apart (All-tail (λ r. does_read job g r ≡ true) r rs read)
+    (out_of_all job c standings g h k a rs is stand off apart (All-tail (λ r. is_reader_of_stage job g r ≡ true) r rs read)
     (All-tail (λ r. group c r ≡ h) r rs shared))
 
 -- a function has no box in the tiles of stored stages other than the one group of its readers
-pub none_elsewhere : (job : Pipeline) (c : Grouping) (standings : List Standing) (g h : ℕ) → IsJob job → AllStand job c standings
-    → common_group c (readers job g) ≡ Some h
+pub none_elsewhere : (job : Pipeline) (c : Grouping) (standings : List StageStatus) (g h : ℕ) → IsJob job → AllStand job c standings
+    → find_common_group c (readers job g) ≡ Some h
     → (k : ℕ) (a : Area) → is_inlined c.inlining k ≡ false → (k ≡ h → ⊥) → box (target_over job c.inlining k a) g ≡ None
 none_elsewhere job c standings g h is stand shared k a off apart =
     no_box (target_over job c.inlining k a) g is
@@ -129,14 +129,14 @@ none_elsewhere job c standings g h is stand shared k a off apart =
 -- ---- one function more
 
 -- a stored function g, with the functions inlined so far after it, whose readers have the one group h
-pub record IsStep (job : Pipeline) (c : Grouping) (standings : List Standing) (g h : ℕ) : Type 0 where
+pub record IsStep (job : Pipeline) (c : Grouping) (standings : List StageStatus) (g h : ℕ) : Type 0 where
   pub valid : IsJob job
   pub stand : AllStand job c standings
   pub there : g < length job.stages
-  pub function : is_function job g ≡ true
+  pub function : is_function_stage job g ≡ true
   pub stored : is_inlined c.inlining g ≡ false
   pub behind : NoneInlinedBelow job c.inlining g
-  pub shared : common_group c (readers job g) ≡ Some h
+  pub shared : find_common_group c (readers job g) ≡ Some h
 
 pub ranks_differ : (stages : List Stage) (g h : ℕ) → rank_of stages g < rank_of stages h → h ≢ g
 ranks_differ stages g h low e = let same : rank_of stages h ≡ rank_of stages g = ap (rank_of stages) e in absurd (omega arith)
@@ -160,7 +160,7 @@ set_twice {X} xs g h x s s' y below below' is = second (cases_eq x h)
         inl (e, same_Some s' y (sym last ∙ ap (slice_get (slice_set (slice_set xs g s) h s')) (sym e) ∙ is))
     second (inr apart) = first apart (sym (slice_get-set_other (slice_set xs g s) h x s' apart) ∙ is) (cases_eq x g)
 
-module _ {job : Pipeline} {c : Grouping} {standings : List Standing} {g h : ℕ} (step : IsStep job c standings g h) where
+module _ {job : Pipeline} {c : Grouping} {standings : List StageStatus} {g h : ℕ} (step : IsStep job c standings g h) where
   step_group : IsGroup job c g h
   step_group = group_is job c standings g h step.valid step.stand step.shared
 
@@ -239,8 +239,8 @@ module _ {job : Pipeline} {c : Grouping} {standings : List Standing} {g h : ℕ}
 
   -- with the points of those boxes added, h stands stored
   pub group_stands : (n : ℕ) (tiles : List ℕ)
-      → n ≡ cost_or_zero job c.inlining h + sum (map points_of_box (boxes_by_tile job c.inlining h g))
-      → tiles ≡ map (λ a. scratch (target_over job c.inlining h a) + points_of_box (box (target_over job c.inlining h a) g))
+      → n ≡ cost_or_zero job c.inlining h + sum (map count_box_points (boxes_by_tile job c.inlining h g))
+      → tiles ≡ map (λ a. scratch (target_over job c.inlining h a) + count_box_points (box (target_over job c.inlining h a) g))
       (areas_at job h)
       → list_all (λ n. nat_le n most_scratch) tiles ≡ true → StandsStored job (with_inlined c g h) h n tiles
   group_stands n tiles points scratches room =
@@ -279,12 +279,12 @@ module _ {job : Pipeline} {c : Grouping} {standings : List Standing} {g h : ℕ}
       inlined_by x (group c x) boxes low (ranks_differ job.stages g (group c x) high) (group_stays x other)
       (flag_stays x other ∙ s.inlined) s.at_group s.before s.boxes s.elsewhere
 
-  other_stands : (x : ℕ) (y : Standing) → x ≢ g → x ≢ h → Stands job c x y → Stands job (with_inlined c g h) x y
+  other_stands : (x : ℕ) (y : StageStatus) → x ≢ g → x ≢ h → Stands job c x y → Stands job (with_inlined c g h) x y
   other_stands x (Stored n tiles) other apart k = other_stored x n tiles.items other apart k
   other_stands x (Inlined boxes) other apart k = other_inlined x (boxes_in boxes) other k
 
-  each_stands : (s s' : Standing) → Stands job (with_inlined c g h) g s → Stands job (with_inlined c g h) h s'
-      → (x : ℕ) (y : Standing) → slice_get (slice_set (slice_set standings g s) h s') x ≡ Some y → Stands job (with_inlined c g h) x y
+  each_stands : (s s' : StageStatus) → Stands job (with_inlined c g h) g s → Stands job (with_inlined c g h) h s'
+      → (x : ℕ) (y : StageStatus) → slice_get (slice_set (slice_set standings g s) h s') x ≡ Some y → Stands job (with_inlined c g h) x y
   each_stands s s' here there x y is =
       by (set_twice standings g h x s s' y (let all = step.stand.all in let there = step.there in omega arith)
       (let all = step.stand.all in let there = step_group.2 in omega arith) is)
@@ -297,7 +297,7 @@ module _ {job : Pipeline} {c : Grouping} {standings : List Standing} {g h : ℕ}
       by (inr (inr (apart, other, was))) = other_stands x y other apart (step.stand.each x y was)
 
   -- all stages stand as they should when g is inlined in h; s and s' are the standings of g and h then
-  pub all_stand : (s s' : Standing) → Stands job (with_inlined c g h) g s → Stands job (with_inlined c g h) h s'
+  pub all_stand : (s s' : StageStatus) → Stands job (with_inlined c g h) g s → Stands job (with_inlined c g h) h s'
       → AllStand job (with_inlined c g h) (slice_set (slice_set standings g s) h s')
   all_stand s s' here there = record {
     inlining = length-set c.inlining g true ∙ step.stand.inlining;
@@ -310,7 +310,7 @@ module _ {job : Pipeline} {c : Grouping} {standings : List Standing} {g h : ℕ}
 
   -- by their points
   pub pays_is : (percent own apart added : ℕ) → own ≡ cost_or_zero job c.inlining h → apart ≡ cost_or_zero job c.inlining g
-      → added ≡ sum (map points_of_box (boxes_by_tile job c.inlining h g))
+      → added ≡ sum (map count_box_points (boxes_by_tile job c.inlining h g))
       → nat_le (100 * (own + added)) ((100 + percent) * (own + apart)) ≡ pays job percent c.inlining g h
   pays_is percent own apart added owns aparts adds =
       let more = cost_grows job c.inlining g h step.valid step.function other_stage step.stored flag_there step.behind step_group.0 in
@@ -320,7 +320,7 @@ module _ {job : Pipeline} {c : Grouping} {standings : List Standing} {g h : ℕ}
   -- and by the room in each tile
   pub fits_is : (tiles : List ℕ)
       → tiles
-      ≡ map (λ a. scratch (target_over job c.inlining h a) + points_of_box (box (target_over job c.inlining h a) g)) (areas_at job h)
+      ≡ map (λ a. scratch (target_over job c.inlining h a) + count_box_points (box (target_over job c.inlining h a) g)) (areas_at job h)
       → list_all (λ n. nat_le n most_scratch) tiles ≡ has_room job c.inlining g h
   fits_is tiles are =
       ap (list_all (λ n. nat_le n most_scratch))
@@ -330,15 +330,15 @@ module _ {job : Pipeline} {c : Grouping} {standings : List Standing} {g h : ℕ}
 -- ---- what is kept
 
 -- the points that are kept of a stored stage are those of the definition
-pub points_kept : (job : Pipeline) (c : Grouping) (standings : List Standing) (g : ℕ) → AllStand job c standings → g < length job.stages
-    → is_inlined c.inlining g ≡ false → kept_cost (slice_get standings g) ≡ cost_or_zero job c.inlining g
+pub points_kept : (job : Pipeline) (c : Grouping) (standings : List StageStatus) (g : ℕ) → AllStand job c standings → g < length job.stages
+    → is_inlined c.inlining g ≡ false → find_kept_cost (slice_get standings g) ≡ cost_or_zero job c.inlining g
 points_kept job c standings g stand there off = by (slice_get_cases standings g).1
   where
-    from : (s : Standing) → Stands job c g s → kept_cost (Some s) ≡ cost_or_zero job c.inlining g
+    from : (s : StageStatus) → Stands job c g s → find_kept_cost (Some s) ≡ cost_or_zero job c.inlining g
     from (Stored n tiles) k = k.costs
     from (Inlined boxes) k = absurd (false≢true (sym off ∙ k.inlined))
 
-    by : ((s : Standing) × (g < length standings) × (slice_get standings g ≡ Some s) × (slice_index_or standings g s ≡ s))
-        ⊎ ((length standings ≤ g) × (slice_get standings g ≡ None)) → kept_cost (slice_get standings g) ≡ cost_or_zero job c.inlining g
-    by (inl (s, below, is, same)) = ap kept_cost is ∙ from s (stand.each g s is)
+    by : ((s : StageStatus) × (g < length standings) × (slice_get standings g ≡ Some s) × (slice_index_or standings g s ≡ s))
+        ⊎ ((length standings ≤ g) × (slice_get standings g ≡ None)) → find_kept_cost (slice_get standings g) ≡ cost_or_zero job c.inlining g
+    by (inl (s, below, is, same)) = ap find_kept_cost is ∙ from s (stand.each g s is)
     by (inr (past, none)) = let all = stand.all in absurd (omega (arith, past, there, all))

@@ -19,7 +19,7 @@ use Rattle.tile_boxes.specs.Schedules.{is_inlined}
 use Rattle.tile_boxes.specs.Demands.{Demand, grown_by, hull_of_all, areas_of}
 use Rattle.tile_boxes.specs.Targets.{Target, IsTarget, region_by, demands_by, cut_to, box, region}
 use Rattle.tile_boxes.specs.Walks.{InDomainRanges, demanded_all, cut_hull}
-use Rattle.grouping.specs.Greedy.{does_read, readers, Grouping, group, common_group}
+use Rattle.grouping.specs.Greedy.{is_reader_of_stage, readers, Grouping, group, find_common_group}
 use Rattle.tile_boxes.proofs.AreasMeet.{near_subarea}
 use Rattle.tile_boxes.proofs.BoxesLieInDomains.{box_inside}
 use Rattle.tile_boxes.proofs.DemandsFall.{OfReads, none_of, of_stage}
@@ -35,7 +35,7 @@ not_read g (x ∷ xs) e =
     let both = or_parts (nat_eq (stage_read x) g) (list_any (λ x. nat_eq (stage_read x) g) xs) e in
     All-cons (λ (x : Read). nat_eq (stage_read x) g ≡ false) x xs both.0 (not_read g xs both.1)
 
-pub none_unread : (t : Target) (boxes : ℕ → Option Area) (g r : ℕ) → does_read t.job g r ≡ false → areas_of g (demands_by t boxes r) ≡ []
+pub none_unread : (t : Target) (boxes : ℕ → Option Area) (g r : ℕ) → is_reader_of_stage t.job g r ≡ false → areas_of g (demands_by t boxes r) ≡ []
 none_unread t boxes g r e =
     none_of (λ h. nat_eq h g ≡ false) g (demands_by t boxes r) (λ h other. other)
     (of_stage (λ h. nat_eq h g ≡ false) (slice_get t.job.stages r) (region_by t boxes r)
@@ -60,7 +60,7 @@ pub box_of_readers : (t : Target) (g : ℕ) → IsJob t.job
 box_of_readers t g job =
     box_follows t g (ranked_is t.job job)
     ∙ ap (λ xs. cut_to (slice_get t.job.stages g) (hull_of_all xs))
-    (kept_areas (demands_by t (box t)) g (does_read t.job g) (none_unread t (box t) g) (backward t.job.stages))
+    (kept_areas (demands_by t (box t)) g (is_reader_of_stage t.job g) (none_unread t (box t) g) (backward t.job.stages))
 
 -- ---- without a reader in the target there is no box
 
@@ -104,7 +104,7 @@ behind stages g n (x ∷ xs) e falls =
     by true is k first later = subst (λ h. rank_of stages h < n) (eqb-true (stage_read x) g is) first
     by false is k first later = later k
 
-pub reader_is_behind : (job : Pipeline) (g r : ℕ) → IsJob job → does_read job g r ≡ true → rank_of job.stages g < rank_of job.stages r
+pub reader_is_behind : (job : Pipeline) (g r : ℕ) → IsJob job → is_reader_of_stage job g r ≡ true → rank_of job.stages g < rank_of job.stages r
 reader_is_behind job g r is e = by (slice_get job.stages r) refl e
   where
     by : (o : Option Stage) → slice_get job.stages r ≡ o
@@ -114,8 +114,8 @@ reader_is_behind job g r is e = by (slice_get job.stages r) refl e
     by (Some s) there k =
         behind job.stages g (rank_of job.stages r) (reads_of s.body) k (reads_fall job.stages (ranked_is job is) r s there)
 
-pub readers_read : (job : Pipeline) (g : ℕ) → All (λ r. does_read job g r ≡ true) (readers job g)
-readers_read job g = filter_passes (does_read job g) (backward job.stages)
+pub readers_read : (job : Pipeline) (g : ℕ) → All (λ r. is_reader_of_stage job g r ≡ true) (readers job g)
+readers_read job g = filter_passes (is_reader_of_stage job g) (backward job.stages)
 
 -- ---- boxes and regions lie near 0
 
@@ -155,7 +155,7 @@ near_region t g a job target there = by (nat_eq g t.stage) there
 -- ---- groups
 
 -- stages with a common group have that group
-pub group_shared : (c : Grouping) (rs : List ℕ) (h : ℕ) → common_group c rs ≡ Some h → All (λ r. group c r ≡ h) rs
+pub group_shared : (c : Grouping) (rs : List ℕ) (h : ℕ) → find_common_group c rs ≡ Some h → All (λ r. group c r ≡ h) rs
 group_shared c [] h e = All-nil (λ r. group c r ≡ h)
 group_shared c (r ∷ rs) h e = by (list_all (λ q. nat_eq (group c q) (group c r)) rs) refl e
   where

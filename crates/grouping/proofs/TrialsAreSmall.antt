@@ -19,16 +19,16 @@ use Rattle.tile_boxes.specs.Costs.{cost_of, stage_cost}
 use Rattle.grouping.specs.Greedy.{cost_or_zero}
 use Rattle.tile_boxes.specs.Schedules.{is_inlined}
 use Rattle.tile_boxes.specs.Targets.{box, target_over}
-use Rattle.tile_boxes.specs.Tallies.{areas_of_tiles, over_domain}
+use Rattle.tile_boxes.specs.Tallies.{list_tile_areas, over_domain}
 use Rattle.grouping.specs.inside.Standings.{areas_at, boxes_by_tile}
-use Rattle.grouping.specs.inside.Trials.{points_of_box}
+use Rattle.grouping.specs.inside.Trials.{count_box_points}
 use Rattle.tile_boxes.proofs.CostsAddUp.{cost_is, tiles_are_targets}
 use Rattle.tile_boxes.proofs.CostsAreSmall.{most_box, box_small, sum_small, areas_few, cost_small}
 
 pub areas_at_few : (job : Pipeline) (g : ℕ) → IsJob job → length (areas_at job g) ≤ 65536
 areas_at_few job g is = by (grid_at job g) refl
   where
-    by : (o : Option Grid) → grid_at job g ≡ o → length (option_map_or areas_of_tiles o []) ≤ 65536
+    by : (o : Option Grid) → grid_at job g ≡ o → length (option_map_or list_tile_areas o []) ≤ 65536
     by None there = omega arith
     by (Some grid) there = areas_few job g grid is there
 
@@ -41,13 +41,13 @@ from_map f (z ∷ zs) y h = elim (Contains-cases (f z) (map f zs) y h) [
 
 -- the points of the boxes of a stage in all tiles of another
 pub boxes_small : (job : Pipeline) (inlining : List Bool) (h g : ℕ) → IsJob job
-    → sum (map points_of_box (boxes_by_tile job inlining h g)) < 2 ^ 62
+    → sum (map count_box_points (boxes_by_tile job inlining h g)) < 2 ^ 62
 boxes_small job inlining h g is =
     let f : Area → Option Area = λ a. box (target_over job inlining h a) g in
-    let each = sum_small points_of_box most_box 65536 (map f (areas_at job h))
+    let each = sum_small count_box_points most_box 65536 (map f (areas_at job h))
     (λ o there.
     let from = from_map f (areas_at job h) o there in
-    subst (λ (x : Option Area). points_of_box x ≤ most_box) from.2 (box_small (target_over job inlining h from.0) is g))
+    subst (λ (x : Option Area). count_box_points x ≤ most_box) from.2 (box_small (target_over job inlining h from.0) is g))
     (let same = length-map (areas_at job h) f in let few = areas_at_few job h is in omega arith) in
     omega arith
 
@@ -63,7 +63,7 @@ kept_small job inlining g is = by (slice_get job.stages g) refl
     pick : (s : Stage) → slice_get job.stages g ≡ Some s → (b : Bool) → (has_tiles s.body && not (is_inlined inlining g)) ≡ b
         → option_map_or (λ n. n) (if b then Some (cost_of job inlining g s) else None) 0 < 2 ^ 63
     pick s there true has =
-        let small = cost_small (over_domain job inlining g s) (areas_of_tiles (grid_of job s)) is
+        let small = cost_small (over_domain job inlining g s) (list_tile_areas (grid_of job s)) is
         (tiles_are_targets job inlining g s is there)
         (areas_few job g (grid_of job s) is (ap (stage_grid job) there
         ∙ ap (λ c. if c then Some (grid_of job s) else None) (and_parts (has_tiles s.body) (not (is_inlined inlining g)) has).0)) in

@@ -16,14 +16,14 @@ use Rattle.tile_boxes.specs.Costs.{scratch}
 use Rattle.tile_boxes.specs.Schedules.{is_inlined}
 use Rattle.grouping.specs.Greedy.{Grouping}
 use Rattle.grouping.specs.inside.Standings.{areas_at, boxes_by_tile, AllStand}
-use Rattle.grouping.specs.inside.Trials.{points_of_box, kept_scratch, scratch_with, IsTrialOf, AreTaken, IsRowOfBoxes}
+use Rattle.grouping.specs.inside.Trials.{count_box_points, find_kept_scratch, scratch_with, IsTrialOf, AreTaken, IsRowOfBoxes}
 use Rattle.tile_boxes.specs.Tallies.{area_of}
 use Rattle.grouping.specs.inside.Crossed.{crossed}
-use Rattle.grouping.specs.declared.boxes.Boxes.TheVariants.{Crossed}
-use Rattle.grouping.specs.declared.boxes.Crossing.{Crossing}
-use Rattle.grouping.specs.declared.trial.Taken.{Taken}
+use Rattle.grouping.specs.declared.boxes.BoxesByTile.TheVariants.{Crossed}
+use Rattle.grouping.specs.declared.boxes.SeparableBoxes.{SeparableBoxes}
+use Rattle.grouping.specs.declared.trial.PointTally.{PointTally}
 use Rattle.grouping.proofs.CrossedLists.{length-by_rows, at_row}
-use Rattle.grouping.specs.declared.standing.Standing.{Standing}
+use Rattle.grouping.specs.declared.standing.StageStatus.{StageStatus}
 use Rattle.tile_boxes.proofs.CostsAreSmall.{box_small, scratch_small}
 use Rattle.grouping.proofs.TrialsAreSmall.{boxes_small}
 use Rattle.grouping.proofs.KeptIsBox.{kept_is_scratch}
@@ -52,7 +52,7 @@ row_of_boxes job inlining h g rows cols i r boxes at j c at' =
     )
 
 -- where all tiles are taken, the trial is made
-pub all_taken : (job : Pipeline) (inlining : List Bool) (h g n : ℕ) (t : Taken) (spans : Crossing)
+pub all_taken : (job : Pipeline) (inlining : List Bool) (h g n : ℕ) (t : PointTally) (spans : SeparableBoxes)
     → crossed spans.rows.items spans.cols.items ≡ boxes_by_tile job inlining h g → n ≡ length spans.rows.items * length spans.cols.items
     → AreTaken job inlining h g n t
     → IsTrialOf job inlining h g (record { boxes = Crossed spans; added = t.added; scratch = t.scratch })
@@ -60,10 +60,10 @@ all_taken job inlining h g n t spans boxes count taken =
     let all = counted job inlining h g spans.rows.items spans.cols.items boxes in
     let boxed = length-map (areas_at job h) (λ a. box (target_over job inlining h a) g) in
     let held = length-map (areas_at job h)
-    (λ a. scratch (target_over job inlining h a) + points_of_box (box (target_over job inlining h a) g)) in
+    (λ a. scratch (target_over job inlining h a) + count_box_points (box (target_over job inlining h a) g)) in
     record {
       boxes = boxes;
-      added = taken.added ∙ ap (λ xs. sum (map points_of_box xs)) (take_all n (boxes_by_tile job inlining h g) (omega arith));
+      added = taken.added ∙ ap (λ xs. sum (map count_box_points xs)) (take_all n (boxes_by_tile job inlining h g) (omega arith));
       in_scratch = taken.in_scratch ∙ take_all n (scratch_with job inlining h g) (omega arith);
     }
 
@@ -79,53 +79,53 @@ module _ (job : Pipeline) (inlining : List Bool) (h g k : ℕ) (low : k < length
   box_here : slice_index_or (boxes_by_tile job inlining h g) k None ≡ inside here
   box_here = get_or-map inside (areas_at job h) k nowhere None low
 
-  pub one_more_added : (added points : ℕ) → added ≡ sum (map points_of_box (take k (boxes_by_tile job inlining h g)))
-      → points ≡ points_of_box (slice_index_or (boxes_by_tile job inlining h g) k None)
-      → added + points ≡ sum (map points_of_box (take (k + 1) (boxes_by_tile job inlining h g)))
+  pub one_more_added : (added points : ℕ) → added ≡ sum (map count_box_points (take k (boxes_by_tile job inlining h g)))
+      → points ≡ count_box_points (slice_index_or (boxes_by_tile job inlining h g) k None)
+      → added + points ≡ sum (map count_box_points (take (k + 1) (boxes_by_tile job inlining h g)))
   one_more_added added points was is =
       let boxes = boxes_by_tile job inlining h g in
       let inner : k < length boxes = omega (arith, length-map (areas_at job h) inside, low) in
-      (λ i. (was ∙ sum-map points_of_box (take k boxes)) i + is i) ∙ sym (sum_by_more points_of_box boxes k None inner)
-      ∙ sym (sum-map points_of_box (take (k + 1) boxes))
+      (λ i. (was ∙ sum-map count_box_points (take k boxes)) i + is i) ∙ sym (sum_by_more count_box_points boxes k None inner)
+      ∙ sym (sum-map count_box_points (take (k + 1) boxes))
 
-  pub added_small : (added points : ℕ) → IsJob job → added ≡ sum (map points_of_box (take k (boxes_by_tile job inlining h g)))
-      → points ≡ points_of_box (slice_index_or (boxes_by_tile job inlining h g) k None) → added + points < 2 ^ 62
+  pub added_small : (added points : ℕ) → IsJob job → added ≡ sum (map count_box_points (take k (boxes_by_tile job inlining h g)))
+      → points ≡ count_box_points (slice_index_or (boxes_by_tile job inlining h g) k None) → added + points < 2 ^ 62
   added_small added points valid was is =
       let boxes = boxes_by_tile job inlining h g in
       omega (
         arith,
         one_more_added added points was is,
-        sum-map points_of_box (take (k + 1) boxes),
-        sum_by-take-le points_of_box boxes (k + 1),
-        sum-map points_of_box boxes,
+        sum-map count_box_points (take (k + 1) boxes),
+        sum_by-take-le count_box_points boxes (k + 1),
+        sum-map count_box_points boxes,
         boxes_small job inlining h g valid,
       )
 
-  module _ (c : Grouping) (standings : List Standing) (stand : AllStand job c standings) (there : h < length job.stages)
+  module _ (c : Grouping) (standings : List StageStatus) (stand : AllStand job c standings) (there : h < length job.stages)
       (stored : is_inlined c.inlining h ≡ false) (same : c.inlining ≡ inlining) where
-    kept : kept_scratch (slice_get standings h) k ≡ scratch (target_over job inlining h here)
+    kept : find_kept_scratch (slice_get standings h) k ≡ scratch (target_over job inlining h here)
     kept =
         kept_is_scratch job c standings h k here stand there stored (slice_get-get_or (areas_at job h) k nowhere low)
         ∙ ap (λ fs. scratch (target_over job fs h here)) same
 
-    pub held_small : (n points : ℕ) → IsJob job → n ≡ kept_scratch (slice_get standings h) k
-        → points ≡ points_of_box (slice_index_or (boxes_by_tile job inlining h g) k None) → n + points < 2 ^ 62
+    pub held_small : (n points : ℕ) → IsJob job → n ≡ find_kept_scratch (slice_get standings h) k
+        → points ≡ count_box_points (slice_index_or (boxes_by_tile job inlining h g) k None) → n + points < 2 ^ 62
     held_small n points valid was is =
         omega (
           arith,
           was ∙ kept,
-          is ∙ ap points_of_box box_here,
+          is ∙ ap count_box_points box_here,
           scratch_small (target_over job inlining h here) valid,
           box_small (target_over job inlining h here) valid g,
         )
 
     pub one_more_held : (n points : ℕ) (before after : List ℕ) → before ≡ take k (scratch_with job inlining h g)
-        → n ≡ kept_scratch (slice_get standings h) k
-        → points ≡ points_of_box (slice_index_or (boxes_by_tile job inlining h g) k None) → after ≡ before ++ (n + points) ∷ []
+        → n ≡ find_kept_scratch (slice_get standings h) k
+        → points ≡ count_box_points (slice_index_or (boxes_by_tile job inlining h g) k None) → after ≡ before ++ (n + points) ∷ []
         → after ≡ take (k + 1) (scratch_with job inlining h g)
     one_more_held n points before after were was is more =
-        let f : Area → ℕ = λ a. scratch (target_over job inlining h a) + points_of_box (inside a) in
+        let f : Area → ℕ = λ a. scratch (target_over job inlining h a) + count_box_points (inside a) in
         let inner : k < length (scratch_with job inlining h g) = omega (arith, length-map (areas_at job h) f, low) in
-        let last : n + points ≡ get_or (scratch_with job inlining h g) k 0 = (λ i. (was ∙ kept) i + (is ∙ ap points_of_box box_here) i)
+        let last : n + points ≡ get_or (scratch_with job inlining h g) k 0 = (λ i. (was ∙ kept) i + (is ∙ ap count_box_points box_here) i)
         ∙ sym (get_or-map f (areas_at job h) k nowhere 0 low) in
         more ∙ (λ i. were i ++ last i ∷ []) ∙ sym (take_more (scratch_with job inlining h g) k 0 inner)

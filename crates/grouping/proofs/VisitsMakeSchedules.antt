@@ -15,14 +15,14 @@ use Rattle.domains.specs.declared.area.Area.{Area}
 use Rattle.job.specs.Pipeline.{Stage, Pipeline, rank_of}
 use Rattle.job.specs.Answers.{is_output, grid_of, has_tiles}
 use Rattle.job.proofs.TotalLaws.{map_same}
-use Rattle.tile_boxes.specs.Order.{ComesBefore, in_order, backward}
-use Rattle.tile_boxes.specs.Schedules.{is_inlined, is_function, IsSchedule, all_stored}
+use Rattle.tile_boxes.specs.Order.{ComesBefore, order_stages_by_rank, backward}
+use Rattle.tile_boxes.specs.Schedules.{is_inlined, is_function_stage, IsSchedule, all_stored}
 use Rattle.tile_boxes.specs.Targets.{Target, target_over}
 use Rattle.tile_boxes.specs.Costs.{tile_targets, scratch, most_scratch, stage_cost, cost, has_scratch, stage_fits}
-use Rattle.tile_boxes.specs.Costs.{costs_of, AllFitScratch}
-use Rattle.tile_boxes.specs.Tallies.{areas_of_tiles, over, over_domain}
+use Rattle.tile_boxes.specs.Costs.{survey_stage_costs, AllFitScratch}
+use Rattle.tile_boxes.specs.Tallies.{list_tile_areas, over, over_domain}
 use Rattle.grouping.specs.Greedy.{Grouping, initial_grouping, group, readers}
-use Rattle.grouping.specs.Greedy.{common_group, with_inlined, pays, has_room, inlined_if, visited}
+use Rattle.grouping.specs.Greedy.{find_common_group, with_inlined, pays, has_room, inlined_if, visited}
 use Rattle.grouping.specs.inside.Standings.{areas_at, scratch_by_tile}
 use Rattle.tile_boxes.proofs.RanksNeverRise.{All-reverse}
 use Rattle.tile_boxes.proofs.OrderHasEachStage.{order_pairs, order_has}
@@ -73,21 +73,21 @@ reverse_falls stages (x ∷ xs) rise =
     subst (Falls stages) (sym (reverse-append (x ∷ []) xs)) (falls-last stages (reverse xs) x (reverse_falls stages xs rise.1) all)
 
 pub backward_falls : (stages : List Stage) → Falls stages (backward stages)
-backward_falls stages = reverse_falls stages (in_order stages) (rises stages (in_order stages) (order_pairs stages))
+backward_falls stages = reverse_falls stages (order_stages_by_rank stages) (rises stages (order_stages_by_rank stages) (order_pairs stages))
 
 pub backward_there : (stages : List Stage) → All (λ g. g < length stages) (backward stages)
 backward_there stages =
-    All-reverse (λ g. g < length stages) (in_order stages)
-    (All-weaker (Contains (in_order stages)) (λ g. g < length stages) (λ g inside. (order_has stages g).0 inside) (in_order stages)
-    (All-contains_itself (in_order stages)))
+    All-reverse (λ g. g < length stages) (order_stages_by_rank stages)
+    (All-weaker (Contains (order_stages_by_rank stages)) (λ g. g < length stages) (λ g inside. (order_has stages g).0 inside) (order_stages_by_rank stages)
+    (All-contains_itself (order_stages_by_rank stages)))
 
 -- ---- visits
 
 -- a visit leaves the grouping, or inlines the stage, which then is a function and no output, in the one group of its readers
 pub visited_by : (Q : Grouping → Type 0) (job : Pipeline) (percent : ℕ) (c : Grouping) (g : ℕ) → Q c
-    → (is_function job g ≡ true → is_output job g ≡ false → (h : ℕ) → common_group c (readers job g) ≡ Some h → Q (with_inlined c g h)) → Q
+    → (is_function_stage job g ≡ true → is_output job g ≡ false → (h : ℕ) → find_common_group c (readers job g) ≡ Some h → Q (with_inlined c g h)) → Q
     (visited job percent c g)
-visited_by Q job percent c g same one = by (is_function job g) refl (is_output job g) refl
+visited_by Q job percent c g same one = by (is_function_stage job g) refl (is_output job g) refl
   where
     if_pays : (b : Bool) (h : ℕ) → Q (with_inlined c g h) → Q (if b then with_inlined c g h else c)
     if_pays true h k = k
@@ -97,9 +97,9 @@ visited_by Q job percent c g same one = by (is_function job g) refl (is_output j
     if_group None k = same
     if_group (Some h) k = if_pays (pays job percent c.inlining g h && has_room job c.inlining g h) h (k h refl)
 
-    by : (a : Bool) → is_function job g ≡ a → (b : Bool) → is_output job g ≡ b
-        → Q (if a && not b then inlined_if job percent c g (common_group c (readers job g)) else c)
-    by true e false f = if_group (common_group c (readers job g)) (one e f)
+    by : (a : Bool) → is_function_stage job g ≡ a → (b : Bool) → is_output job g ≡ b
+        → Q (if a && not b then inlined_if job percent c g (find_common_group c (readers job g)) else c)
+    by true e false f = if_group (find_common_group c (readers job g)) (one e f)
     by true e true f = same
     by false e b f = same
 
@@ -113,12 +113,12 @@ of_inlined P inlining g k here was inlined = by (nat_eq k g) refl
     by false e = let other : k ≢ g = grind (arith, nat_tests) in was k (sym (get_or-set_other inlining g k true false other) ∙ inlined)
 
 -- one more function that is no output makes a schedule
-pub one_more_is : (job : Pipeline) (inlining : List Bool) (g : ℕ) → IsSchedule job inlining → is_function job g ≡ true → is_output job g ≡ false
+pub one_more_is : (job : Pipeline) (inlining : List Bool) (g : ℕ) → IsSchedule job inlining → is_function_stage job g ≡ true → is_output job g ≡ false
     → IsSchedule job (slice_set inlining g true)
 one_more_is job inlining g h function inner =
     record {
       each = length-set inlining g true ∙ h.each;
-      functions = λ k inlined. of_inlined (λ x. is_function job x ≡ true) inlining g k function h.functions inlined;
+      functions = λ k inlined. of_inlined (λ x. is_function_stage job x ≡ true) inlining g k function h.functions inlined;
       inner = λ k inlined. of_inlined (λ x. is_output job x ≡ false) inlining g k inner h.inner inlined;
     }
 
@@ -162,7 +162,7 @@ room_of job g None = refl
 room_of job g (Some s) = by (has_tiles s.body && not (is_inlined (all_stored job) g))
   where
     areas : List Area
-    areas = areas_of_tiles (grid_of job s)
+    areas = list_tile_areas (grid_of job s)
 
     by : (b : Bool) → (if b then list_all has_scratch (tile_targets job (all_stored job) g s) else true) ≡ true
     by true =
@@ -176,14 +176,14 @@ pub room_at_first : (job : Pipeline) (g : ℕ) → stage_fits job (all_stored jo
 room_at_first job g = room_of job g (slice_get job.stages g)
 
 -- the costs of a job have the cost of each stage, whatever is inlined
-pub cost_at : (job : Pipeline) (inlining : List Bool) (g : ℕ) → slice_index_or (costs_of job inlining) g None ≡ cost job inlining g
+pub cost_at : (job : Pipeline) (inlining : List Bool) (g : ℕ) → slice_index_or (survey_stage_costs job inlining) g None ≡ cost job inlining g
 cost_at job inlining g = by (cases_lt g (length job.stages))
   where
-    by : (g < length job.stages) ⊎ (length job.stages ≤ g) → slice_index_or (costs_of job inlining) g None ≡ cost job inlining g
+    by : (g < length job.stages) ⊎ (length job.stages ≤ g) → slice_index_or (survey_stage_costs job inlining) g None ≡ cost job inlining g
     by (inl below) =
         get_or-map-range_with_len (cost job inlining) 0 (length job.stages) g g None below (let e : 0 + g ≡ g = omega arith in e)
     by (inr past) =
-        get_or_past (costs_of job inlining) g None
+        get_or_past (survey_stage_costs job inlining) g None
         (subst (λ (k : ℕ). k ≤ g) (sym (length-map-range_with_len (cost job inlining) 0 (length job.stages))) past)
         ∙ sym (ap (stage_cost job inlining g) (slice_get_past job.stages g past))
 

@@ -7,7 +7,7 @@ use Rattle.domains.specs.Index.{Scale}
 use Rattle.job.specs.Formula.{Formula, number, coordinate, read, unary, binary, ternary, literal, lookup, select, stencil}
 use Rattle.job.specs.Pipeline.{JobCase, Body, plane, function, accumulator, Pipeline}
 use Rattle.job.specs.Reads.{Read, point, window}
-use Rattle.tile_boxes.specs.Schedules.{is_function, is_inlined}
+use Rattle.tile_boxes.specs.Schedules.{is_function_stage, is_inlined}
 use Rattle.grouping.specs.Greedy.{reads_at, readers}
 
 -- the operators and reads of a formula. A stencil counts as more than a point-wise function may have
@@ -36,24 +36,24 @@ abbrev pub steps_at : Pipeline → ℕ → ℕ
 steps_at job g = option_map_or (λ s. steps_of s.body) (slice_get job.stages g) 0
 
 -- an index that leaves each number as it is
-abbrev pub is_same : Scale → Bool
-is_same i = int_eq i.mul (pos 1) && (int_eq i.add (pos 0) && int_eq i.div (pos 1))
+abbrev pub is_identity_index : Scale → Bool
+is_identity_index i = int_eq i.mul (pos 1) && (int_eq i.add (pos 0) && int_eq i.div (pos 1))
 
 -- not a read of stage g, or one at the point itself
-abbrev pub is_plain : ℕ → Read → Bool
-is_plain g (point h i j) = if h == g then is_same i && is_same j else true
-is_plain g (window h kernel) = not (h == g)
+abbrev pub is_pointwise_read : ℕ → Read → Bool
+is_pointwise_read g (point h i j) = if h == g then is_identity_index i && is_identity_index j else true
+is_pointwise_read g (window h kernel) = not (h == g)
 
 -- a function whose reads of stage g are all at the point itself
-abbrev pub reads_plainly : Pipeline → ℕ → ℕ → Bool
-reads_plainly job g r = is_function job r && list_all (is_plain g) (reads_at job r)
+abbrev pub is_pointwise_reader : Pipeline → ℕ → ℕ → Bool
+is_pointwise_reader job g r = is_function_stage job r && list_all (is_pointwise_read g) (reads_at job r)
 
 -- a function with at most eight operators and reads and no stencil, that two or three functions read, each at the point itself
 pub record IsCheap (job : Pipeline) (g : ℕ) : Type 0 where
   pub few_steps : steps_at job g ≤ 8
   pub shared : 2 ≤ length (readers job g)
   pub few_readers : length (readers job g) ≤ 3
-  pub plainly : list_all (reads_plainly job g) (readers job g) ≡ true
+  pub plainly : list_all (is_pointwise_reader job g) (readers job g) ≡ true
 
 -- what was inlined before is inlined after, and whatever else is inlined after is point-wise
 pub record AddsCheap (job : Pipeline) (before after : List Bool) : Type 0 where

@@ -8,7 +8,7 @@ use Rattle.job.specs.Pipeline.{Pipeline}
 use Rattle.job.specs.Reads.{Read, stage_read, reads_of}
 use Rattle.job.specs.Answers.{is_output}
 use Rattle.tile_boxes.specs.Order.{backward}
-use Rattle.tile_boxes.specs.Schedules.{is_function, all_stored}
+use Rattle.tile_boxes.specs.Schedules.{is_function_stage, all_stored}
 use Rattle.tile_boxes.specs.Costs.{cost, stage_fits}
 
 -- ---- readers
@@ -18,12 +18,12 @@ abbrev pub reads_at : Pipeline → ℕ → List Read
 reads_at job r = option_map_or (λ s. reads_of s.body) (slice_get job.stages r) []
 
 -- whether stage r reads stage g
-abbrev pub does_read : Pipeline → ℕ → ℕ → Bool
-does_read job g r = list_any (λ x. stage_read x == g) (reads_at job r)
+abbrev pub is_reader_of_stage : Pipeline → ℕ → ℕ → Bool
+is_reader_of_stage job g r = list_any (λ x. stage_read x == g) (reads_at job r)
 
 -- the stages that read stage g, from the last in dependence order to the first
 abbrev pub readers : Pipeline → ℕ → List ℕ
-readers job g = filter (does_read job g) (backward job.stages)
+readers job g = filter (is_reader_of_stage job g) (backward job.stages)
 
 -- ---- groups
 
@@ -41,9 +41,9 @@ abbrev pub group : Grouping → ℕ → ℕ
 group c g = slice_index_or c.groups g g
 
 -- the one group of all these stages, if there are any and they have one
-abbrev pub common_group : Grouping → List ℕ → Option ℕ
-common_group c [] = None
-common_group c (r ∷ rs) = if list_all (λ q. group c q == group c r) rs then Some (group c r) else None
+abbrev pub find_common_group : Grouping → List ℕ → Option ℕ
+find_common_group c [] = None
+find_common_group c (r ∷ rs) = if list_all (λ q. group c q == group c r) rs then Some (group c r) else None
 
 -- stage g is inlined, and computed in the tiles of stage h
 abbrev pub with_inlined : Grouping → ℕ → ℕ → Grouping
@@ -75,11 +75,11 @@ inlined_if job percent c g (Some h) =
 -- memory
 abbrev pub visited : Pipeline → ℕ → Grouping → ℕ → Grouping
 visited job percent c g =
-    if is_function job g && not (is_output job g) then inlined_if job percent c g (common_group c (readers job g)) else c
+    if is_function_stage job g && not (is_output job g) then inlined_if job percent c g (find_common_group c (readers job g)) else c
 
-abbrev pub greedy_grouping : Pipeline → ℕ → Grouping
-greedy_grouping job percent = fold (visited job percent) (initial_grouping job) (backward job.stages)
+abbrev pub group_stages_greedily : Pipeline → ℕ → Grouping
+group_stages_greedily job percent = fold (visited job percent) (initial_grouping job) (backward job.stages)
 
 -- for each stage, whether it is inlined after all have been visited
 unfoldable pub greedy_inlining : Pipeline → ℕ → List Bool
-greedy_inlining job percent = (greedy_grouping job percent).inlining
+greedy_inlining job percent = (group_stages_greedily job percent).inlining

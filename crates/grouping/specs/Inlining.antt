@@ -4,7 +4,7 @@ use Rattle.std.specs.Prelude.{ℕ, ◌≡◌, Bool, true, Option, List}
 use Rattle.job.specs.Pipeline.{Pipeline}
 use Rattle.tile_boxes.specs.Schedules.{IsSchedule, IsInlinedOutput, StoresOutputs, inlining_for}
 use Rattle.grouping.specs.Cheap.{AddsCheap}
-use Rattle.tile_boxes.specs.Costs.{costs_of, AllFitScratch}
+use Rattle.tile_boxes.specs.Costs.{survey_stage_costs, AllFitScratch}
 use Rattle.grouping.specs.declared.fault.ScheduleFault.{ScheduleFault}
 use Rattle.grouping.specs.declared.fault.ScheduleFault.TheVariants.{OutputInlined, Memory}
 
@@ -16,7 +16,7 @@ pub record Inlining : Type 0 where
 -- what it inlines makes a schedule of the job, and its costs are the job's. If `fits` holds, each tile fits in scratch memory
 pub record IsScheduleOf (job : Pipeline) (s : Inlining) : Type 0 where
   pub inlining : IsSchedule job s.inlining
-  pub costs : s.costs ≡ costs_of job s.inlining
+  pub costs : s.costs ≡ survey_stage_costs job s.inlining
   pub fits : s.fits ≡ true → AllFitScratch job s.inlining
 
 -- a schedule of the job by which each tile fits in scratch memory. It inlines what was inlined before, and point-wise functions

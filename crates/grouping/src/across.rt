@@ -5,41 +5,41 @@ ghost use Rattle.std.specs.Prelude.{◌≡◌, ◌++◌, ◌∷◌, true, length
 ghost use Rattle.domains.specs.Tiles.{HasTile, tile_rows, tile_cols};
 ghost use Rattle.job.specs.Kept.{pipeline_in};
 ghost use Rattle.job.specs.Readers.{grid_at};
-ghost use Rattle.grouping.specs.inside.Between.{spot_of, LiesAcross, HasWhole, AreSides};
+ghost use Rattle.grouping.specs.inside.Between.{find_grid_tile, LiesAcross, HasWhole, AreSides};
 ghost use Rattle.grouping.specs.inside.Crossed.{crossed};
 ghost use Rattle.grouping.specs.inside.Standings.{AllStand, boxes_by_tile};
 ghost use Rattle.grouping.specs.inside.Trials.{grouping_of, IsCandidate};
 
-use crate::between::Spot;
-use crate::boxes::Crossing;
+use crate::between::NumberedTile;
+use crate::boxes::SeparableBoxes;
 use crate::greedy::Grouper;
-use crate::standing::Standing;
-use crate::trial::Candidate;
+use crate::standing::StageStatus;
+use crate::trial::InlineCandidate;
 use domains::{Area, Grid, Span};
 use job::Job;
 use std::alloc::{AllocError, Global};
 
 // The tile in a row and a column of tiles.
-fn spot_of(grid: &Grid, row: u32, col: u32) -> Option<Spot>
-    ensures is { IfSome result (λ s. s ≡ spot_of grid.now row col) }
+fn find_grid_tile(grid: &Grid, row: u32, col: u32) -> Option<NumberedTile>
+    ensures is { IfSome result (λ s. s ≡ find_grid_tile grid.now row col) }
     ensures there { IfSome result (λ _. HasTile grid.now row col) }
 {
     let tile = grid.tile(row, col)?;
     let place = row as usize * grid.tile_cols() as usize + col as usize;
-    Some(Spot { place, tile })
+    Some(NumberedTile { place, tile })
 }
 
 impl Grouper {
     /// The boxes of a function in the tiles of its group, if they follow from those in the first row and the first column of
     /// tiles. `hulls` is a working buffer.
-    pub(crate) fn crossed_boxes(
+    pub(crate) fn find_separable_boxes_in_grid(
         &self,
         alloc: Global,
         job: &Job,
-        candidate: &Candidate,
+        candidate: &InlineCandidate,
         grid: &Grid,
         hulls: &mut [Option<Area>],
-    ) -> Result<Option<Crossing>, AllocError>
+    ) -> Result<Option<SeparableBoxes>, AllocError>
         requires stand { AllStand (pipeline_in job.now) (grouping_of self.now)
             self.now.standings.items }
         requires candidate { IsCandidate (pipeline_in job.now) (grouping_of self.now)
@@ -50,24 +50,24 @@ impl Grouper {
             ≡ boxes_by_tile (pipeline_in job.now) self.now.inlining candidate.now.group candidate.now.number)) }
         ensures room { length hulls.new ≡ length hulls.old }
     {
-        if !self.all_across(candidate, grid) {
+        if !self.has_separable_readers(candidate, grid) {
             return Ok(None);
         }
-        let Some(rows) = self.rows_down(alloc, job, candidate, grid, hulls)? else {
+        let Some(rows) = self.find_box_rows(alloc, job, candidate, grid, hulls)? else {
             return Ok(None);
         };
-        let Some(cols) = self.cols_along(alloc, job, candidate, grid, hulls)? else {
+        let Some(cols) = self.find_box_columns(alloc, job, candidate, grid, hulls)? else {
             return Ok(None);
         };
-        Ok(Some(Crossing { rows, cols }))
+        Ok(Some(SeparableBoxes { rows, cols }))
     }
 
     // The rows of the boxes in the first tile of each row of tiles, if all readers are whole in each of these tiles.
-    fn rows_down(
+    fn find_box_rows(
         &self,
         alloc: Global,
         job: &Job,
-        candidate: &Candidate,
+        candidate: &InlineCandidate,
         grid: &Grid,
         hulls: &mut [Option<Area>],
     ) -> Result<Option<Vec<Span>>, AllocError>
@@ -78,12 +78,12 @@ impl Grouper {
         requires grid { grid_at (pipeline_in job.now) candidate.now.group ≡ Some grid.now }
         requires hulls { length hulls.old ≡ length (pipeline_in job.now).stages }
         ensures sides { IfOk result (λ o. IfSome o (λ v. AreSides (pipeline_in job.now) self.now candidate.now
-            (λ i. spot_of grid.now i 0) (λ a. a.rows) (tile_rows grid.now) v.items)) }
+            (λ i. find_grid_tile grid.now i 0) (λ a. a.rows) (tile_rows grid.now) v.items)) }
         ensures room { length hulls.new ≡ length hulls.old }
     {
         let mut rows = Vec::new(alloc);
         for i in 0..grid.tile_rows() {
-            match self.whole_box(job, candidate, grid, i, 0, hulls) {
+            match self.find_box_if_readers_whole(job, candidate, grid, i, 0, hulls) {
                 Some(area) => rows.push(area.rows)?,
                 None => return Ok(None),
             }
@@ -92,11 +92,11 @@ impl Grouper {
     }
 
     // The columns of the boxes in the first tile of each column of tiles, if all readers are whole in each of these tiles.
-    fn cols_along(
+    fn find_box_columns(
         &self,
         alloc: Global,
         job: &Job,
-        candidate: &Candidate,
+        candidate: &InlineCandidate,
         grid: &Grid,
         hulls: &mut [Option<Area>],
     ) -> Result<Option<Vec<Span>>, AllocError>
@@ -107,12 +107,12 @@ impl Grouper {
         requires grid { grid_at (pipeline_in job.now) candidate.now.group ≡ Some grid.now }
         requires hulls { length hulls.old ≡ length (pipeline_in job.now).stages }
         ensures sides { IfOk result (λ o. IfSome o (λ v. AreSides (pipeline_in job.now) self.now candidate.now
-            (λ j. spot_of grid.now 0 j) (λ a. a.cols) (tile_cols grid.now) v.items)) }
+            (λ j. find_grid_tile grid.now 0 j) (λ a. a.cols) (tile_cols grid.now) v.items)) }
         ensures room { length hulls.new ≡ length hulls.old }
     {
         let mut cols = Vec::new(alloc);
         for j in 0..grid.tile_cols() {
-            match self.whole_box(job, candidate, grid, 0, j, hulls) {
+            match self.find_box_if_readers_whole(job, candidate, grid, 0, j, hulls) {
                 Some(area) => cols.push(area.cols)?,
                 None => return Ok(None),
             }
@@ -121,10 +121,10 @@ impl Grouper {
     }
 
     // The box of the function in a tile of its group, if all readers are whole there.
-    fn whole_box(
+    fn find_box_if_readers_whole(
         &self,
         job: &Job,
-        candidate: &Candidate,
+        candidate: &InlineCandidate,
         grid: &Grid,
         row: u32,
         col: u32,
@@ -137,34 +137,35 @@ impl Grouper {
         requires grid { grid_at (pipeline_in job.now) candidate.now.group ≡ Some grid.now }
         requires hulls { length hulls.old ≡ length (pipeline_in job.now).stages }
         ensures is { IfSome result (HasWhole (pipeline_in job.now) self.now candidate.now
-            (spot_of grid.now row col)) }
+            (find_grid_tile grid.now row col)) }
         ensures room { length hulls.new ≡ length hulls.old }
     {
-        let spot = spot_of(grid, row, col)?;
-        let area = self.box_in(job, candidate, &spot, hulls);
-        self.if_whole(job, candidate, &spot, &area)
+        let spot = find_grid_tile(grid, row, col)?;
+        let area = self.find_box_in_tile(job, candidate, &spot, hulls);
+        self.keep_box_if_readers_whole(job, candidate, &spot, &area)
     }
 
     // Whether the regions of all readers are separable into rows and columns of tiles.
-    fn all_across(&self, candidate: &Candidate, grid: &Grid) -> bool
+    fn has_separable_readers(&self, candidate: &InlineCandidate, grid: &Grid) -> bool
         ensures { result ≡ true → All (LiesAcross self.now.standings.items candidate.now.group grid.now)
             candidate.now.readers.items }
     {
-        candidate
-            .readers
-            .iter()
-            .all(|reader| self.lies_across(candidate.group, grid, *reader))
+        candidate.readers.iter().all(|reader| self.has_separable_region(
+            candidate.group,
+            grid,
+            *reader,
+        ))
     }
 
-    fn lies_across(&self, group: usize, grid: &Grid, reader: usize) -> bool
+    fn has_separable_region(&self, group: usize, grid: &Grid, reader: usize) -> bool
         ensures { result ≡ true → LiesAcross self.now.standings.items group grid.now reader }
     {
         if reader == group {
             return true;
         }
         match self.standings.get(reader) {
-            Some(Standing::Inlined(boxes)) => {
-                boxes.is_crossed(grid.tile_rows() as usize, grid.tile_cols() as usize)
+            Some(StageStatus::Inlined(boxes)) => {
+                boxes.has_separable_boxes(grid.tile_rows() as usize, grid.tile_cols() as usize)
             }
             _ => false,
         }

@@ -6,20 +6,20 @@ ghost use Rattle.std.specs.List.{list_all};
 ghost use Rattle.job.specs.Kept.{pipeline_in};
 ghost use Rattle.job.specs.Views.{body_view, case_view};
 ghost use Rattle.tile_boxes.specs.Targets.{box, target_over};
-ghost use Rattle.grouping.specs.inside.Between.{meets_box, meets_cases, IsWhole, kept_region, IsBetween, IsSpot, HasWhole, AreWhole};
+ghost use Rattle.grouping.specs.inside.Between.{meets_case_box, meets_all_case_boxes, IsWhole, find_kept_region, IsBetween, IsNumberedTile, HasWhole, AreWhole};
 ghost use Rattle.grouping.specs.inside.Standings.{areas_at, AllStand};
 ghost use Rattle.grouping.specs.inside.Trials.{grouping_of, IsCandidate};
 
 use crate::greedy::Grouper;
-use crate::trial::Candidate;
+use crate::trial::InlineCandidate;
 use domains::Area;
 use job::{Body, Job, JobCase};
 use std::alloc::{AllocError, Global};
-use tile_boxes::common;
+use tile_boxes::intersect_areas;
 
 /// A tile of a stage: its number, row by row, and its area.
 #[derive(Clone, Copy)]
-pub(crate) struct Spot {
+pub(crate) struct NumberedTile {
     pub(crate) place: usize,
     pub(crate) tile: Area,
 }
@@ -27,23 +27,23 @@ pub(crate) struct Spot {
 /// The known boxes of a function in tiles in which all of its readers are whole; how many tiles a row has; and the first tile of
 /// the row of the next tile.
 #[derive(Drop)]
-pub(crate) struct Wholes {
+pub(crate) struct WholeBoxes {
     boxes: Vec<Option<Area>>,
     columns: usize,
     first: usize,
 }
 
-impl Wholes {
+impl WholeBoxes {
     /// Nothing is known of the tiles of a stage yet; there is capacity for `count` tiles.
-    pub(crate) fn none(
+    pub(crate) fn new(
         alloc: Global,
         job: &Job,
         group: usize,
         count: usize,
-    ) -> Result<Wholes, AllocError>
+    ) -> Result<WholeBoxes, AllocError>
         ensures { IfOk result (λ w. w.boxes.items ≡ []) }
     {
-        Ok(Wholes {
+        Ok(WholeBoxes {
             boxes: Vec::with_capacity(alloc, count)?,
             columns: job.grid(group).map_or(0, |grid| grid.tile_cols() as usize),
             first: 0,
@@ -51,7 +51,7 @@ impl Wholes {
     }
 
     /// Adds a tile, with its box if that is known.
-    pub(crate) fn add(&mut self, known: Option<Area>) -> Result<(), AllocError>
+    pub(crate) fn push_box(&mut self, known: Option<Area>) -> Result<(), AllocError>
         ensures { OnOk result (self.new.boxes.items ≡ self.old.boxes.items ++ known ∷ []) }
     {
         self.boxes.push(known)?;
@@ -62,7 +62,7 @@ impl Wholes {
     }
 
     // The box that is known of a tile.
-    fn known(&self, place: usize) -> Option<Area>
+    fn find_known_box(&self, place: usize) -> Option<Area>
         ensures { IfSome result (λ area. slice_get self.now.boxes.items place ≡ Some (Some area)) }
     {
         *self.boxes.get(place)?
@@ -72,31 +72,31 @@ impl Wholes {
 impl Grouper {
     /// The box of a function in a tile of its group, if it follows from those in the first tile of its row and in the first one
     /// of its column.
-    pub(crate) fn box_between(
+    pub(crate) fn derive_inner_box(
         &self,
         job: &Job,
-        candidate: &Candidate,
+        candidate: &InlineCandidate,
         tiles: &[Area],
-        wholes: &Wholes,
-        here: &Spot,
+        wholes: &WholeBoxes,
+        here: &NumberedTile,
     ) -> Option<Area>
         requires stand { AllStand (pipeline_in job.now) (grouping_of self.now)
             self.now.standings.items }
         requires candidate { IsCandidate (pipeline_in job.now) (grouping_of self.now)
             candidate.now }
         requires tiles { tiles.now ≡ areas_at (pipeline_in job.now) candidate.now.group }
-        requires here { IsSpot (pipeline_in job.now) candidate.now.group here.now }
+        requires here { IsNumberedTile (pipeline_in job.now) candidate.now.group here.now }
         requires wholes { AreWhole (pipeline_in job.now) self.now candidate.now
             wholes.now.boxes.items }
         ensures { IfSome result (λ a. box
             (target_over (pipeline_in job.now) self.now.inlining candidate.now.group here.now.tile)
             candidate.now.number ≡ Some a) }
     {
-        let left = spot_at(tiles, wholes.first)?;
-        let top = spot_at(tiles, here.place.checked_sub(wholes.first)?)?;
-        let one = wholes.known(left.place)?;
-        let other = wholes.known(top.place)?;
-        if self.are_between(candidate, here, &left, &top) {
+        let left = find_tile_by_number(tiles, wholes.first)?;
+        let top = find_tile_by_number(tiles, here.place.checked_sub(wholes.first)?)?;
+        let one = wholes.find_known_box(left.place)?;
+        let other = wholes.find_known_box(top.place)?;
+        if self.can_derive_inner_box(candidate, here, &left, &top) {
             Some(Area {
                 rows: one.rows,
                 cols: other.cols,
@@ -107,28 +107,34 @@ impl Grouper {
     }
 
     // Whether in a tile the region of each reader has its rows in common with that in `left`, and its columns with that in `top`.
-    fn are_between(&self, candidate: &Candidate, here: &Spot, left: &Spot, top: &Spot) -> bool
+    fn can_derive_inner_box(
+        &self,
+        candidate: &InlineCandidate,
+        here: &NumberedTile,
+        left: &NumberedTile,
+        top: &NumberedTile,
+    ) -> bool
         ensures { result ≡ true → All
-            (λ r. IsBetween (kept_region self.now.standings.items candidate.now.group here.now r)
-            (kept_region self.now.standings.items candidate.now.group left.now r)
-            (kept_region self.now.standings.items candidate.now.group top.now r))
+            (λ r. IsBetween (find_kept_region self.now.standings.items candidate.now.group here.now r)
+            (find_kept_region self.now.standings.items candidate.now.group left.now r)
+            (find_kept_region self.now.standings.items candidate.now.group top.now r))
             candidate.now.readers.items }
     {
         candidate.readers.iter().all(|reader| {
-            is_between(
-                self.kept_region(candidate.group, here, *reader),
-                self.kept_region(candidate.group, left, *reader),
-                self.kept_region(candidate.group, top, *reader),
+            has_shared_rows_and_columns(
+                self.find_kept_region(candidate.group, here, *reader),
+                self.find_kept_region(candidate.group, left, *reader),
+                self.find_kept_region(candidate.group, top, *reader),
             )
         })
     }
 
     /// A box of the function in a tile, if there is one and the region of each reader there meets all cases of the reader.
-    pub(crate) fn if_whole(
+    pub(crate) fn keep_box_if_readers_whole(
         &self,
         job: &Job,
-        candidate: &Candidate,
-        spot: &Spot,
+        candidate: &InlineCandidate,
+        spot: &NumberedTile,
         area: &Option<Area>,
     ) -> Option<Area>
         requires { area.now
@@ -136,7 +142,7 @@ impl Grouper {
             candidate.now.number }
         ensures { IfSome result (HasWhole (pipeline_in job.now) self.now candidate.now spot.now) }
     {
-        if self.all_whole(job, candidate, spot) {
+        if self.has_whole_readers(job, candidate, spot) {
             *area
         } else {
             None
@@ -144,40 +150,40 @@ impl Grouper {
     }
 
     // Whether the region of each reader in a tile meets all cases of the reader.
-    fn all_whole(&self, job: &Job, candidate: &Candidate, spot: &Spot) -> bool
+    fn has_whole_readers(&self, job: &Job, candidate: &InlineCandidate, spot: &NumberedTile) -> bool
         ensures { result ≡ true → All
             (λ r. IsWhole (slice_get (pipeline_in job.now).stages r)
-            (kept_region self.now.standings.items candidate.now.group spot.now r))
+            (find_kept_region self.now.standings.items candidate.now.group spot.now r))
             candidate.now.readers.items }
     {
-        candidate.readers.iter().all(|reader| is_whole(
+        candidate.readers.iter().all(|reader| is_whole_region(
             job,
             *reader,
-            self.kept_region(candidate.group, spot, *reader),
+            self.find_kept_region(candidate.group, spot, *reader),
         ))
     }
 
     // The region of a stage in a tile of its group, as it is kept.
-    fn kept_region(&self, group: usize, spot: &Spot, number: usize) -> Option<Area>
-        ensures { result ≡ kept_region self.now.standings.items group spot.now number }
+    fn find_kept_region(&self, group: usize, spot: &NumberedTile, number: usize) -> Option<Area>
+        ensures { result ≡ find_kept_region self.now.standings.items group spot.now number }
     {
         if number == group {
             Some(spot.tile)
         } else {
-            self.kept_box(number, spot.place)
+            self.find_kept_box(number, spot.place)
         }
     }
 }
 
-fn spot_at(tiles: &[Area], place: usize) -> Option<Spot>
+fn find_tile_by_number(tiles: &[Area], place: usize) -> Option<NumberedTile>
     ensures tile { IfSome result (λ spot. slice_get tiles.now place ≡ Some spot.tile) }
     ensures place { IfSome result (λ spot. spot.place ≡ place) }
 {
     let tile = *tiles.get(place)?;
-    Some(Spot { place, tile })
+    Some(NumberedTile { place, tile })
 }
 
-fn is_between(here: Option<Area>, left: Option<Area>, top: Option<Area>) -> bool
+fn has_shared_rows_and_columns(here: Option<Area>, left: Option<Area>, top: Option<Area>) -> bool
     ensures { result ≡ true → IsBetween here left top }
 {
     match (here, left, top) {
@@ -186,41 +192,41 @@ fn is_between(here: Option<Area>, left: Option<Area>, top: Option<Area>) -> bool
     }
 }
 
-fn is_whole(job: &Job, number: usize, region: Option<Area>) -> bool
+fn is_whole_region(job: &Job, number: usize, region: Option<Area>) -> bool
     ensures { result ≡ true → IsWhole (slice_get (pipeline_in job.now).stages number) region }
 {
     match (job.stage(number), region) {
-        (Some(stage), Some(region)) => meets_cases(stage.body(), &region),
+        (Some(stage), Some(region)) => meets_all_case_boxes(stage.body(), &region),
         _ => false,
     }
 }
 
 // Whether a region meets the box of each case that has one.
-fn meets_cases(body: &Body, region: &Area) -> bool
-    ensures { result ≡ meets_cases (body_view body.now) region.now }
+fn meets_all_case_boxes(body: &Body, region: &Area) -> bool
+    ensures { result ≡ meets_all_case_boxes (body_view body.now) region.now }
 {
     match body {
         Body::Plane(_) | Body::Accumulator(_) => true,
-        Body::Function(function) => meet_all(function.cases(), region),
+        Body::Function(function) => meets_each_case_box(function.cases(), region),
     }
 }
 
-fn meet_all(cases: &[JobCase], region: &Area) -> bool
-    ensures { result ≡ list_all (λ p. meets_box region.now p.box) (map case_view cases.now) }
+fn meets_each_case_box(cases: &[JobCase], region: &Area) -> bool
+    ensures { result ≡ list_all (λ p. meets_case_box region.now p.box) (map case_view cases.now) }
 {
     for case in cases {
-        if !meets_box(case, region) {
+        if !meets_case_box(case, region) {
             return false;
         }
     }
     true
 }
 
-fn meets_box(case: &JobCase, region: &Area) -> bool
-    ensures { result ≡ meets_box region.now (case_view case.now).box }
+fn meets_case_box(case: &JobCase, region: &Area) -> bool
+    ensures { result ≡ meets_case_box region.now (case_view case.now).box }
 {
     match case.area() {
-        Some(area) => common(area, region).is_some(),
+        Some(area) => intersect_areas(area, region).is_some(),
         None => true,
     }
 }

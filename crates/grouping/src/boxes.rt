@@ -8,44 +8,44 @@ use domains::{Area, Span};
 
 /// The boxes of an inlined function in the tiles of its group.
 #[derive(Drop)]
-pub(crate) enum Boxes {
+pub(crate) enum BoxesByTile {
     /// The box in each tile, if there is one, row by row.
     Each(Vec<Option<Area>>),
     /// The rows of the boxes in each row of tiles, and the columns of those in each column of tiles.
-    Crossed(Crossing),
+    Crossed(SeparableBoxes),
 }
 
 /// The rows of each row of tiles and the columns of each column of tiles; the boxes are their product.
 #[derive(Drop)]
-pub(crate) struct Crossing {
+pub(crate) struct SeparableBoxes {
     pub(crate) rows: Vec<Span>,
     pub(crate) cols: Vec<Span>,
 }
 
-impl Boxes {
+impl BoxesByTile {
     /// The box in the tile of this number.
-    pub(crate) fn at(&self, place: usize) -> Option<Area>
+    pub(crate) fn get_tile_box(&self, place: usize) -> Option<Area>
         ensures { result ≡ slice_index_or (boxes_in self.now) place None }
     {
         match self {
-            Boxes::Each(boxes) => *boxes.get(place)?,
-            Boxes::Crossed(spans) => area_at(&spans.rows, &spans.cols, place),
+            BoxesByTile::Each(boxes) => *boxes.get(place)?,
+            BoxesByTile::Crossed(spans) => find_separable_box(&spans.rows, &spans.cols, place),
         }
     }
 
     /// Whether they are kept as a product of this many rows and columns of tiles.
-    pub(crate) fn is_crossed(&self, rows: usize, cols: usize) -> bool
+    pub(crate) fn has_separable_boxes(&self, rows: usize, cols: usize) -> bool
         ensures { result ≡ true → IsCrossed rows cols self.now }
     {
         match self {
-            Boxes::Each(_) => false,
-            Boxes::Crossed(spans) => spans.rows.len() == rows && spans.cols.len() == cols,
+            BoxesByTile::Each(_) => false,
+            BoxesByTile::Crossed(spans) => spans.rows.len() == rows && spans.cols.len() == cols,
         }
     }
 }
 
 // The area of this number in the product of these rows and these columns.
-fn area_at(rows: &[Span], cols: &[Span], place: usize) -> Option<Area>
+fn find_separable_box(rows: &[Span], cols: &[Span], place: usize) -> Option<Area>
     ensures { result ≡ slice_index_or (crossed rows.now cols.now) place None }
 {
     if cols.is_empty() {

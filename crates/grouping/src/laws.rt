@@ -13,8 +13,8 @@ ghost use Rattle.job.specs.WellFormed.{IsJob};
 ghost use Rattle.grouping.specs.Chains.{ChainLeads, grouping_after};
 ghost use Rattle.tile_boxes.specs.Costs.{scratch, points};
 ghost use Rattle.tile_boxes.specs.Demands.{IsHullOfAll, hull_of_all};
-ghost use Rattle.grouping.specs.Greedy.{greedy_grouping, greedy_inlining, group};
-ghost use Rattle.tile_boxes.specs.Order.{ComesBefore, in_order};
+ghost use Rattle.grouping.specs.Greedy.{group_stages_greedily, greedy_inlining, group};
+ghost use Rattle.tile_boxes.specs.Order.{ComesBefore, order_stages_by_rank};
 ghost use Rattle.tile_boxes.specs.Schedules.{all_stored, is_inlined};
 ghost use Rattle.tile_boxes.specs.Targets.{Target, target_over, IsTarget, IsListed, HasWhatItReads, box_by, box, region, boxes};
 
@@ -32,9 +32,9 @@ pub fn boxes_hold_what_is_read()
 
 /// Dependence order has each stage once, by ranks, and by numbers where ranks are equal.
 pub fn dependence_order_has_each_stage()
-    ensures all { (stages : List Stage) (g : ℕ) → Contains (in_order stages) g
+    ensures all { (stages : List Stage) (g : ℕ) → Contains (order_stages_by_rank stages) g
         ↔ (g < length stages) }
-    ensures order { (stages : List Stage) → AllPairs (ComesBefore stages) (in_order stages) }
+    ensures order { (stages : List Stage) → AllPairs (ComesBefore stages) (order_stages_by_rank stages) }
     ensures reads { (stages : List Stage) (g : ℕ) (s : Stage) → IsRanked stages
         → slice_get stages g ≡ Some s
         → All (λ x. ComesBefore stages (stage_read x) g) (reads_of s.body) }
@@ -77,12 +77,12 @@ pub fn stored_stages_take_no_scratch()
 /// inlined functions alone. Groups follow chains also while only some stages have been visited.
 pub fn groups_follow_chains()
     ensures stored { (job : Pipeline) (percent x : ℕ) → IsJob job
-        → is_inlined (greedy_inlining job percent) (group (greedy_grouping job percent) x)
+        → is_inlined (greedy_inlining job percent) (group (group_stages_greedily job percent) x)
         ≡ false }
     ensures chains { (job : Pipeline) (percent t x : ℕ) → IsJob job
         → is_inlined (greedy_inlining job percent) t ≡ false
         → ChainLeads job (greedy_inlining job percent) t x
-        ↔ (group (greedy_grouping job percent) x ≡ t) }
+        ↔ (group (group_stages_greedily job percent) x ≡ t) }
     ensures on_the_way { (job : Pipeline) (percent k t x : ℕ) → IsJob job
         → is_inlined (grouping_after job percent k).inlining t ≡ false
         → ChainLeads job (grouping_after job percent k).inlining t x

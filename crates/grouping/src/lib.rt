@@ -13,7 +13,7 @@ mod schedule;
 mod standing;
 mod trial;
 
-pub use cheap::with_cheap_inlined;
+pub use cheap::inline_pointwise_functions;
 pub use fault::ScheduleFault;
 pub use schedule::Schedule;
-pub use tile_boxes::{MOST_SCRATCH, in_order, last_rank};
+pub use tile_boxes::{MOST_SCRATCH, find_greatest_rank, order_stages_by_rank};

@@ -6,46 +6,45 @@ ghost use Rattle.std.specs.List.{list_any};
 ghost use Rattle.job.specs.Kept.{pipeline_in};
 ghost use Rattle.job.specs.Views.{stage_view};
 ghost use Rattle.job.specs.Reads.{stage_read, reads_of};
-ghost use Rattle.grouping.specs.Greedy.{does_read};
+ghost use Rattle.grouping.specs.Greedy.{is_reader_of_stage};
 
 use job::{Job, Stage};
 use std::alloc::{AllocError, Global};
-use tile_boxes::stage_of;
 
 /// Those of these stages that read stage `number`.
-pub(crate) fn readers_of(
+pub(crate) fn find_stage_readers(
     alloc: Global,
     job: &Job,
     stages: &[usize],
     number: usize,
 ) -> Result<Vec<usize>, AllocError>
     ensures { IfOk result (λ readers. readers.items
-        ≡ filter (does_read (pipeline_in job.now) number) stages.now) }
+        ≡ filter (is_reader_of_stage (pipeline_in job.now) number) stages.now) }
 {
     let mut readers = Vec::new(alloc);
     for reader in stages {
-        if does_read(job, number, *reader) {
+        if is_reader_of_stage(job, number, *reader) {
             readers.push(*reader)?;
         }
     }
     Ok(readers)
 }
 
-fn does_read(job: &Job, number: usize, reader: usize) -> bool
-    ensures { result ≡ does_read (pipeline_in job.now) number reader }
+fn is_reader_of_stage(job: &Job, number: usize, reader: usize) -> bool
+    ensures { result ≡ is_reader_of_stage (pipeline_in job.now) number reader }
 {
     match job.stage(reader) {
-        Some(stage) => reads_it(stage, number),
+        Some(stage) => has_read_of_stage(stage, number),
         None => false,
     }
 }
 
-fn reads_it(stage: &Stage, number: usize) -> bool
+fn has_read_of_stage(stage: &Stage, number: usize) -> bool
     ensures { result
         ≡ list_any (λ x. stage_read x == number) (reads_of (stage_view stage.now).body) }
 {
     for read in stage.reads() {
-        if stage_of(read) == number {
+        if read.stage() == number {
             return true;
         }
     }

@@ -4,12 +4,14 @@
 ghost use Rattle.std.specs.Prelude.{◌≡◌, ◌≤◌, None, IfOk, IfErr, length, slice_index_or};
 
 use crate::fault::ScheduleFault;
-use crate::greedy::greedy_choice;
+use crate::greedy::choose_greedy_inlining;
 use domains::Area;
 use job::Job;
 use std::alloc::{AllocError, Global};
 use std::marker::Model;
-use tile_boxes::{InlinedStages, TargetWalk, costs_of, first_output_asked, in_order};
+use tile_boxes::{
+    BoxWalk, InlinedStages, find_inlined_output, order_stages_by_rank, survey_stage_costs,
+};
 
 /// Which functions are inlined, what the other functions and the accumulators cost, and whether each of their tiles is known to
 /// fit in scratch memory. Contracts see inlining and costs as lists.
@@ -51,7 +53,7 @@ impl Schedule {
         ensures schedule { IfOk result (IsScheduleOf (pipeline_in job.now)) }
     {
         let inlining = InlinedStages::all_stored(alloc, job)?;
-        let schedule = Schedule::with_costs(alloc, job, inlining)?;
+        let schedule = Schedule::from_inlining(alloc, job, inlining)?;
         Ok(schedule)
     }
 
@@ -68,22 +70,22 @@ impl Schedule {
         ensures schedule { IfOk result (IsScheduleOf (pipeline_in job.now)) }
         ensures fault { IfErr result (IsScheduleFault (pipeline_in job.now) inlining.now) }
     {
-        match first_output_asked(job, inlining) {
+        match find_inlined_output(job, inlining) {
             Some(stage) => Err(ScheduleFault::OutputInlined(stage)),
-            None => Ok(Schedule::asked(alloc, job, inlining)?),
+            None => Ok(Schedule::from_requested(alloc, job, inlining)?),
         }
     }
 
     // The schedule that inlines the requested functions, none of which is an output.
-    fn asked(alloc: Global, job: &Job, asked: &[bool]) -> Result<Schedule, AllocError>
+    fn from_requested(alloc: Global, job: &Job, asked: &[bool]) -> Result<Schedule, AllocError>
         requires outputs { StoresOutputs (pipeline_in job.now)
             (inlining_for (pipeline_in job.now) asked.now) }
         ensures inlining { IfOk result (λ s. s.inlining
             ≡ inlining_for (pipeline_in job.now) asked.now) }
         ensures schedule { IfOk result (IsScheduleOf (pipeline_in job.now)) }
     {
-        let inlining = InlinedStages::asked(alloc, job, asked)?;
-        let schedule = Schedule::with_costs(alloc, job, inlining)?;
+        let inlining = InlinedStages::from_requested(alloc, job, asked)?;
+        let schedule = Schedule::from_inlining(alloc, job, inlining)?;
         Ok(schedule)
     }
 
@@ -101,7 +103,7 @@ impl Schedule {
         ensures schedule { IfOk result (IsScheduleOf (pipeline_in job.now)) }
         ensures fits { IfOk result (λ s. AllFitScratch (pipeline_in job.now) s.inlining) }
     {
-        let choice = greedy_choice(alloc, job, percent)?;
+        let choice = choose_greedy_inlining(alloc, job, percent)?;
         Ok(Schedule {
             inlining: choice.inlining,
             costs: choice.costs,
@@ -118,7 +120,7 @@ impl Schedule {
 
     /// The schedule that also inlines point-wise functions, if it then knows that each tile fits in scratch memory; else the same
     /// one.
-    pub(crate) fn or_better(
+    pub(crate) fn extend_inlining_if_fitting(
         self,
         alloc: Global,
         job: &Job,
@@ -130,19 +132,23 @@ impl Schedule {
         requires adds { AddsCheap (pipeline_in job.now) self.inlining inlining }
         ensures { IfOk result (InlinesMore (pipeline_in job.now) self.inlining) }
     {
-        if self.inlining.is_same(&inlining) {
+        if self.inlining.has_same_stages(&inlining) {
             return Ok(self);
         }
-        let better = Schedule::with_costs(alloc, job, inlining)?;
+        let better = Schedule::from_inlining(alloc, job, inlining)?;
         if better.fits { Ok(better) } else { Ok(self) }
     }
 
-    fn with_costs(alloc: Global, job: &Job, inlining: InlinedStages) -> Result<Schedule, AllocError>
+    fn from_inlining(
+        alloc: Global,
+        job: &Job,
+        inlining: InlinedStages,
+    ) -> Result<Schedule, AllocError>
         requires schedule { IsSchedule (pipeline_in job.now) inlining }
         ensures inlining { IfOk result (λ s. s.inlining ≡ inlining) }
         ensures schedule { IfOk result (IsScheduleOf (pipeline_in job.now)) }
     {
-        let survey = costs_of(alloc, job, &inlining)?;
+        let survey = survey_stage_costs(alloc, job, &inlining)?;
         Ok(Schedule {
             inlining,
             costs: survey.costs,
@@ -176,11 +182,11 @@ impl Schedule {
     }
 
     // A target over a region of its domain.
-    fn walk<'a>(&'a self, job: &'a Job, target: usize, region: Area) -> TargetWalk<'a>
+    fn start_box_walk<'a>(&'a self, job: &'a Job, target: usize, region: Area) -> BoxWalk<'a>
         ensures { target_of result
             ≡ target_over (pipeline_in job.now) self.now.inlining target region }
     {
-        TargetWalk {
+        BoxWalk {
             job,
             schedule: &self.inlining,
             stage: target,
@@ -206,7 +212,7 @@ impl Schedule {
         ensures { IfOk result (λ found. found.items
             ≡ boxes (target_over (pipeline_in job.now) self.now.inlining target region)) }
     {
-        self.walk(job, target, region).boxes(alloc)
+        self.start_box_walk(job, target, region).boxes(alloc)
     }
 
     /// How many points the boxes of what is inlined have together, for a target over a region of its domain.
@@ -214,7 +220,7 @@ impl Schedule {
     /// # Errors
     ///
     /// Fails only where memory is refused.
-    pub fn scratch(
+    pub fn count_scratch_points(
         &self,
         alloc: Global,
         job: &Job,
@@ -226,7 +232,8 @@ impl Schedule {
         ensures { IfOk result (λ n. n
             ≡ scratch (target_over (pipeline_in job.now) self.now.inlining target region)) }
     {
-        let order = in_order(alloc, job.stages())?;
-        self.walk(job, target, region).scratch(alloc, &order)
+        let order = order_stages_by_rank(alloc, job.stages())?;
+        self.start_box_walk(job, target, region)
+            .count_scratch_points(alloc, &order)
     }
 }

@@ -7,25 +7,25 @@ ghost use Rattle.std.specs.List.{flat_map, list_all};
 ghost use Rattle.job.specs.Kept.{pipeline_in};
 ghost use Rattle.tile_boxes.specs.Costs.{most_scratch};
 ghost use Rattle.grouping.specs.Greedy.{group};
-ghost use Rattle.grouping.specs.inside.Between.{IsSpot, AreWhole};
+ghost use Rattle.grouping.specs.inside.Between.{IsNumberedTile, AreWhole};
 ghost use Rattle.grouping.specs.inside.Crossed.{crossed};
 ghost use Rattle.grouping.specs.inside.Standings.{areas_at, boxes_by_tile, AllStand};
 ghost use Rattle.tile_boxes.specs.Targets.{region, box, demands_by, target_over};
-ghost use Rattle.grouping.specs.inside.Trials.{grouping_of, kept_box, kept_scratch, points_of_box, IsCandidate, IsOverTile, IsTrialOf, AreTaken, IsRowOfBoxes};
+ghost use Rattle.grouping.specs.inside.Trials.{grouping_of, find_kept_box, find_kept_scratch, count_box_points, IsCandidate, IsOverTile, IsTrialOf, AreTaken, IsRowOfBoxes};
 ghost use Rattle.tile_boxes.specs.Walks.{InDomainRanges, demanded_all, target_of};
 
-use crate::between::{Spot, Wholes};
-use crate::boxes::{Boxes, Crossing};
-use crate::greedy::{Grouper, tile_count};
+use crate::between::{NumberedTile, WholeBoxes};
+use crate::boxes::{BoxesByTile, SeparableBoxes};
+use crate::greedy::{Grouper, count_stage_tiles};
 use domains::{Area, Span};
 use job::Job;
 use std::alloc::{AllocError, Global};
-use tile_boxes::{MOST_SCRATCH, TargetWalk, areas_of_tiles, no_hulls};
+use tile_boxes::{BoxWalk, MOST_SCRATCH, list_tile_areas, new_empty_boxes};
 
 /// A function that may be inlined, and its readers, from the last in dependence order to the first. `group` is the stored stage
 /// in whose tiles all of these are computed.
 #[derive(Drop)]
-pub(crate) struct Candidate {
+pub(crate) struct InlineCandidate {
     pub(crate) number: usize,
     pub(crate) readers: Vec<usize>,
     pub(crate) group: usize,
@@ -34,15 +34,15 @@ pub(crate) struct Candidate {
 /// The boxes of a function in the tiles of its group, how many points they have together, and how many each tile then has in
 /// scratch memory.
 #[derive(Drop)]
-pub(crate) struct Trial {
-    pub(crate) boxes: Boxes,
+pub(crate) struct InlineTrial {
+    pub(crate) boxes: BoxesByTile,
     pub(crate) added: u64,
     pub(crate) scratch: Vec<u64>,
 }
 
-impl Trial {
+impl InlineTrial {
     /// Whether each tile fits in scratch memory.
-    pub(crate) fn fits(&self) -> bool
+    pub(crate) fn can_fit_scratch(&self) -> bool
         ensures { result ≡ list_all (λ n. nat_le n most_scratch) self.now.scratch.items }
     {
         self.scratch.iter().all(|points| *points <= MOST_SCRATCH)
@@ -51,14 +51,14 @@ impl Trial {
 
 /// How many points the boxes in the tiles so far have together, and how many each of these tiles then has in scratch memory.
 #[derive(Drop)]
-struct Taken {
+struct PointTally {
     added: u64,
     scratch: Vec<u64>,
 }
 
-impl Taken {
+impl PointTally {
     // Adds a tile whose box has `points` points, and which had `before` points in scratch memory.
-    fn add(&mut self, points: u64, before: u64) -> Result<(), AllocError>
+    fn add_tile(&mut self, points: u64, before: u64) -> Result<(), AllocError>
         requires added { self.old.added + points < 2 ^ 64 }
         requires scratch { before + points < 2 ^ 64 }
         ensures added { OnOk result (self.new.added ≡ self.old.added + points) }
@@ -73,20 +73,20 @@ impl Taken {
 
 /// The same of the tiles so far, with the box in each.
 #[derive(Drop)]
-struct Tried {
+struct BoxTally {
     boxes: Vec<Option<Area>>,
     added: u64,
     scratch: Vec<u64>,
 }
 
-impl Tried {
+impl BoxTally {
     // No tiles so far, with capacity for `count` tiles.
-    fn none(alloc: Global, count: usize) -> Result<Tried, AllocError>
+    fn new(alloc: Global, count: usize) -> Result<BoxTally, AllocError>
         ensures boxes { IfOk result (λ t. t.boxes.items ≡ []) }
         ensures added { IfOk result (λ t. t.added ≡ 0) }
         ensures scratch { IfOk result (λ t. t.scratch.items ≡ []) }
     {
-        Ok(Tried {
+        Ok(BoxTally {
             boxes: Vec::with_capacity(alloc, count)?,
             added: 0,
             scratch: Vec::with_capacity(alloc, count)?,
@@ -94,15 +94,15 @@ impl Tried {
     }
 
     // Adds a tile with this box, which had `before` points in scratch memory.
-    fn add(&mut self, area: Option<Area>, before: u64) -> Result<(), AllocError>
-        requires added { self.old.added + points_of_box area < 2 ^ 64 }
-        requires scratch { before + points_of_box area < 2 ^ 64 }
+    fn add_tile_box(&mut self, area: Option<Area>, before: u64) -> Result<(), AllocError>
+        requires added { self.old.added + count_box_points area < 2 ^ 64 }
+        requires scratch { before + count_box_points area < 2 ^ 64 }
         ensures boxes { OnOk result (self.new.boxes.items ≡ self.old.boxes.items ++ area ∷ []) }
-        ensures added { OnOk result (self.new.added ≡ self.old.added + points_of_box area) }
+        ensures added { OnOk result (self.new.added ≡ self.old.added + count_box_points area) }
         ensures scratch { OnOk result (self.new.scratch.items
-            ≡ self.old.scratch.items ++ (before + points_of_box area) ∷ []) }
+            ≡ self.old.scratch.items ++ (before + count_box_points area) ∷ []) }
     {
-        let points = points_of_box(&area);
+        let points = count_box_points(&area);
         self.boxes.push(area)?;
         self.added += points;
         self.scratch.push(before + points)?;
@@ -110,8 +110,8 @@ impl Tried {
     }
 }
 
-fn points_of_box(area: &Option<Area>) -> u64
-    ensures { result ≡ points_of_box area.now }
+fn count_box_points(area: &Option<Area>) -> u64
+    ensures { result ≡ count_box_points area.now }
 {
     match area {
         Some(area) => area.points(),
@@ -121,12 +121,12 @@ fn points_of_box(area: &Option<Area>) -> u64
 
 impl Grouper {
     /// What inlining a function would take.
-    pub(crate) fn trial(
+    pub(crate) fn try_candidate(
         &self,
         alloc: Global,
         job: &Job,
-        candidate: &Candidate,
-    ) -> Result<Trial, AllocError>
+        candidate: &InlineCandidate,
+    ) -> Result<InlineTrial, AllocError>
         requires stand { AllStand (pipeline_in job.now) (grouping_of self.now)
             self.now.standings.items }
         requires candidate { IsCandidate (pipeline_in job.now) (grouping_of self.now)
@@ -134,24 +134,24 @@ impl Grouper {
         ensures { IfOk result (IsTrialOf (pipeline_in job.now) self.now.inlining
             candidate.now.group candidate.now.number) }
     {
-        let mut hulls = no_hulls(alloc, job)?;
-        match self.boxes_across(alloc, job, candidate, &mut hulls)? {
-            Some(spans) => self.trial_of(alloc, job, candidate, spans),
+        let mut hulls = new_empty_boxes(alloc, job)?;
+        match self.find_separable_boxes(alloc, job, candidate, &mut hulls)? {
+            Some(spans) => self.try_separable_boxes(alloc, job, candidate, spans),
             None => {
-                let tiles = tiles_of(alloc, job, candidate.group)?;
-                self.trial_over(alloc, job, candidate, &tiles, &mut hulls)
+                let tiles = list_stage_tile_areas(alloc, job, candidate.group)?;
+                self.try_each_tile(alloc, job, candidate, &tiles, &mut hulls)
             }
         }
     }
 
     // The boxes of the function, if those in the first row and the first column of tiles determine all.
-    fn boxes_across(
+    fn find_separable_boxes(
         &self,
         alloc: Global,
         job: &Job,
-        candidate: &Candidate,
+        candidate: &InlineCandidate,
         hulls: &mut [Option<Area>],
-    ) -> Result<Option<Crossing>, AllocError>
+    ) -> Result<Option<SeparableBoxes>, AllocError>
         requires stand { AllStand (pipeline_in job.now) (grouping_of self.now)
             self.now.standings.items }
         requires candidate { IsCandidate (pipeline_in job.now) (grouping_of self.now)
@@ -162,19 +162,19 @@ impl Grouper {
         ensures room { length hulls.new ≡ length hulls.old }
     {
         match job.grid(candidate.group) {
-            Some(grid) => self.crossed_boxes(alloc, job, candidate, &grid, hulls),
+            Some(grid) => self.find_separable_boxes_in_grid(alloc, job, candidate, &grid, hulls),
             None => Ok(None),
         }
     }
 
     // What inlining the function would take with these boxes.
-    fn trial_of(
+    fn try_separable_boxes(
         &self,
         alloc: Global,
         job: &Job,
-        candidate: &Candidate,
-        spans: Crossing,
-    ) -> Result<Trial, AllocError>
+        candidate: &InlineCandidate,
+        spans: SeparableBoxes,
+    ) -> Result<InlineTrial, AllocError>
         requires stand { AllStand (pipeline_in job.now) (grouping_of self.now)
             self.now.standings.items }
         requires candidate { IsCandidate (pipeline_in job.now) (grouping_of self.now)
@@ -184,23 +184,23 @@ impl Grouper {
         ensures { IfOk result (IsTrialOf (pipeline_in job.now) self.now.inlining
             candidate.now.group candidate.now.number) }
     {
-        let taken = self.taken(alloc, job, candidate, &spans.rows, &spans.cols)?;
-        Ok(Trial {
-            boxes: Boxes::Crossed(spans),
+        let taken = self.tally_separable_boxes(alloc, job, candidate, &spans.rows, &spans.cols)?;
+        Ok(InlineTrial {
+            boxes: BoxesByTile::Crossed(spans),
             added: taken.added,
             scratch: taken.scratch,
         })
     }
 
     // What all tiles take where the function has these rows and columns in them.
-    fn taken(
+    fn tally_separable_boxes(
         &self,
         alloc: Global,
         job: &Job,
-        candidate: &Candidate,
+        candidate: &InlineCandidate,
         rows: &[Span],
         cols: &[Span],
-    ) -> Result<Taken, AllocError>
+    ) -> Result<PointTally, AllocError>
         requires stand { AllStand (pipeline_in job.now) (grouping_of self.now)
             self.now.standings.items }
         requires candidate { IsCandidate (pipeline_in job.now) (grouping_of self.now)
@@ -210,22 +210,22 @@ impl Grouper {
         ensures { IfOk result (AreTaken (pipeline_in job.now) self.now.inlining candidate.now.group
             candidate.now.number (length rows.now * length cols.now)) }
     {
-        let mut taken = Taken {
+        let mut taken = PointTally {
             added: 0,
-            scratch: Vec::with_capacity(alloc, tile_count(job, candidate.group))?,
+            scratch: Vec::with_capacity(alloc, count_stage_tiles(job, candidate.group))?,
         };
         for (row, span) in rows.iter().enumerate() {
-            self.take_row(job, candidate, &mut taken, span, cols, row * cols.len())?;
+            self.tally_box_row(job, candidate, &mut taken, span, cols, row * cols.len())?;
         }
         Ok(taken)
     }
 
     // Adds a row of tiles, from this number on.
-    fn take_row(
+    fn tally_box_row(
         &self,
         job: &Job,
-        candidate: &Candidate,
-        taken: &mut Taken,
+        candidate: &InlineCandidate,
+        taken: &mut PointTally,
         rows: &Span,
         cols: &[Span],
         first: usize,
@@ -246,23 +246,23 @@ impl Grouper {
                 rows: *rows,
                 cols: *span,
             };
-            taken.add(
+            taken.add_tile(
                 area.points(),
-                self.kept_scratch(candidate.group, first + col),
+                self.find_kept_scratch(candidate.group, first + col),
             )?;
         }
         Ok(())
     }
 
     // The same over the tiles of its group. `hulls` is a working buffer.
-    fn trial_over(
+    fn try_each_tile(
         &self,
         alloc: Global,
         job: &Job,
-        candidate: &Candidate,
+        candidate: &InlineCandidate,
         tiles: &[Area],
         hulls: &mut [Option<Area>],
-    ) -> Result<Trial, AllocError>
+    ) -> Result<InlineTrial, AllocError>
         requires stand { AllStand (pipeline_in job.now) (grouping_of self.now)
             self.now.standings.items }
         requires candidate { IsCandidate (pipeline_in job.now) (grouping_of self.now)
@@ -272,28 +272,28 @@ impl Grouper {
         ensures { IfOk result (IsTrialOf (pipeline_in job.now) self.now.inlining
             candidate.now.group candidate.now.number) }
     {
-        let mut trial = Tried::none(alloc, tiles.len())?;
-        let mut wholes = Wholes::none(alloc, job, candidate.group, tiles.len())?;
+        let mut trial = BoxTally::new(alloc, tiles.len())?;
+        let mut wholes = WholeBoxes::new(alloc, job, candidate.group, tiles.len())?;
         for (place, tile) in tiles.iter().enumerate() {
-            let spot = Spot { place, tile: *tile };
-            let area = self.next_box(job, candidate, tiles, &mut wholes, &spot, hulls)?;
-            trial.add(area, self.kept_scratch(candidate.group, place))?;
+            let spot = NumberedTile { place, tile: *tile };
+            let area = self.find_next_tile_box(job, candidate, tiles, &mut wholes, &spot, hulls)?;
+            trial.add_tile_box(area, self.find_kept_scratch(candidate.group, place))?;
         }
-        Ok(Trial {
-            boxes: Boxes::Each(trial.boxes),
+        Ok(InlineTrial {
+            boxes: BoxesByTile::Each(trial.boxes),
             added: trial.added,
             scratch: trial.scratch,
         })
     }
 
     // The box of the function in the next tile.
-    fn next_box(
+    fn find_next_tile_box(
         &self,
         job: &Job,
-        candidate: &Candidate,
+        candidate: &InlineCandidate,
         tiles: &[Area],
-        wholes: &mut Wholes,
-        spot: &Spot,
+        wholes: &mut WholeBoxes,
+        spot: &NumberedTile,
         hulls: &mut [Option<Area>],
     ) -> Result<Option<Area>, AllocError>
         requires stand { AllStand (pipeline_in job.now) (grouping_of self.now)
@@ -301,7 +301,7 @@ impl Grouper {
         requires candidate { IsCandidate (pipeline_in job.now) (grouping_of self.now)
             candidate.now }
         requires tiles { tiles.now ≡ areas_at (pipeline_in job.now) candidate.now.group }
-        requires spot { IsSpot (pipeline_in job.now) candidate.now.group spot.now }
+        requires spot { IsNumberedTile (pipeline_in job.now) candidate.now.group spot.now }
         requires next { length wholes.old.boxes.items ≡ spot.now.place }
         requires wholes { AreWhole (pipeline_in job.now) self.now candidate.now
             wholes.old.boxes.items }
@@ -314,52 +314,52 @@ impl Grouper {
         ensures wholes { OnOk result (AreWhole (pipeline_in job.now) self.now candidate.now
             wholes.new.boxes.items) }
     {
-        let between = self.box_between(job, candidate, tiles, wholes, spot);
+        let between = self.derive_inner_box(job, candidate, tiles, wholes, spot);
         if between.is_some() {
-            wholes.add(None)?;
+            wholes.push_box(None)?;
             return Ok(between);
         }
-        let area = self.box_in(job, candidate, spot, hulls);
-        let whole = self.if_whole(job, candidate, spot, &area);
-        wholes.add(whole)?;
+        let area = self.find_box_in_tile(job, candidate, spot, hulls);
+        let whole = self.keep_box_if_readers_whole(job, candidate, spot, &area);
+        wholes.push_box(whole)?;
         Ok(area)
     }
 
     /// The box of the function in a tile of its group.
-    pub(crate) fn box_in(
+    pub(crate) fn find_box_in_tile(
         &self,
         job: &Job,
-        candidate: &Candidate,
-        spot: &Spot,
+        candidate: &InlineCandidate,
+        spot: &NumberedTile,
         hulls: &mut [Option<Area>],
     ) -> Option<Area>
         requires stand { AllStand (pipeline_in job.now) (grouping_of self.now)
             self.now.standings.items }
         requires candidate { IsCandidate (pipeline_in job.now) (grouping_of self.now)
             candidate.now }
-        requires spot { IsSpot (pipeline_in job.now) candidate.now.group spot.now }
+        requires spot { IsNumberedTile (pipeline_in job.now) candidate.now.group spot.now }
         requires hulls { length hulls.old ≡ length (pipeline_in job.now).stages }
         ensures is { result
             ≡ box (target_over (pipeline_in job.now) self.now.inlining candidate.now.group spot.now.tile)
             candidate.now.number }
         ensures room { length hulls.new ≡ length hulls.old }
     {
-        let walk = TargetWalk {
+        let walk = BoxWalk {
             job,
             schedule: &self.inlining,
             stage: candidate.group,
             region: spot.tile,
         };
-        forget(hulls, candidate.number);
-        self.demand_all(hulls, &walk, &candidate.readers, spot.place);
-        walk.box_of(hulls, candidate.number)
+        clear_bounding_box(hulls, candidate.number);
+        self.demand_reads_of_readers(hulls, &walk, &candidate.readers, spot.place);
+        walk.find_stage_box(hulls, candidate.number)
     }
 
     // What these stages demand in a tile of their group.
-    fn demand_all(
+    fn demand_reads_of_readers(
         &self,
         hulls: &mut [Option<Area>],
-        walk: &TargetWalk<'_>,
+        walk: &BoxWalk<'_>,
         readers: &[usize],
         place: usize,
     )
@@ -371,12 +371,16 @@ impl Grouper {
             (flat_map (demands_by (target_of walk.now) (box (target_of walk.now))) readers.now) }
     {
         for reader in readers {
-            walk.demand(hulls, *reader, self.region_in(walk, *reader, place));
+            walk.demand_stage_reads(
+                hulls,
+                *reader,
+                self.find_region_in_tile(walk, *reader, place),
+            );
         }
     }
 
     // The region of a stage in a tile of its group.
-    fn region_in(&self, walk: &TargetWalk<'_>, reader: usize, place: usize) -> Option<Area>
+    fn find_region_in_tile(&self, walk: &BoxWalk<'_>, reader: usize, place: usize) -> Option<Area>
         requires walk { IsOverTile self.now place walk.now }
         requires there { reader < length (pipeline_in walk.now.job.now).stages }
         requires group { group (grouping_of self.now) reader ≡ walk.now.stage }
@@ -386,30 +390,30 @@ impl Grouper {
         if reader == walk.stage {
             Some(walk.region)
         } else {
-            self.kept_box(reader, place)
+            self.find_kept_box(reader, place)
         }
     }
 
     // The box of a function that was inlined, in a tile of its group.
-    pub(crate) fn kept_box(&self, number: usize, place: usize) -> Option<Area>
-        ensures { result ≡ kept_box (slice_get self.now.standings.items number) place }
+    pub(crate) fn find_kept_box(&self, number: usize, place: usize) -> Option<Area>
+        ensures { result ≡ find_kept_box (slice_get self.now.standings.items number) place }
     {
-        self.standings.get(number)?.box_at(place)
+        self.standings.get(number)?.get_tile_box(place)
     }
 
     // What a tile of a stored stage has in scratch memory.
-    fn kept_scratch(&self, group: usize, place: usize) -> u64
-        ensures { result ≡ kept_scratch (slice_get self.now.standings.items group) place }
+    fn find_kept_scratch(&self, group: usize, place: usize) -> u64
+        ensures { result ≡ find_kept_scratch (slice_get self.now.standings.items group) place }
     {
         match self.standings.get(group) {
-            Some(standing) => standing.scratch_at(place),
+            Some(standing) => standing.get_tile_scratch(place),
             None => 0,
         }
     }
 }
 
 // Nothing is demanded of this stage yet.
-fn forget(hulls: &mut [Option<Area>], number: usize)
+fn clear_bounding_box(hulls: &mut [Option<Area>], number: usize)
     ensures { hulls.new ≡ slice_set hulls.old number None }
 {
     if number < hulls.len() {
@@ -418,11 +422,15 @@ fn forget(hulls: &mut [Option<Area>], number: usize)
 }
 
 /// The areas of the tiles of a stage; planes have none.
-pub(crate) fn tiles_of(alloc: Global, job: &Job, number: usize) -> Result<Vec<Area>, AllocError>
+pub(crate) fn list_stage_tile_areas(
+    alloc: Global,
+    job: &Job,
+    number: usize,
+) -> Result<Vec<Area>, AllocError>
     ensures { IfOk result (λ v. v.items ≡ areas_at (pipeline_in job.now) number) }
 {
     match job.grid(number) {
-        Some(grid) => areas_of_tiles(alloc, &grid),
+        Some(grid) => list_tile_areas(alloc, &grid),
         None => Ok(Vec::new(alloc)),
     }
 }

@@ -68,16 +68,16 @@ module _ (s : FactSet) (program : List ℕ) (job : Pipeline) where
 
     tile_held : (g : ℕ) (stage : Stage) (i j : ℕ) → slice_get job.stages g ≡ Some stage → IsFunction stage.body → is_result job g ≡ true
         → HasTile (grid_of job stage) i j → IsHeldTile g i j stage
-    tile_held g stage i j there is_function wanted tile =
+    tile_held g stage i j there is_function_stage wanted tile =
         let key = tile_key program job g i j in
-        let is = tile_ready g stage i j there (tiled stage.body is_function) wanted tile in
-        let fits = function_fits job key stage is.fact.body there is_function (fits_key s job key is) in
+        let is = tile_ready g stage i j there (tiled stage.body is_function_stage) wanted tile in
+        let fits = function_fits job key stage is.fact.body there is_function_stage (fits_key s job key is) in
         let shape = fits.2 in
         let same = same_Some shape.tile.stage stage (sym shape.tile.tile.there ∙ there) in
         record {
           numbers = fits.0;
           held =
-              held_is g i j (grid_of job stage) (grid_there job g stage there (tiled stage.body is_function))
+              held_is g i j (grid_of job stage) (grid_there job g stage there (tiled stage.body is_function_stage))
               ∙ ap (λ o. option_and_then (λ (f : Fact). samples_in f.body) o) (first_alone s key is.fact is.alone)
               ∙ fits.1;
           count =
@@ -86,13 +86,13 @@ module _ (s : FactSet) (program : List ℕ) (job : Pipeline) where
 
     stage_lent : (g : ℕ) (stage : Stage) → slice_get job.stages g ≡ Some stage → IsFunction stage.body → is_result job g ≡ true
         → IsLentStage job (held_tiles s program job) g
-    stage_lent g stage there is_function wanted = (
+    stage_lent g stage there is_function_stage wanted = (
       stage,
       record {
         there = there;
-        all = λ i j tile. (let held = tile_held g stage i j there is_function wanted tile in (held.numbers, held.held));
+        all = λ i j tile. (let held = tile_held g stage i j there is_function_stage wanted tile in (held.numbers, held.held));
         whole = λ i j xs tile given.
-            let held = tile_held g stage i j there is_function wanted tile in
+            let held = tile_held g stage i j there is_function_stage wanted tile in
             ap length (same_Some xs held.numbers (sym given ∙ held.held)) ∙ held.count;
       },
     )

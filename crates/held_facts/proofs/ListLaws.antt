@@ -10,7 +10,7 @@ use Rattle.fact_store.proofs.RemoveLaws.{holds-without}
 use Rattle.fact_store.proofs.SetLaws.{same_set}
 use Rattle.fact_store.proofs.Walks.{first_fact, next_fact}
 use Rattle.tile_fact.specs.declared.fact.Fact.{Fact}
-use Rattle.identity.specs.declared.job_ids.Ids.{Ids}
+use Rattle.identity.specs.declared.job_ids.JobId.{JobId}
 use Rattle.held_facts.specs.Facts.{FactSet, facts_in, holds, least, least_above, names_one, without}
 
 -- nothing is copied, and the first one is at hand
@@ -44,7 +44,7 @@ all_copied all out w e = w ∙ take_all (length out) all (none_left all (length 
 
 -- ---- facts that pass a test are counted
 -- no job names a key
-pub none_named : (s : FactSet) (jobs : List Ids) → true ≡ (length jobs == 0) → 0 ≡ length (filter (λ f. names_one jobs f.key) (facts_in s))
+pub none_named : (s : FactSet) (jobs : List JobId) → true ≡ (length jobs == 0) → 0 ≡ length (filter (λ f. names_one jobs f.key) (facts_in s))
 none_named s [] e = sym (none_pass (facts_in s))
   where
     none_pass : (xs : List Fact) → length (filter (λ f. names_one [] f.key) xs) ≡ 0
@@ -53,7 +53,7 @@ none_named s [] e = sym (none_pass (facts_in s))
 none_named s (j ∷ js) e = let none : suc (length js) ≡ 0 = eqb-true (suc (length js)) 0 (sym e) in absurd (omega (arith, none))
 
 -- and none is taken out
-pub none_removed : (s : FactSet) (jobs : List Ids) → true ≡ (length jobs == 0) → s ≡ without s jobs
+pub none_removed : (s : FactSet) (jobs : List JobId) → true ≡ (length jobs == 0) → s ≡ without s jobs
 none_removed s [] e = same_set s (without s []) (λ f. sym (holds-without s [] f ∙ and_true (holds s f)))
   where
     and_true : (a : Bool) → (a && true) ≡ a

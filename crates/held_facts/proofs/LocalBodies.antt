@@ -18,7 +18,7 @@ use Rattle.domains.specs.Tiles.{IsGrid, HasTile, tile_area, part_of, part_count}
 use Rattle.domains.specs.declared.area.Area.{Area}
 use Rattle.domains.specs.declared.grid.Grid.{Grid}
 use Rattle.tile_boxes.proofs.TilesAreTargets.{gridded, grid_fits}
-use Rattle.tile_boxes.specs.Schedules.{is_function, is_function_body}
+use Rattle.tile_boxes.specs.Schedules.{is_function_stage, is_function_body}
 use Rattle.tile_boxes.specs.Targets.{target_over}
 use Rattle.job.specs.Answers.{is_accumulator, grid_of, has_tiles}
 use Rattle.job.specs.Pipeline.{Body, plane, function, accumulator, Stage, Pipeline}
@@ -30,7 +30,7 @@ use Rattle.job.specs.declared.job.StageKind.TheVariants as kind
 use Rattle.netpbm.specs.Image.{Image}
 use Rattle.overlap_tiles.specs.Plans.{IsTileAt}
 use Rattle.tile_eval.proofs.Rasters.{raster_len}
-use Rattle.tile_eval.specs.Buffer.{IsTileOver, IsTrueTile}
+use Rattle.tile_eval.specs.Raster.{IsTileOver, IsTrueTile}
 use Rattle.tile_fact.specs.Bodies.{IsWithin}
 use Rattle.tile_fact.specs.declared.body.Body as facts
 use Rattle.tile_fact.specs.declared.body.Body.TheVariants.{Tile, Partial}
@@ -62,7 +62,7 @@ an_accumulator (Some s) e = by s.body e
     by (accumulator way bins value bin) e = refl
 
 module _ (job : Pipeline) (g : ℕ) where
-  pub function_kind : option_map kind_of (slice_get job.stages g) ≡ Some kind.Function → is_function job g ≡ true
+  pub function_kind : option_map kind_of (slice_get job.stages g) ≡ Some kind.Function → is_function_stage job g ≡ true
   function_kind e = a_function (slice_get job.stages g) e
 
   pub accumulator_kind : option_map kind_of (slice_get job.stages g) ≡ Some kind.Accumulator → is_accumulator_at job g ≡ true
@@ -92,7 +92,7 @@ module _ (job : Pipeline) (g : ℕ) where
 
     -- ---- true bodies
 
-    pub true_tile : is_function job g ≡ true → (xs : List ℤ) → AreValuesOn job g i j xs → IsTrueTile job g i j xs
+    pub true_tile : is_function_stage job g ≡ true → (xs : List ℤ) → AreValuesOn job g i j xs → IsTrueTile job g i j xs
     true_tile function' xs values =
         let own = gridded job g at.grid at.there in
         record {

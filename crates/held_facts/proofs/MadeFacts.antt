@@ -5,7 +5,7 @@ use Rattle.std.specs.Prelude.{Contains, slice_get}
 use Rattle.std.proofs.lemmas.Bool.{cases_lt, cases_eq}
 use Rattle.std.proofs.lemmas.Option.{same_Some, slice_get_within, get_or_from_slice_get, slice_get-get_or}
 use Rattle.catalog.specs.Entries.{Entry, IsCatalog, ids_in}
-use Rattle.identity.specs.declared.job_ids.Ids.{Ids}
+use Rattle.identity.specs.declared.job_ids.JobId.{JobId}
 use Rattle.fact_audit.specs.TrueFacts.{BodyIsTrue, IsTrueOf, HasJob, IsTrueFact}
 use Rattle.fact_audit.specs.Verdicts.{HasEntry}
 use Rattle.fact_store.proofs.KeyLaws.{in_facts_of}
@@ -67,7 +67,7 @@ module _ (catalog : List Entry) (s : FactSet) (inlining : List Bool) (key : Key)
     in_target P h = in_job (λ job. HasTarget job inlining key P) (record { area = is.area; tile = is.tile; holds = h })
 
     needs_are : p.needs ≡ needs_for key target
-    needs_are = is.plan.plan.needs ∙ ap (λ (ids : Ids). needed_keys ids.program target) found.2
+    needs_are = is.plan.plan.needs ∙ ap (λ (ids : JobId). needed_keys ids.program target) found.2
 
     -- a key before a need stands before it among the needs
     earlier : (place k : ℕ) (need other : Key) → slice_get p.needs place ≡ Some need → slice_get p.needs k ≡ Some other

@@ -13,8 +13,8 @@ use Rattle.domains.proofs.PairLists.{Contains-here, Contains-cases}
 use Rattle.fact_audit.specs.Shapes.{BodyFits, FitsJob}
 use Rattle.fact_store.proofs.KeyLaws.{in_facts_of}
 use Rattle.tile_boxes.proofs.Lists.{Contains-flat_map}
-use Rattle.tile_boxes.specs.Schedules.{is_function, is_function_body}
-use Rattle.tile_boxes.specs.Targets.{Target, is_boxed}
+use Rattle.tile_boxes.specs.Schedules.{is_function_stage, is_function_body}
+use Rattle.tile_boxes.specs.Targets.{Target, can_have_box}
 use Rattle.tile_boxes.specs.Schedules.{is_inlined}
 use Rattle.identity.specs.declared.key.Key.{Key}
 use Rattle.job.specs.Answers.{is_accumulator}
@@ -63,11 +63,11 @@ module _ (s : FactSet) (job : Pipeline) (keys : List Key) (ready : AreReady s jo
       (λ n. eq-eqb f.key.stage need.stage (ap (λ (k : Key). k.stage) e) n
       && (eq-eqb f.key.row need.row (ap (λ (k : Key). k.row) e) n && eq-eqb f.key.col need.col (ap (λ (k : Key). k.col) e) n))
 
-  no_partial : (g h : ℕ) (stage : Stage) → g ≡ h → slice_get job.stages g ≡ Some stage → is_function job h ≡ true
+  no_partial : (g h : ℕ) (stage : Stage) → g ≡ h → slice_get job.stages g ≡ Some stage → is_function_stage job h ≡ true
       → is_accumulator stage.body ≡ true → ⊥
   no_partial g h stage e there function' bins =
       apart stage.body
-      (sym (ap (λ (o : Option Stage). option_map_or (λ x. is_function_body x.body) o false) there) ∙ ap (is_function job) e ∙ function')
+      (sym (ap (λ (o : Option Stage). option_map_or (λ x. is_function_body x.body) o false) there) ∙ ap (is_function_stage job) e ∙ function')
       bins
     where
       apart : (b : Body) → is_function_body b ≡ true → is_accumulator b ≡ true → ⊥
@@ -75,7 +75,7 @@ module _ (s : FactSet) (job : Pipeline) (keys : List Key) (ready : AreReady s jo
       apart (function cases otherwise) f a = false≢true a
       apart (accumulator way bins value bin) f a = false≢true f
 
-  is_told : (need : Key) → is_function job need.stage ≡ true → (f : Fact) → f.key.stage ≡ need.stage → FitsJob f job
+  is_told : (need : Key) → is_function_stage job need.stage ≡ true → (f : Fact) → f.key.stage ≡ need.stage → FitsJob f job
       → is_none (samples_in f.body) ≡ false
   is_told need function' f stage fits = by f.body fits
     where
@@ -84,7 +84,7 @@ module _ (s : FactSet) (job : Pipeline) (keys : List Key) (ready : AreReady s jo
       by (Partial xs) h =
           absurd (no_partial f.key.stage need.stage h.has.tile.stage stage h.has.tile.tile.there function' h.has.tile.accumulator)
 
-  need_told : (need : Key) → Contains keys need → is_function job need.stage ≡ true → is_missing (needed_tiles s keys) need ≡ false
+  need_told : (need : Key) → Contains keys need → is_function_stage job need.stage ≡ true → is_missing (needed_tiles s keys) need ≡ false
   need_told need asked function' =
       let one = one_there s job need (ready need asked) in
       let there = Contains-flat_map (facts_of s) keys need one.0 asked one.1 in
@@ -92,20 +92,20 @@ module _ (s : FactSet) (job : Pipeline) (keys : List Key) (ready : AreReady s jo
       let first = first_of (flat_map (facts_of s) keys) need.stage need.row need.col one.0 there (of_itself need one.0 own) in
       ap is_none first.2 ∙ is_told need function' first.0 first.1.stage (all_fit first.0 first.1.there)
 
-  pub all_told : ((need : Key) → Contains keys need → is_function job need.stage ≡ true)
+  pub all_told : ((need : Key) → Contains keys need → is_function_stage job need.stage ≡ true)
       → first_missing (needed_tiles s keys) keys ≡ None
   all_told functions = none_of (is_missing (needed_tiles s keys)) keys (λ need asked. need_told need asked (functions need asked))
 
 -- ---- needs of a target
 
 pub needed_function : (program : List ℕ) (t : Target) → IsJob t.job → (need : Key) → Contains (needed_keys program t) need
-    → is_function t.job need.stage ≡ true
+    → is_function_stage t.job need.stage ≡ true
 needed_function program t good need asked =
     let at = Contains-from_map (key_of program t.job) (needs t) need asked in
     let needed = from_needs t at.0 good at.1 in
-    let boxed = and_parts (is_boxed t at.0.stage) (not (is_inlined t.inlining at.0.stage)) needed.stored in
-    let function' = and_parts (is_function t.job at.0.stage) (not (at.0.stage == t.stage)) boxed.0 in
-    subst (λ (k : Key). is_function t.job k.stage ≡ true) at.2 function'.0
+    let boxed = and_parts (can_have_box t at.0.stage) (not (is_inlined t.inlining at.0.stage)) needed.stored in
+    let function' = and_parts (is_function_stage t.job at.0.stage) (not (at.0.stage == t.stage)) boxed.0 in
+    subst (λ (k : Key). is_function_stage t.job k.stage ≡ true) at.2 function'.0
 
 -- ---- one need after another
 

@@ -14,7 +14,7 @@ use Rattle.fact_audit.specs.TrueFacts.{BodyIsTrue, IsTrueOf}
 use Rattle.job.specs.Answers.{grid_of}
 use Rattle.job.specs.Pipeline.{Pipeline}
 use Rattle.job.specs.Values.{value}
-use Rattle.tile_eval.specs.Buffer.{raster, IsTrueTile}
+use Rattle.tile_eval.specs.Raster.{raster, IsTrueTile}
 use Rattle.tile_fact.specs.declared.body.Body.{Body}
 use Rattle.tile_fact.specs.declared.body.Body.TheVariants.{Tile, Partial}
 use Rattle.tile_fact.specs.declared.fact.Fact.{Fact}

@@ -35,7 +35,7 @@ use Rattle.job.specs.Totals.{totals_over}
 use Rattle.job.specs.Values.{value}
 use Rattle.job.specs.WellFormed.{IsJob}
 use Rattle.overlap_tiles.specs.Work.{is_accumulator_at, wanted_keys}
-use Rattle.tile_eval.specs.Buffer.{raster}
+use Rattle.tile_eval.specs.Raster.{raster}
 use Rattle.tile_fact.proofs.OrderLaws.{fact_order}
 use Rattle.tile_fact.specs.declared.body.Body as fact_body
 use Rattle.tile_fact.specs.declared.body.Body.TheVariants.{Tile, Partial}

@@ -7,14 +7,14 @@ use Rattle.catalog.specs.Entries.{Entry, StandsAt, ids_in}
 use Rattle.domains.specs.declared.area.Area.{Area}
 use Rattle.fact_audit.specs.TrueFacts.{HasJob, IsTrueFact}
 use Rattle.tile_boxes.specs.Costs.{scratch, most_scratch}
-use Rattle.tile_boxes.specs.Schedules.{is_function}
+use Rattle.tile_boxes.specs.Schedules.{is_function_stage}
 use Rattle.tile_boxes.specs.Targets.{Target, target_over}
 use Rattle.identity.specs.declared.key.Key.{Key}
 use Rattle.job.specs.Identity.{HasTileAt}
 use Rattle.job.specs.Pipeline.{Pipeline}
 use Rattle.overlap_tiles.specs.Needs.{needed_keys, IsKeyBefore}
 use Rattle.overlap_tiles.specs.Plans.{IsTileAt}
-use Rattle.tile_eval.specs.Buffer.{raster}
+use Rattle.tile_eval.specs.Raster.{raster}
 use Rattle.tile_fact.specs.declared.body.Body.{Body}
 use Rattle.tile_fact.specs.declared.body.Body.TheVariants.{Tile, Partial}
 use Rattle.tile_fact.specs.declared.fact.Fact.{Fact}
@@ -64,7 +64,7 @@ needed_tiles s needs = tiles_in (flat_map (facts_of s) needs)
 -- stored functions take the supplied numbers, and reads of inlined functions their local values
 abbrev pub IsLocalBody : Target → KnownTiles → Body → Type 0
 IsLocalBody t given (Tile samples) =
-    (is_function t.job t.stage ≡ true) × (samples ≡ raster t.region (local_value t.job t.inlining given t.stage))
+    (is_function_stage t.job t.stage ≡ true) × (samples ≡ raster t.region (local_value t.job t.inlining given t.stage))
 IsLocalBody t given (Partial bins) =
     (is_accumulator_at t.job t.stage ≡ true) × (bins ≡ local_totals t.job t.inlining given t.region t.stage)
 

@@ -8,7 +8,7 @@ ghost use Rattle.std.specs.Prelude.{IfErr, IfOk};
 
 use crate::answer_fault::AnswerFault;
 use crate::facts::HeldFacts;
-use crate::held::HeldJob;
+use crate::held::HeldJobFacts;
 use accumulators::Answer;
 use fact_store::FactStore;
 use job::Job;
@@ -30,8 +30,8 @@ impl<S: FactStore> HeldFacts<S> {
         ensures fault { IfErr result
             (IsAnswerFault self.now (program_id_in job.now) (pipeline_in job.now)) }
     {
-        let held = HeldJob::new(self, job);
-        held.check_wanted_tiles()?;
+        let held = HeldJobFacts::new(self, job);
+        held.check_facts_of_wanted_tiles()?;
         let picture = assemble_image(self.alloc, job, &held)?;
         let totals = held.accumulate_totals(self.alloc)?;
         Ok(Answer { picture, totals })

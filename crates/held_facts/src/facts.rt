@@ -6,8 +6,8 @@ ghost use Rattle.std.specs.Option.{option_copied};
 ghost use Rattle.std.specs.Prelude.{◌≡◌, ◌<◌, ◌^◌, OnOk, OnErr, IfOk, IfErr, length, slice_get, filter, false};
 
 use crate::answers::{Known, Taken};
-use fact_store::{FactStore, TableFacts, has_job_of_key};
-use identity::{Ids, Key};
+use fact_store::{FactStore, TableFacts, is_fact_key_of_jobs};
+use identity::{JobId, Key};
 use std::alloc::{AllocError, AllocFailed, Global};
 use std::marker::Model;
 use tile_fact::Fact;
@@ -54,7 +54,7 @@ impl<S: FactStore> HeldFacts<S> {
 
     /// Adds a fact, and reports whether it was new. If memory runs out for a new fact, it is handed back and what is held is
     /// unchanged.
-    pub fn take(&mut self, fact: Fact) -> Result<Taken, AllocFailed<Fact>>
+    pub fn hold_fact(&mut self, fact: Fact) -> Result<Taken, AllocFailed<Fact>>
         ensures added { OnOk result (self.new ≡ with_fact self.old fact) }
         ensures new { IfOk result (λ taken. taken ≡ taken_of self.old fact) }
         ensures handed_back { IfErr result (λ back. back.value ≡ fact) }
@@ -79,7 +79,7 @@ impl<S: FactStore> HeldFacts<S> {
     }
 
     /// Removes the facts of the tiles of these jobs. No memory is taken.
-    pub fn remove_facts_of_jobs(&mut self, jobs: &[Ids])
+    pub fn remove_facts_of_jobs(&mut self, jobs: &[JobId])
         ensures { self.new ≡ without self.old jobs.now }
     {
         if !jobs.is_empty() {
@@ -88,7 +88,7 @@ impl<S: FactStore> HeldFacts<S> {
     }
 
     /// How many facts of the key are held: none, one or several. No memory is taken.
-    pub fn knows(&self, key: &Key) -> Known
+    pub fn classify_facts_of_key(&self, key: &Key) -> Known
         ensures { result ≡ known_of self.now key.now }
     {
         match self.store.count_facts_of_key(key) {
@@ -106,24 +106,24 @@ impl<S: FactStore> HeldFacts<S> {
     }
 
     /// The held fact of the key with exactly `n` held facts of the key below it.
-    pub fn find_nth_fact(&self, key: &Key, n: usize) -> Option<&Fact>
+    pub fn find_nth_fact_of_key(&self, key: &Key, n: usize) -> Option<&Fact>
         ensures { option_copied result ≡ slice_get (facts_of self.now key.now) n }
     {
-        self.store.find_nth_fact(key, n)
+        self.store.find_nth_fact_of_key(key, n)
     }
 
     /// The least fact that is held.
-    pub fn find_least_fact(&self) -> Option<&Fact>
+    pub fn find_least_fact_of_all_keys(&self) -> Option<&Fact>
         ensures { option_copied result ≡ least self.now }
     {
-        self.store.find_least_fact()
+        self.store.find_least_fact_of_all_keys()
     }
 
     /// The least held fact above a given one, which need not be held.
-    pub fn find_least_above(&self, fact: &Fact) -> Option<&Fact>
+    pub fn find_least_fact_above(&self, fact: &Fact) -> Option<&Fact>
         ensures { option_copied result ≡ least_above self.now fact.now }
     {
-        self.store.find_least_above(fact)
+        self.store.find_least_fact_above(fact)
     }
 
     /// All held facts, rising.
@@ -131,16 +131,16 @@ impl<S: FactStore> HeldFacts<S> {
         ensures { IfOk result (λ facts. facts.items ≡ facts_in self.now) }
     {
         let mut facts = Vec::new(self.alloc);
-        let mut next = self.find_least_fact();
+        let mut next = self.find_least_fact_of_all_keys();
         while let Some(fact) = next {
             facts.push(fact.clone()?)?;
-            next = self.find_least_above(fact);
+            next = self.find_least_fact_above(fact);
         }
         Ok(facts)
     }
 
     /// How many facts are of tiles of these jobs. If they are too many to be counted, this fails as if memory ran out.
-    pub fn count_facts_of_jobs(&self, jobs: &[Ids]) -> Result<usize, AllocError>
+    pub fn count_facts_of_jobs(&self, jobs: &[JobId]) -> Result<usize, AllocError>
         ensures { IfOk result
             (λ count. count ≡ length (filter (λ f. names_one jobs.now f.key) (facts_in self.now))) }
     {
@@ -149,11 +149,11 @@ impl<S: FactStore> HeldFacts<S> {
         }
         let mut passed: usize = 0;
         let mut count = 0;
-        let mut next = self.find_least_fact();
+        let mut next = self.find_least_fact_of_all_keys();
         while let Some(fact) = next {
             passed = passed.checked_add(1).ok_or(AllocError)?;
-            count += usize::from(has_job_of_key(jobs, fact.key()));
-            next = self.find_least_above(fact);
+            count += usize::from(is_fact_key_of_jobs(jobs, fact.key()));
+            next = self.find_least_fact_above(fact);
         }
         Ok(count)
     }

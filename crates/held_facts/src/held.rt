@@ -16,7 +16,7 @@ use tile_run::TileSource;
 
 /// What a node holds, together with a job, whose identities are found once.
 #[derive(Drop)]
-pub(crate) struct HeldJob<'a, S: FactStore> {
+pub(crate) struct HeldJobFacts<'a, S: FactStore> {
     pub(crate) state: &'a HeldFacts<S>,
     pub(crate) job: &'a Job,
     program: ProgramId,
@@ -25,12 +25,12 @@ pub(crate) struct HeldJob<'a, S: FactStore> {
     ghost input_is: { input ≡ input_id (pipeline_in job.now) },
 }
 
-impl<'a, S: FactStore> HeldJob<'a, S> {
-    pub(crate) fn new(state: &'a HeldFacts<S>, job: &'a Job) -> HeldJob<'a, S>
+impl<'a, S: FactStore> HeldJobFacts<'a, S> {
+    pub(crate) fn new(state: &'a HeldFacts<S>, job: &'a Job) -> HeldJobFacts<'a, S>
         ensures state { result.state.now ≡ state.now }
         ensures job { result.job.now ≡ job.now }
     {
-        HeldJob {
+        HeldJobFacts {
             state,
             job,
             program: job.program_id(),
@@ -39,9 +39,9 @@ impl<'a, S: FactStore> HeldJob<'a, S> {
     }
 }
 
-impl<S: FactStore> HeldJob<'_, S> {
+impl<S: FactStore> HeldJobFacts<'_, S> {
     /// The key of a tile.
-    pub(crate) fn build_key(&self, stage: usize, row: u32, col: u32) -> Key
+    pub(crate) fn build_held_tile_key(&self, stage: usize, row: u32, col: u32) -> Key
         requires { stage < 65536 }
         ensures { result ≡ tile_key (program_id_in self.now.job.now)
             (pipeline_in self.now.job.now) stage row col }
@@ -56,20 +56,20 @@ impl<S: FactStore> HeldJob<'_, S> {
     }
 }
 
-impl<S: FactStore> TileSource for HeldJob<'_, S> {
+impl<S: FactStore> TileSource for HeldJobFacts<'_, S> {
     ghost given = { λ held. held_tiles held.state.now (program_id_in held.job.now) (pipeline_in held.job.now) };
 
     fn borrow_tile(&self, stage: usize, row: u32, col: u32) -> Option<&[i32]> {
         self.job.grid(stage)?;
         let fact = self
             .state
-            .find_nth_fact(&self.build_key(stage, row, col), 0)?;
-        read_samples(fact)
+            .find_nth_fact_of_key(&self.build_held_tile_key(stage, row, col), 0)?;
+        borrow_held_fact_samples(fact)
     }
 }
 
 // The numbers of a tile.
-fn read_samples(fact: &Fact) -> Option<&[i32]>
+fn borrow_held_fact_samples(fact: &Fact) -> Option<&[i32]>
     ensures { option_map (λ samples. samples.now) result ≡ samples_in fact.now.body }
 {
     match fact.body() {

@@ -22,7 +22,7 @@ impl TileSource for HeldTiles {
     ghost given = { λ held. tiles_in held.facts.items };
 
     fn borrow_tile(&self, stage: usize, row: u32, col: u32) -> Option<&[i32]> {
-        let fact = find_tile_fact(&self.facts, stage, row, col)?;
+        let fact = find_held_tile_fact(&self.facts, stage, row, col)?;
         match fact.body() {
             Body::Tile(samples) => Some(samples.as_slice()),
             Body::Partial(_) => None,
@@ -31,27 +31,27 @@ impl TileSource for HeldTiles {
 }
 
 // The fact of this tile, if there is one.
-fn find_tile_fact(facts: &[Fact], stage: usize, row: u32, col: u32) -> Option<&Fact>
+fn find_held_tile_fact(facts: &[Fact], stage: usize, row: u32, col: u32) -> Option<&Fact>
     requires { TilesRise facts.now }
     ensures { option_copied result ≡ find (is_of_tile stage row col) facts.now }
 {
-    let place = facts.partition_point(|fact| is_before_tile(fact, stage, row, col));
-    let fact = get_fact(facts, place)?;
-    if is_of_tile(fact, stage, row, col) {
+    let place = facts.partition_point(|fact| is_held_fact_before_tile(fact, stage, row, col));
+    let fact = get_fact_at_index(facts, place)?;
+    if is_held_fact_of_tile(fact, stage, row, col) {
         Some(fact)
     } else {
         None
     }
 }
 
-fn get_fact(facts: &[Fact], n: usize) -> Option<&Fact>
+fn get_fact_at_index(facts: &[Fact], n: usize) -> Option<&Fact>
     ensures { option_copied result ≡ slice_get facts.now n }
 {
     facts.get(n)
 }
 
 // Whether the fact is of a tile before that of this stage in this row and this column.
-fn is_before_tile(fact: &Fact, stage: usize, row: u32, col: u32) -> bool
+fn is_held_fact_before_tile(fact: &Fact, stage: usize, row: u32, col: u32) -> bool
     ensures { result ≡ is_before_tile stage row col fact.now }
 {
     let key = fact.key();
@@ -60,7 +60,7 @@ fn is_before_tile(fact: &Fact, stage: usize, row: u32, col: u32) -> bool
 }
 
 // Whether the fact is of the tile of this stage in this row and this column.
-fn is_of_tile(fact: &Fact, stage: usize, row: u32, col: u32) -> bool
+fn is_held_fact_of_tile(fact: &Fact, stage: usize, row: u32, col: u32) -> bool
     ensures { result ≡ is_of_tile stage row col fact.now }
 {
     let key = fact.key();

@@ -10,14 +10,14 @@ ghost use Rattle.held_facts.specs.inside.Gathering.{CameIn, row_partials};
 ghost use Rattle.held_facts.specs.inside.Judging.{RowIsReady, StageIsReady};
 ghost use Rattle.std.specs.Prelude.{◌≡◌, ◌<◌, ◌++◌, ◌∷◌, [], Some, length, map, slice_get, IfNone, IfOk, IfSome, OnOk};
 
-use crate::held::HeldJob;
+use crate::held::HeldJobFacts;
 use accumulators::{RunningTotal, Total};
 use fact_store::FactStore;
 use identity::Key;
 use std::alloc::{AllocError, Global};
 use tile_fact::Body;
 
-impl<S: FactStore> HeldJob<'_, S> {
+impl<S: FactStore> HeldJobFacts<'_, S> {
     /// What the accumulators accumulate from the partials that are held, in the order of the stages.
     ///
     /// # Errors
@@ -54,14 +54,14 @@ impl<S: FactStore> HeldJob<'_, S> {
             (pipeline_in self.now.job.now) stage)) }
     {
         if let Some(mut gathering) = RunningTotal::from_job(alloc, self.job, stage)? {
-            self.accumulate_stage(stage, &mut gathering);
+            self.accumulate_stage_partials(stage, &mut gathering);
             totals.push(gathering.into_total())?;
         }
         Ok(())
     }
 
     // Accumulates the partials of all tiles of a stage.
-    fn accumulate_stage(&self, stage: usize, gathering: &mut RunningTotal)
+    fn accumulate_stage_partials(&self, stage: usize, gathering: &mut RunningTotal)
         requires span { stage_bins (slice_get (pipeline_in self.now.job.now).stages stage)
             ≡ Some gathering.old.span }
         requires ready { StageIsReady self.now.state.now (program_id_in self.now.job.now)
@@ -72,13 +72,19 @@ impl<S: FactStore> HeldJob<'_, S> {
     {
         if let Some(grid) = self.job.grid(stage) {
             for row in 0..grid.tile_rows() {
-                self.accumulate_row(stage, row, grid.tile_cols(), gathering);
+                self.accumulate_row_partials(stage, row, grid.tile_cols(), gathering);
             }
         }
     }
 
     // Those of the first tiles of a row.
-    fn accumulate_row(&self, stage: usize, row: u32, cols: u32, gathering: &mut RunningTotal)
+    fn accumulate_row_partials(
+        &self,
+        stage: usize,
+        row: u32,
+        cols: u32,
+        gathering: &mut RunningTotal,
+    )
         requires stage { stage < 65536 }
         requires span { stage_bins (slice_get (pipeline_in self.now.job.now).stages stage)
             ≡ Some gathering.old.span }
@@ -89,7 +95,7 @@ impl<S: FactStore> HeldJob<'_, S> {
             (pipeline_in self.now.job.now) stage cols row) gathering.old gathering.new }
     {
         for col in 0..cols {
-            if let Some(bins) = self.find_partial_bins(&self.build_key(stage, row, col)) {
+            if let Some(bins) = self.find_partial_bins(&self.build_held_tile_key(stage, row, col)) {
                 gathering.join_partial(bins);
             }
         }
@@ -105,7 +111,7 @@ impl<S: FactStore> HeldJob<'_, S> {
             → stage_bins (slice_get (pipeline_in self.now.job.now).stages key.now.stage) ≡ Some span
             → length bins.now ≡ len_of span) }
     {
-        match self.state.find_nth_fact(key, 0)?.body() {
+        match self.state.find_nth_fact_of_key(key, 0)?.body() {
             Body::Partial(bins) => Some(bins.as_slice()),
             Body::Tile(_) => None,
         }

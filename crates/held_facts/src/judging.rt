@@ -9,14 +9,14 @@ ghost use Rattle.std.specs.Prelude.{◌≡◌, ◌<◌, OnOk, IfErr};
 
 use crate::answer_fault::AnswerFault;
 use crate::answers::Known;
-use crate::held::HeldJob;
-use fact_audit::is_well_shaped;
+use crate::held::HeldJobFacts;
+use fact_audit::is_well_shaped_fact;
 use fact_store::FactStore;
 use identity::Key;
 
-impl<S: FactStore> HeldJob<'_, S> {
+impl<S: FactStore> HeldJobFacts<'_, S> {
     /// Whether each wanted key is ready; if not, the fault of the least that is not. No memory is taken.
-    pub(crate) fn check_wanted_tiles(&self) -> Result<(), AnswerFault>
+    pub(crate) fn check_facts_of_wanted_tiles(&self) -> Result<(), AnswerFault>
         ensures ready { OnOk result (AllAreReady self.now.state.now
             (program_id_in self.now.job.now) (pipeline_in self.now.job.now)) }
         ensures fault { IfErr result (IsAnswerFault self.now.state.now
@@ -24,14 +24,14 @@ impl<S: FactStore> HeldJob<'_, S> {
     {
         for stage in 0..self.job.stages().len() {
             if self.job.is_result(stage) {
-                self.check_stage_tiles(stage)?;
+                self.check_facts_of_stage_tiles(stage)?;
             }
         }
         Ok(())
     }
 
     // The tiles of a stage, if it has any.
-    fn check_stage_tiles(&self, stage: usize) -> Result<(), AnswerFault>
+    fn check_facts_of_stage_tiles(&self, stage: usize) -> Result<(), AnswerFault>
         ensures ready { OnOk result (StageIsReady self.now.state.now
             (program_id_in self.now.job.now) (pipeline_in self.now.job.now) stage) }
         ensures fault { IfErr result (λ fault. StageHasFault self.now.state.now
@@ -39,14 +39,14 @@ impl<S: FactStore> HeldJob<'_, S> {
     {
         if let Some(grid) = self.job.grid(stage) {
             for row in 0..grid.tile_rows() {
-                self.check_row_tiles(stage, row, grid.tile_cols())?;
+                self.check_facts_of_row_tiles(stage, row, grid.tile_cols())?;
             }
         }
         Ok(())
     }
 
     // The first tiles of a row.
-    fn check_row_tiles(&self, stage: usize, row: u32, cols: u32) -> Result<(), AnswerFault>
+    fn check_facts_of_row_tiles(&self, stage: usize, row: u32, cols: u32) -> Result<(), AnswerFault>
         requires { stage < 65536 }
         ensures ready { OnOk result (RowIsReady self.now.state.now
             (program_id_in self.now.job.now) (pipeline_in self.now.job.now) stage cols row) }
@@ -54,36 +54,36 @@ impl<S: FactStore> HeldJob<'_, S> {
             (program_id_in self.now.job.now) (pipeline_in self.now.job.now) stage cols fault row) }
     {
         for col in 0..cols {
-            self.check_tile(&self.build_key(stage, row, col))?;
+            self.check_fact_of_tile(&self.build_held_tile_key(stage, row, col))?;
         }
         Ok(())
     }
 
     // One tile.
-    fn check_tile(&self, key: &Key) -> Result<(), AnswerFault>
+    fn check_fact_of_tile(&self, key: &Key) -> Result<(), AnswerFault>
         ensures ready { OnOk result
             (IsReady self.now.state.now (pipeline_in self.now.job.now) key.now) }
         ensures fault { IfErr result
             (IsFaultAt self.now.state.now (pipeline_in self.now.job.now) key.now) }
     {
-        match self.state.knows(key) {
+        match self.state.classify_facts_of_key(key) {
             Known::Nothing => Err(AnswerFault::Missing(*key)),
-            Known::One => self.check_tile_shape(key),
+            Known::One => self.check_shape_of_held_fact(key),
             Known::Disputed => Err(AnswerFault::Disputed(*key)),
             Known::Retired => unreachable!(),
         }
     }
 
     // One tile of which one fact is held.
-    fn check_tile_shape(&self, key: &Key) -> Result<(), AnswerFault>
+    fn check_shape_of_held_fact(&self, key: &Key) -> Result<(), AnswerFault>
         requires { known_of self.now.state.now key.now ≡ One }
         ensures ready { OnOk result
             (IsReady self.now.state.now (pipeline_in self.now.job.now) key.now) }
         ensures fault { IfErr result
             (IsFaultAt self.now.state.now (pipeline_in self.now.job.now) key.now) }
     {
-        match self.state.find_nth_fact(key, 0) {
-            Some(fact) if is_well_shaped(self.job, fact) => Ok(()),
+        match self.state.find_nth_fact_of_key(key, 0) {
+            Some(fact) if is_well_shaped_fact(self.job, fact) => Ok(()),
             _ => Err(AnswerFault::Misshapen(*key)),
         }
     }

@@ -22,12 +22,12 @@ impl<S: FactStore> HeldFacts<S> {
         ensures held { IfOk result (λ _. AreHeld self.now keys.now) }
         ensures fault { IfErr result (IsLendFault self.now keys.now) }
     {
-        let state = self.lend_state(keys)?;
+        let state = self.lend_fact_set(keys)?;
         Ok(state.list_facts()?)
     }
 
     /// The state that holds exactly what [`lend`](HeldFacts::lend) answers.
-    pub fn lend_state(&self, keys: &[Key]) -> Result<HeldFacts<S>, LendFault>
+    pub fn lend_fact_set(&self, keys: &[Key]) -> Result<HeldFacts<S>, LendFault>
         ensures lent { IfOk result (λ state. state ≡ lent self.now keys.now) }
         ensures held { IfOk result (λ _. AreHeld self.now keys.now) }
         ensures fault { IfErr result (IsLendFault self.now keys.now) }
@@ -37,7 +37,7 @@ impl<S: FactStore> HeldFacts<S> {
         }
         let mut state = HeldFacts::new(self.alloc);
         for key in keys {
-            state.copy_facts_of_key(self, key)?;
+            state.add_facts_of_key_from_other(self, key)?;
         }
         Ok(state)
     }
@@ -49,7 +49,7 @@ impl<S: FactStore> HeldFacts<S> {
     {
         let mut least: Option<Key> = None;
         for key in keys {
-            if self.count_facts_of_key(key) == 0 && is_below_least(key, &least) {
+            if self.count_facts_of_key(key) == 0 && is_below_least_key_not_held(key, &least) {
                 least = Some(*key);
             }
         }
@@ -57,14 +57,18 @@ impl<S: FactStore> HeldFacts<S> {
     }
 
     // Adds the facts of a key that another state holds.
-    fn copy_facts_of_key(&mut self, other: &HeldFacts<S>, key: &Key) -> Result<(), AllocError>
+    fn add_facts_of_key_from_other(
+        &mut self,
+        other: &HeldFacts<S>,
+        key: &Key,
+    ) -> Result<(), AllocError>
         ensures { OnOk result ((f : Fact) →
             holds self.new f
             ≡ (holds self.old f || (holds other.now f && same_key key.now f.key))) }
     {
         for n in 0..other.count_facts_of_key(key) {
-            if let Some(fact) = other.find_nth_fact(key, n) {
-                self.take(fact.clone()?)?;
+            if let Some(fact) = other.find_nth_fact_of_key(key, n) {
+                self.hold_fact(fact.clone()?)?;
             }
         }
         Ok(())
@@ -72,7 +76,7 @@ impl<S: FactStore> HeldFacts<S> {
 }
 
 // Whether the key is below the one found before, if there is one.
-fn is_below_least(key: &Key, found: &Option<Key>) -> bool
+fn is_below_least_key_not_held(key: &Key, found: &Option<Key>) -> bool
     ensures { result ≡ is_first key.now found.now }
 {
     match found {

@@ -12,10 +12,10 @@ ghost use Rattle.held_facts.specs.Facts.{facts_of};
 use crate::answers::Known;
 use crate::facts::HeldFacts;
 use crate::held_tiles::HeldTiles;
-use crate::local_bodies::compute_local_body;
+use crate::local_bodies::compute_local_fact_body;
 use crate::make_fault::MakeFault;
 use catalog::Catalog;
-use fact_audit::{find_job_of_key, is_well_shaped};
+use fact_audit::{find_job_of_fact_key, is_well_shaped_fact};
 use fact_store::FactStore;
 use grouping::Schedule;
 use identity::Key;
@@ -41,13 +41,13 @@ impl<S: FactStore> HeldFacts<S> {
         ensures fault { IfErr result
             (IsMakeFault catalog.now self.now schedule.now.inlining key.now) }
     {
-        let Some(job) = find_job_of_key(catalog, key) else {
+        let Some(job) = find_job_of_fact_key(catalog, key) else {
             return Err(MakeFault::Foreign);
         };
         let stage = usize::from(key.stage);
         let plan = TilePlan::of(self.alloc, job, schedule, stage, key.row, key.col)?;
         let facts = self.find_needed_facts(job, plan.needs())?;
-        let body = compute_local_body(self.alloc, job, &plan, key, &HeldTiles { facts })?;
+        let body = compute_local_fact_body(self.alloc, job, &plan, key, &HeldTiles { facts })?;
         match Fact::new(*key, body) {
             Ok(fact) => Ok(fact),
             Err(_) => unreachable!(),
@@ -75,15 +75,15 @@ impl<S: FactStore> HeldFacts<S> {
         ensures fits { IfOk result (λ fact. FitsJob fact (pipeline_in job.now)) }
         ensures fault { IfErr result (IsNeedFault self.now (pipeline_in job.now) need.now) }
     {
-        match self.knows(need) {
+        match self.classify_facts_of_key(need) {
             Known::Nothing => Err(MakeFault::NeedMissing(*need)),
             Known::Disputed => Err(MakeFault::NeedDisputed(*need)),
             Known::Retired => unreachable!(),
             Known::One => {
-                let Some(fact) = self.find_nth_fact(need, 0) else {
+                let Some(fact) = self.find_nth_fact_of_key(need, 0) else {
                     unreachable!();
                 };
-                if !is_well_shaped(job, fact) {
+                if !is_well_shaped_fact(job, fact) {
                     return Err(MakeFault::NeedMisshapen(*need));
                 }
                 Ok(fact.clone()?)

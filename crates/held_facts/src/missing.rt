@@ -9,7 +9,7 @@ use crate::facts::HeldFacts;
 use fact_store::FactStore;
 use identity::Key;
 use job::Job;
-use overlap_tiles::wanted_keys;
+use overlap_tiles::list_wanted_keys;
 use std::alloc::AllocError;
 
 impl<S: FactStore> HeldFacts<S> {
@@ -19,12 +19,12 @@ impl<S: FactStore> HeldFacts<S> {
     /// # Errors
     ///
     /// Fails only where memory is refused.
-    pub fn missing(&self, job: &Job) -> Result<Vec<Key>, AllocError>
+    pub fn list_missing_keys(&self, job: &Job) -> Result<Vec<Key>, AllocError>
         ensures missing { IfOk result (λ keys. keys.items
             ≡ missing_keys self.now (program_id_in job.now) (pipeline_in job.now)) }
         ensures rising { IfOk result (λ keys. AllPairs IsKeyBefore keys.items) }
     {
-        let mut keys = wanted_keys(self.alloc, job)?;
+        let mut keys = list_wanted_keys(self.alloc, job)?;
         keys.retain(|key| self.count_facts_of_key(key) == 0);
         Ok(keys)
     }

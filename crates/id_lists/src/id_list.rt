@@ -7,15 +7,15 @@ ghost use Rattle.std.specs.List.{list_any};
 ghost use Rattle.std.specs.Ordering.{eq_by_cmp};
 ghost use Rattle.std.specs.Prelude.{◌≡◌, ◌<◌, ◌^◌, ◌++◌, IfOk, OnErr, OnOk, length};
 
-use distinct::sort_once;
-use identity::Ids;
+use distinct::sort_without_repeats;
+use identity::JobId;
 use std::alloc::{AllocError, Global};
 use std::marker::Model;
 
 /// Identities of jobs, each once, in a list that rises. Contracts see the set of them.
 #[derive(Drop)]
 pub struct IdList {
-    ids: Vec<Ids>,
+    ids: Vec<JobId>,
 }
 
 impl Model for IdList {
@@ -48,31 +48,31 @@ impl IdList {
         ensures { IfOk result (λ copy. copy ≡ self.now) }
     {
         let mut ids = Vec::with_capacity(alloc, self.ids.len())?;
-        push_ids_copies(&mut ids, &self.ids)?;
+        push_job_id_copies(&mut ids, &self.ids)?;
         Ok(IdList { ids })
     }
 
     /// The identities, rising.
-    pub fn as_slice(&self) -> &[Ids]
+    pub fn as_slice(&self) -> &[JobId]
         ensures { result.now ≡ ids_in_set self.now }
     {
         self.ids.as_slice()
     }
 
     /// Whether a job's identities are among these.
-    pub fn has_ids(&self, ids: &Ids) -> bool
+    pub fn has_job_id(&self, ids: &JobId) -> bool
         ensures { result ≡ has self.now ids.now }
     {
-        is_listed(&self.ids, ids)
+        has_listed_job_id(&self.ids, ids)
     }
 
     /// Adds a job's identities. If memory runs out, the list is unchanged.
-    pub fn add_ids(&mut self, ids: &Ids) -> Result<(), AllocError>
+    pub fn add_job_id(&mut self, ids: &JobId) -> Result<(), AllocError>
         ensures added { OnOk result (self.new ≡ with_ids self.old ids.now) }
         ensures unchanged { OnErr result (self.new ≡ self.old) }
     {
         self.ids.push(*ids)?;
-        sort_once(&mut self.ids);
+        sort_without_repeats(&mut self.ids);
         Ok(())
     }
 
@@ -81,20 +81,20 @@ impl IdList {
         ensures { IfOk result (λ both. both ≡ union self.now other.now) }
     {
         let mut ids = Vec::with_capacity(alloc, self.ids.len())?;
-        push_ids_copies(&mut ids, &self.ids)?;
-        push_ids_copies(&mut ids, &other.ids)?;
-        sort_once(&mut ids);
+        push_job_id_copies(&mut ids, &self.ids)?;
+        push_job_id_copies(&mut ids, &other.ids)?;
+        sort_without_repeats(&mut ids);
         Ok(IdList { ids })
     }
 
     /// How many identities of the other list are not in this one.
-    pub fn count_lacked_ids(&self, other: &IdList) -> usize
+    pub fn count_job_ids_only_in_other(&self, other: &IdList) -> usize
         ensures count { result ≡ length (ids_lacked self.now other.now) }
         ensures few { result < 2 ^ 63 }
     {
         let mut count = 0;
         for ids in &other.ids {
-            if !is_listed(&self.ids, ids) {
+            if !has_listed_job_id(&self.ids, ids) {
                 count += 1;
             }
         }
@@ -103,14 +103,14 @@ impl IdList {
 }
 
 // Whether the identities are in the list.
-fn is_listed(list: &[Ids], ids: &Ids) -> bool
+fn has_listed_job_id(list: &[JobId], ids: &JobId) -> bool
     ensures { result ≡ list_any (eq_by_cmp ids_cmp ids.now) list.now }
 {
     list.iter().any(|other| ids.cmp(other).is_eq())
 }
 
 // Adds copies of the identities.
-fn push_ids_copies(copies: &mut Vec<Ids>, ids: &[Ids]) -> Result<(), AllocError>
+fn push_job_id_copies(copies: &mut Vec<JobId>, ids: &[JobId]) -> Result<(), AllocError>
     ensures { OnOk result (copies.new.items ≡ copies.old.items ++ ids.now) }
 {
     for one in ids {

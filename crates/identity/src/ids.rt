@@ -44,7 +44,7 @@ impl fmt::Display for ProgramId {
     ghost output = { λ id. Some (hex_text id) };
 
     fn fmt<W: fmt::Write>(&self, f: &mut fmt::Formatter<W>) -> fmt::Result {
-        write_hex(&self.bytes, f)
+        write_hex_digest(&self.bytes, f)
     }
 }
 
@@ -85,11 +85,11 @@ impl fmt::Display for InputId {
     ghost output = { λ id. Some (hex_text id) };
 
     fn fmt<W: fmt::Write>(&self, f: &mut fmt::Formatter<W>) -> fmt::Result {
-        write_hex(&self.bytes, f)
+        write_hex_digest(&self.bytes, f)
     }
 }
 
-fn hex_digit(value: u8) -> char
+fn encode_hex_digit(value: u8) -> char
     requires { value < 16 }
     ensures { result ≡ hex_digit value }
 {
@@ -100,19 +100,19 @@ fn hex_digit(value: u8) -> char
     }
 }
 
-fn write_byte<W: fmt::Write>(byte: u8, f: &mut fmt::Formatter<W>) -> fmt::Result
+fn write_hex_byte<W: fmt::Write>(byte: u8, f: &mut fmt::Formatter<W>) -> fmt::Result
     ensures { WritesOnOk W.write_str_gives f.old result (hex_byte byte) f.new }
 {
-    f.write_char(hex_digit(byte / 16))?;
-    f.write_char(hex_digit(byte % 16))
+    f.write_char(encode_hex_digit(byte / 16))?;
+    f.write_char(encode_hex_digit(byte % 16))
 }
 
 // Two hexadecimal digits for each byte.
-fn write_hex<W: fmt::Write>(bytes: &[u8; 32], f: &mut fmt::Formatter<W>) -> fmt::Result
+fn write_hex_digest<W: fmt::Write>(bytes: &[u8; 32], f: &mut fmt::Formatter<W>) -> fmt::Result
     ensures { WritesOnOk W.write_str_gives f.old result (hex_text bytes.now) f.new }
 {
     for byte in bytes {
-        write_byte(*byte, f)?;
+        write_hex_byte(*byte, f)?;
     }
     Ok(())
 }

@@ -9,17 +9,17 @@ use crate::key::Key;
 
 /// The identities of a program and of its input: those of a job. They are in the order of their fields.
 #[derive(Clone, Copy, Debug, PartialEq, Eq, PartialOrd, Ord, Hash)]
-pub struct Ids {
+pub struct JobId {
     pub program: ProgramId,
     pub input: InputId,
 }
 
-impl Ids {
+impl JobId {
     /// The identities of the job whose tile the key names.
-    pub fn of_key(key: &Key) -> Ids
+    pub fn from_key(key: &Key) -> JobId
         ensures { result ≡ ids_in key.now }
     {
-        Ids {
+        JobId {
             program: key.program,
             input: key.input,
         }

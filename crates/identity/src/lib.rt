@@ -7,5 +7,5 @@ mod key;
 pub mod laws;
 
 pub use ids::{InputId, ProgramId};
-pub use job_ids::Ids;
+pub use job_ids::JobId;
 pub use key::Key;

@@ -218,9 +218,9 @@ one_picture p q i j e =
     let h = subst (λ (bytes : List ℕ). IsPicture bytes q) (sym e) (spelling_is q j) in
     same_value p q (sym (picture_complete (spelling p) p (spelling_is p i)) ∙ picture_complete (spelling p) q h)
 
-pub one_input : (a b : Pipeline) → IsJob a → IsJob b → IsSmall a → IsSmall b → input_bytes a ≡ input_bytes b
+pub equal_bytes_mean_equal_inputs : (a b : Pipeline) → IsJob a → IsJob b → IsSmall a → IsSmall b → input_bytes a ≡ input_bytes b
     → (a.sides ≡ b.sides) × (a.params ≡ b.params) × (a.picture ≡ b.picture) × (a.tables ≡ b.tables)
-one_input a b p q few less h =
+equal_bytes_mean_equal_inputs a b p q few less h =
     let count =
     number_16 (length a.params) (length b.params) (omega (arith, few.few_params)) (omega (arith, less.few_params))
     (same_part a b (λ l. take 2 (drop 12 l)) _ _ (count_in a a.tables (spelling a.picture)) (count_in b b.tables (spelling b.picture)) h) in

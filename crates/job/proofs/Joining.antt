@@ -4,8 +4,8 @@ use Rattle.std.specs.Prelude.{fold}
 use Rattle.std.specs.Int.{int_wrap, int_min, int_max}
 use Rattle.std.proofs.lemmas.Int.{ints, clamps, int_wrap-add_left, int_wrap-add_right, fold-int_min_bounds, fold-int_max_bounds}
 use Rattle.std.proofs.lemmas.List.Sums.{fold-append}
-use Rattle.operators.specs.declared.operator.Fold.{Fold}
-use Rattle.operators.specs.declared.operator.Fold.TheVariants.{Sum, Min, Max}
+use Rattle.operators.specs.declared.operator.ReductionOp.{ReductionOp}
+use Rattle.operators.specs.declared.operator.ReductionOp.TheVariants.{Sum, Min, Max}
 use Rattle.job.specs.Totals.{start_of, total_of, joined}
 
 plus_assoc : (a b x : ℤ) → a +ℤ b +ℤ x ≡ a +ℤ (b +ℤ x)
@@ -56,7 +56,7 @@ greatest_join s vs ws =
     ∙ ap (λ (z : ℤ). fold int_max z ws) (max_same (fold int_max s vs) s (fold-int_max_bounds s vs (fold int_max s vs) refl).0)
     ∙ fold-max (fold int_max s vs) s ws
 
-pub total_of-append : (way : Fold) (vs ws : List ℤ) → total_of way (vs ++ ws) ≡ joined way (total_of way vs) (total_of way ws)
+pub total_of-append : (way : ReductionOp) (vs ws : List ℤ) → total_of way (vs ++ ws) ≡ joined way (total_of way vs) (total_of way ws)
 total_of-append Sum vs ws =
     ap (int_wrap w64) (sums_join vs ws)
     ∙ sym (int_wrap-add_left w64 (fold ◌+ℤ◌ (pos 0) vs) (fold ◌+ℤ◌ (pos 0) ws))

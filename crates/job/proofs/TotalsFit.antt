@@ -10,8 +10,8 @@ use Rattle.std.proofs.lemmas.List.Elements.{All-nil, All-cons, All-head, All-tai
 use Rattle.domains.specs.Span.{numbers_of}
 use Rattle.domains.specs.Area.{HoldsPoint, IsArea, IsSubarea, points_of}
 use Rattle.domains.specs.declared.area.Area.{Area}
-use Rattle.operators.specs.declared.operator.Fold.{Fold}
-use Rattle.operators.specs.declared.operator.Fold.TheVariants.{Sum, Min, Max}
+use Rattle.operators.specs.declared.operator.ReductionOp.{ReductionOp}
+use Rattle.operators.specs.declared.operator.ReductionOp.TheVariants.{Sum, Min, Max}
 use Rattle.job.specs.Formula.{Formula}
 use Rattle.job.specs.Pipeline.{Body, plane, function, accumulator, Stage, Pipeline}
 use Rattle.job.specs.Values.{formula_value, kernel_row, kernel_column, value}
@@ -30,12 +30,12 @@ one_of : (P : ℤ → Type 0) (vs : List ℤ) (start r : ℤ) → P start → Al
 one_of P vs start r first each (inl is) = subst P (sym is) first
 one_of P vs start r first each (inr there) = All-contains P vs r each there
 
-start_fits : (way : Fold) → FitsSigned w64 (start_of way)
+start_fits : (way : ReductionOp) → FitsSigned w64 (start_of way)
 start_fits Sum = omega arith
 start_fits Min = omega arith
 start_fits Max = omega arith
 
-pub total_fits : (way : Fold) (vs : List ℤ) → All (FitsSigned w64) vs → FitsSigned w64 (total_of way vs)
+pub total_fits : (way : ReductionOp) (vs : List ℤ) → All (FitsSigned w64) vs → FitsSigned w64 (total_of way vs)
 total_fits Sum vs each = SFits-int_wrap w64 _
 total_fits Min vs each =
     one_of (FitsSigned w64) vs (start_of Min) (fold int_min (start_of Min) vs) (start_fits Min) each

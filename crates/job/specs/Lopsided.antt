@@ -7,7 +7,7 @@ use Rattle.operators.specs.declared.operator.UnaryOp.TheVariants.{Neg}
 use Rattle.operators.specs.declared.operator.BinaryOp.TheVariants.{Add, Mul}
 use Rattle.operators.specs.declared.operator.LiteralOp.TheVariants.{Shl}
 use Rattle.operators.specs.declared.operator.Relation.TheVariants.{AtMost, AtLeast}
-use Rattle.operators.specs.declared.operator.Fold.TheVariants.{Max}
+use Rattle.operators.specs.declared.operator.ReductionOp.TheVariants.{Max}
 use Rattle.job.specs.Formula.{row, column, number, coordinate, read, unary, binary, literal, stencil, Test, compare, remainder}
 use Rattle.job.specs.Pipeline.{function, accumulator, Stage, Pipeline}
 use Rattle.job.specs.Worked.{ends, area, sides, same, plane_stage, everywhere, job_of}

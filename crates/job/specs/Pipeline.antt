@@ -6,7 +6,7 @@ use Rattle.domains.specs.Span.{Ends}
 use Rattle.domains.specs.Sides.{Sides}
 use Rattle.domains.specs.declared.area.Area.{Area}
 use Rattle.netpbm.specs.Image.{Image}
-use Rattle.operators.specs.declared.operator.Fold.{Fold}
+use Rattle.operators.specs.declared.operator.ReductionOp.{ReductionOp}
 use Rattle.tables.specs.declared.table.Table.{Table}
 use Rattle.job.specs.Formula.{Formula, Test}
 
@@ -21,7 +21,7 @@ pub record JobCase : Type 0 where
 pub data Body : Type 0 where
   plane : ℕ → Body
   function : List JobCase → Option Formula → Body
-  accumulator : Fold → Ends → Formula → Formula → Body
+  accumulator : ReductionOp → Ends → Formula → Formula → Body
 
 -- the domain of an accumulator is the area that it reduces
 pub record Stage : Type 0 where

@@ -2,7 +2,7 @@
 use Rattle.std.specs.Prelude.{ℕ, if◌then◌else◌, Option, Some, None, List, slice_get}
 use Rattle.domains.specs.Span.{Ends}
 use Rattle.domains.specs.declared.grid.Grid.{Grid}
-use Rattle.operators.specs.declared.operator.Fold.{Fold}
+use Rattle.operators.specs.declared.operator.ReductionOp.{ReductionOp}
 use Rattle.job.specs.declared.job.StageKind.{StageKind}
 use Rattle.job.specs.declared.job.StageKind.TheVariants.{Plane, Function, Accumulator}
 use Rattle.job.specs.Pipeline.{JobCase, Body, plane, function, accumulator, Stage, Pipeline}
@@ -17,7 +17,7 @@ abbrev pub kind_of : Stage → StageKind
 kind_of s = body_kind s.body
 
 -- how an accumulator joins, and which bins
-abbrev pub fold_of : Body → Option Fold
+abbrev pub fold_of : Body → Option ReductionOp
 fold_of (plane n) = None
 fold_of (function cases otherwise) = None
 fold_of (accumulator fold bins value bin) = Some fold
@@ -41,7 +41,7 @@ stage_grid job (Some s) = if has_tiles s.body then Some (grid_of job s) else Non
 abbrev pub grid_at : Pipeline → ℕ → Option Grid
 grid_at job n = stage_grid job (slice_get job.stages n)
 
-abbrev pub stage_fold : Option Stage → Option Fold
+abbrev pub stage_fold : Option Stage → Option ReductionOp
 stage_fold None = None
 stage_fold (Some s) = fold_of s.body
 

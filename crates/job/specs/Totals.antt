@@ -7,26 +7,26 @@ use Rattle.domains.specs.Arithmetic.{wrapped_long}
 use Rattle.domains.specs.Span.{numbers_of}
 use Rattle.domains.specs.Area.{points_of}
 use Rattle.domains.specs.declared.area.Area.{Area}
-use Rattle.operators.specs.declared.operator.Fold.{Fold}
-use Rattle.operators.specs.declared.operator.Fold.TheVariants.{Sum, Min, Max}
+use Rattle.operators.specs.declared.operator.ReductionOp.{ReductionOp}
+use Rattle.operators.specs.declared.operator.ReductionOp.TheVariants.{Sum, Min, Max}
 use Rattle.job.specs.Formula.{Formula}
 use Rattle.job.specs.Pipeline.{Body, plane, function, accumulator, Pipeline}
 use Rattle.job.specs.Values.{Valuation, formula_value, value}
 
 -- the start of a bin, which it keeps if no point has this bin
-abbrev pub start_of : Fold → ℤ
+abbrev pub start_of : ReductionOp → ℤ
 start_of Sum = pos 0
 start_of Min = pos 9223372036854775807
 start_of Max = negsuc 9223372036854775807
 
 -- the sum of numbers wrapped at 64 bits, or the least or the greatest of them and of the start
-abbrev pub total_of : Fold → List ℤ → ℤ
+abbrev pub total_of : ReductionOp → List ℤ → ℤ
 total_of Sum vs = wrapped_long (fold ◌+ℤ◌ (start_of Sum) vs)
 total_of Min vs = fold int_min (start_of Min) vs
 total_of Max vs = fold int_max (start_of Max) vs
 
 -- the total of two lists, one after the other, by the totals of each
-abbrev pub joined : Fold → ℤ → ℤ → ℤ
+abbrev pub joined : ReductionOp → ℤ → ℤ → ℤ
 joined Sum a b = wrapped_long (a +ℤ b)
 joined Min a b = int_min a b
 joined Max a b = int_max a b

@@ -9,7 +9,7 @@ use Rattle.operators.specs.declared.operator.UnaryOp.TheVariants.{Neg, Abs}
 use Rattle.operators.specs.declared.operator.BinaryOp.TheVariants.{Add}
 use Rattle.operators.specs.declared.operator.LiteralOp.TheVariants.{Div, Rem}
 use Rattle.operators.specs.declared.operator.Relation.TheVariants.{Equals}
-use Rattle.operators.specs.declared.operator.Fold.TheVariants.{Sum, Min}
+use Rattle.operators.specs.declared.operator.ReductionOp.TheVariants.{Sum, Min}
 use Rattle.tables.specs.declared.table.Table.{Table}
 use Rattle.job.specs.Formula.{row, column, Formula, number, read, unary, binary, literal, lookup, stencil, compare}
 use Rattle.job.specs.Answers.{Tile}

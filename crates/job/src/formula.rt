@@ -3,7 +3,7 @@
 
 use domains::Index;
 use operators::{Axis, BinaryOp, Kernel, LiteralOp, Relation, TernaryOp, UnaryOp};
-use tables::Entries;
+use tables::TableEntries;
 
 /// A number at each point. A stage is named by its number.
 #[derive(Debug, Drop)]
@@ -18,7 +18,7 @@ pub enum Formula {
     /// An operation whose right operand is a number of the text.
     Literal(LiteralOp, Box<Formula>, u32),
     /// The entry of a table at an index.
-    Lookup(Entries, Box<Formula>),
+    Lookup(TableEntries, Box<Formula>),
     /// Two numbers that are compared, and what is taken where the relation holds and where it does not.
     Select(Box<Formula>, Relation, Box<Formula>, Box<Formula>, Box<Formula>),
     /// A stage, what the sum is divided by, and the factors.

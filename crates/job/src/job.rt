@@ -18,7 +18,7 @@ use crate::{hashing, sameness};
 use domains::{Area, Grid, Span, TileSides};
 use identity::{InputId, Key, ProgramId};
 use netpbm::Picture;
-use operators::Fold;
+use operators::ReductionOp;
 use pipe_tokens::Name;
 use std::alloc::{AllocError, Global};
 use tables::Table;
@@ -55,7 +55,7 @@ impl Job {
         ensures text { program_text_in result ≡ text.items }
         ensures program { program_id_in result ≡ sha256 text.items }
     {
-        let program = hashing::program_id(&text);
+        let program = hashing::hash_program_text(&text);
         Job {
             parts,
             text,
@@ -70,14 +70,14 @@ impl Job {
     /// # Errors
     ///
     /// Returns the job unchanged if a stage would have more tiles.
-    pub fn with_tiles(self, sides: TileSides) -> Result<Job, Job>
+    pub fn with_tile_sides(self, sides: TileSides) -> Result<Job, Job>
         ensures few { IsOk result ↔ All (HasFewTiles sides) (pipeline_in self).stages }
         ensures pipeline { IfOk result (λ job. pipeline_in job ≡ with_sides sides (pipeline_in self)) }
         ensures text { IfOk result (λ job. program_text_in job ≡ program_text_in self) }
         ensures program { IfOk result (λ job. program_id_in job ≡ program_id_in self) }
         ensures unchanged { IfErr result (λ job. job ≡ self) }
     {
-        if !have_few_tiles(&self.parts.stages, sides) {
+        if !has_few_tiles_in_all_stages(&self.parts.stages, sides) {
             return Err(self);
         }
         let Job {
@@ -183,7 +183,7 @@ impl Job {
     }
 
     /// How the accumulator of this number joins the numbers of a bin.
-    pub fn op(&self, number: usize) -> Option<Fold>
+    pub fn op(&self, number: usize) -> Option<ReductionOp>
         ensures { result ≡ stage_fold (slice_get (pipeline_in self.now).stages number) }
     {
         self.stage(number)?.op()
@@ -223,12 +223,12 @@ impl Job {
     {
         match self.input {
             Some(id) => id,
-            None => hashing::input_id(&self.parts),
+            None => hashing::hash_job_input(&self.parts),
         }
     }
 
     /// Hashes the program's input, and keeps this identity: from then on `input_id` and `key` hash nothing.
-    pub fn keep_input_id(&mut self)
+    pub fn cache_input_id(&mut self)
         ensures pipeline { pipeline_in self.new ≡ pipeline_in self.old }
         ensures text { program_text_in self.new ≡ program_text_in self.old }
         ensures program { program_id_in self.new ≡ program_id_in self.old }
@@ -244,12 +244,12 @@ impl Job {
     pub fn input_bytes(&self, alloc: Global) -> Result<Vec<u8>, AllocError>
         ensures { IfOk result (λ bytes. bytes.items ≡ input_bytes (pipeline_in self.now)) }
     {
-        hashing::input_bytes(alloc, &self.parts)
+        hashing::encode_input_bytes(alloc, &self.parts)
     }
 
     /// Whether the same bytes are hashed of both jobs: the canonical texts of their programs, and their `input_bytes`. If so, all
     /// identities are equal. No picture is copied, and no memory is taken.
-    pub fn hashes_the_same(&self, other: &Job) -> bool
+    pub fn has_same_program_and_input(&self, other: &Job) -> bool
         ensures { IsTrue result
             ↔ (program_text_in self.now ≡ program_text_in other.now)
             × (input_bytes (pipeline_in self.now) ≡ input_bytes (pipeline_in other.now)) }
@@ -257,7 +257,7 @@ impl Job {
         if self.text.as_slice() != other.text.as_slice() {
             return false;
         }
-        sameness::same_input(&self.parts, &other.parts)
+        sameness::has_same_input_bytes(&self.parts, &other.parts)
     }
 
     /// The key of the tile in this row and column of the stage's grid; none if there is no such tile. It has the identity of the
@@ -288,7 +288,7 @@ impl Job {
 }
 
 // Whether each stage that has tiles has at most 65,536 of these sides.
-fn have_few_tiles(stages: &[Stage], sides: TileSides) -> bool
+fn has_few_tiles_in_all_stages(stages: &[Stage], sides: TileSides) -> bool
     ensures { IsTrue result ↔ All (λ stage. HasFewTiles sides (stage_view stage)) stages.now }
 {
     stages.iter().all(|stage| stage.has_few_tiles(sides))

@@ -7,7 +7,7 @@ ghost use Rattle.domains.specs.Area.{HoldsPoint, IsArea, IsSubarea};
 ghost use Rattle.domains.specs.declared.area.Area.{Area};
 ghost use Rattle.domains.specs.Sides.{Sides};
 ghost use Rattle.netpbm.specs.Image.{Image};
-ghost use Rattle.operators.specs.declared.operator.Fold.{Fold};
+ghost use Rattle.operators.specs.declared.operator.ReductionOp.{ReductionOp};
 ghost use Rattle.job.specs.Formula.{Formula, Test};
 ghost use Rattle.job.specs.Answers.{image};
 ghost use Rattle.job.specs.TileSides.{with_sides};
@@ -78,7 +78,7 @@ pub fn what_is_read_decides()
 
 /// The total of two lists of values, one after the other, is that of their totals.
 pub fn totals_join()
-    ensures { (way : Fold) (vs ws : List ℤ)
+    ensures { (way : ReductionOp) (vs ws : List ℤ)
         → total_of way (vs ++ ws) ≡ joined way (total_of way vs) (total_of way ws) }
 {}
 
@@ -92,7 +92,7 @@ pub fn boxes_are_cut_by_bounds()
 
 /// Inputs with equal bytes are the same: they have the same sides of tiles, parameters, picture and tables. There are few
 /// parameters, as in a text.
-pub fn one_input()
+pub fn equal_bytes_mean_equal_inputs()
     ensures { (a b : Pipeline) → IsJob a → IsJob b → IsSmall a → IsSmall b
         → input_bytes a ≡ input_bytes b
         → (a.sides ≡ b.sides) × (a.params ≡ b.params) × (a.picture ≡ b.picture)

@@ -36,7 +36,7 @@ impl Output {
     }
 
     /// The number of the first function.
-    pub fn first(&self) -> usize
+    pub fn first_stage(&self) -> usize
         ensures { result ≡ slice_index (output_view self.now).stages 0 }
     {
         match self.stages() {

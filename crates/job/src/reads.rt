@@ -5,13 +5,13 @@ ghost use Rattle.std.specs.Prelude.{◌≡◌, ◌++◌, [], ◌∷◌, OnOk, If
 ghost use Rattle.std.specs.List.{flat_map};
 ghost use Rattle.std.specs.Option.{option_map};
 ghost use Rattle.job.specs.Views.{formula_view, stage_view};
-ghost use Rattle.job.specs.Reads.{reads_in, reads_of, other_formula};
+ghost use Rattle.job.specs.Reads.{reads_in, reads_of, stage_read, other_formula};
 ghost use Rattle.job.specs.ReadViews.{read_view};
 
 use crate::formula::Formula;
 use crate::stage::{Body, JobCase, Stage};
 use domains::Index;
-use operators::{Kernel, copied_kernel};
+use operators::{Kernel, copy_kernel};
 use std::alloc::{AllocError, Global};
 
 /// A read of a stage, which is named by its number.
@@ -23,8 +23,19 @@ pub enum Read {
     Window(usize, Kernel),
 }
 
+impl Read {
+    /// The stage that is read.
+    pub fn stage(&self) -> usize
+        ensures { result ≡ stage_read (read_view self.now) }
+    {
+        match self {
+            Read::Point(stage, _, _) | Read::Window(stage, _) => *stage,
+        }
+    }
+}
+
 // Appends the reads of a formula to those that were found.
-fn add_reads(found: &mut Vec<Read>, formula: &Formula) -> Result<(), AllocError>
+fn push_formula_reads(found: &mut Vec<Read>, formula: &Formula) -> Result<(), AllocError>
     ensures { OnOk result (map read_view found.new.items
         ≡ map read_view found.old.items ++ reads_in (formula_view formula.now)) }
 {
@@ -36,62 +47,65 @@ fn add_reads(found: &mut Vec<Read>, formula: &Formula) -> Result<(), AllocError>
         }
         Formula::Unary(_, operand)
         | Formula::Literal(_, operand, _)
-        | Formula::Lookup(_, operand) => add_reads(found, operand),
+        | Formula::Lookup(_, operand) => push_formula_reads(found, operand),
         Formula::Binary(_, left, right) => {
-            add_reads(found, left)?;
-            add_reads(found, right)
+            push_formula_reads(found, left)?;
+            push_formula_reads(found, right)
         }
         Formula::Ternary(_, first, second, third) => {
-            add_reads(found, first)?;
-            add_reads(found, second)?;
-            add_reads(found, third)
+            push_formula_reads(found, first)?;
+            push_formula_reads(found, second)?;
+            push_formula_reads(found, third)
         }
         Formula::Select(left, _, right, then, otherwise) => {
-            add_reads(found, left)?;
-            add_reads(found, right)?;
-            add_reads(found, then)?;
-            add_reads(found, otherwise)
+            push_formula_reads(found, left)?;
+            push_formula_reads(found, right)?;
+            push_formula_reads(found, then)?;
+            push_formula_reads(found, otherwise)
         }
         Formula::Stencil(stage, _, kernel) => {
-            found.push(Read::Window(*stage, copied_kernel(kernel)?))?;
+            found.push(Read::Window(*stage, copy_kernel(kernel)?))?;
             Ok(())
         }
     }
 }
 
-fn add_cases(found: &mut Vec<Read>, cases: &[JobCase]) -> Result<(), AllocError>
+fn push_case_reads(found: &mut Vec<Read>, cases: &[JobCase]) -> Result<(), AllocError>
     ensures { OnOk result (map read_view found.new.items
         ≡ map read_view found.old.items
         ++ flat_map reads_in (map (λ p. formula_view p.formula) cases.now)) }
 {
     for case in cases {
-        add_reads(found, case.formula())?;
+        push_formula_reads(found, case.formula())?;
     }
     Ok(())
 }
 
-fn add_other(found: &mut Vec<Read>, other: &Option<Formula>) -> Result<(), AllocError>
+fn push_otherwise_reads(found: &mut Vec<Read>, other: &Option<Formula>) -> Result<(), AllocError>
     ensures { OnOk result (map read_view found.new.items
         ≡ map read_view found.old.items
         ++ flat_map reads_in (other_formula (option_map formula_view other.now))) }
 {
     match other {
-        Some(formula) => add_reads(found, formula),
+        Some(formula) => push_formula_reads(found, formula),
         None => Ok(()),
     }
 }
 
 /// What a formula reads, in the order of the text.
-pub(crate) fn reads_in(alloc: Global, formula: &Formula) -> Result<Vec<Read>, AllocError>
+pub(crate) fn collect_formula_reads(
+    alloc: Global,
+    formula: &Formula,
+) -> Result<Vec<Read>, AllocError>
     ensures { IfOk result (λ v. map read_view v.items ≡ reads_in (formula_view formula.now)) }
 {
     let mut found = Vec::new(alloc);
-    add_reads(&mut found, formula)?;
+    push_formula_reads(&mut found, formula)?;
     Ok(found)
 }
 
 /// What a formula reads, if there is one.
-pub(crate) fn reads_elsewhere(
+pub(crate) fn collect_otherwise_reads(
     alloc: Global,
     otherwise: &Option<Formula>,
 ) -> Result<Vec<Read>, AllocError>
@@ -99,12 +113,12 @@ pub(crate) fn reads_elsewhere(
         ≡ flat_map reads_in (other_formula (option_map formula_view otherwise.now))) }
 {
     let mut found = Vec::new(alloc);
-    add_other(&mut found, otherwise)?;
+    push_otherwise_reads(&mut found, otherwise)?;
     Ok(found)
 }
 
 /// What cases read, and then what the formula outside the cases reads.
-pub(crate) fn reads_of_function(
+pub(crate) fn collect_function_reads(
     alloc: Global,
     cases: &[JobCase],
     otherwise: &Option<Formula>,
@@ -114,13 +128,13 @@ pub(crate) fn reads_of_function(
         ++ other_formula (option_map formula_view otherwise.now))) }
 {
     let mut found = Vec::new(alloc);
-    add_cases(&mut found, cases)?;
-    add_other(&mut found, otherwise)?;
+    push_case_reads(&mut found, cases)?;
+    push_otherwise_reads(&mut found, otherwise)?;
     Ok(found)
 }
 
 /// What two formulas read, first the one and then the other.
-pub(crate) fn reads_of_both(
+pub(crate) fn collect_reads_of_two_formulas(
     alloc: Global,
     first: &Formula,
     second: &Formula,
@@ -129,8 +143,8 @@ pub(crate) fn reads_of_both(
         ≡ flat_map reads_in (formula_view first.now ∷ formula_view second.now ∷ [])) }
 {
     let mut found = Vec::new(alloc);
-    add_reads(&mut found, first)?;
-    add_reads(&mut found, second)?;
+    push_formula_reads(&mut found, first)?;
+    push_formula_reads(&mut found, second)?;
     Ok(found)
 }
 

@@ -14,7 +14,7 @@ impl Job {
         ensures { result ≡ is_output (pipeline_in self.now) number }
     {
         match self.output() {
-            Some(output) => is_among(output.stages(), number),
+            Some(output) => has_stage_number(output.stages(), number),
             None => false,
         }
     }
@@ -37,7 +37,7 @@ impl Job {
     }
 }
 
-fn is_among(numbers: &[usize], number: usize) -> bool
+fn has_stage_number(numbers: &[usize], number: usize) -> bool
     ensures { result ≡ list_any (λ n. n == number) numbers.now }
 {
     numbers.iter().any(|other| *other == number)

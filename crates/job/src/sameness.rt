@@ -13,39 +13,39 @@ ghost use Rattle.job.specs.WellFormed.{IsJob, IsTable};
 use crate::bound_pipeline::BoundPipeline;
 use crate::outputs::Parameter;
 use domains::TileSides;
-use netpbm::{Picture, Samples};
+use netpbm::{Picture, PlaneSamples};
 use tables::Table;
 
 /// Whether the bytes whose digests are the identities of the inputs are the same. The pictures are compared and not copied; no
 /// memory is taken.
-pub(crate) fn same_input(a: &BoundPipeline, b: &BoundPipeline) -> bool
+pub(crate) fn has_same_input_bytes(a: &BoundPipeline, b: &BoundPipeline) -> bool
     requires first { IsJob (pipeline_of a.now) }
     requires second { IsJob (pipeline_of b.now) }
     ensures { IsTrue result ↔ input_bytes (pipeline_of a.now) ≡ input_bytes (pipeline_of b.now) }
 {
-    if !same_sides(&a.sides, &b.sides) {
+    if !has_same_tile_sides(&a.sides, &b.sides) {
         return false;
     }
     if a.tables.is_empty() != b.tables.is_empty() {
         return false;
     }
-    if !same_parameters(&a.params, &b.params) {
+    if !has_same_input_parameters(&a.params, &b.params) {
         return false;
     }
-    if !same_tables(&a.tables, &b.tables) {
+    if !has_same_input_tables(&a.tables, &b.tables) {
         return false;
     }
-    same_picture(&a.picture, &b.picture)
+    is_same_input_picture(&a.picture, &b.picture)
 }
 
-fn same_sides(a: &TileSides, b: &TileSides) -> bool
+fn has_same_tile_sides(a: &TileSides, b: &TileSides) -> bool
     ensures { IsTrue result ↔ a.now ≡ b.now }
 {
     a == b
 }
 
 // Whether the parameters are the same. They are if their bytes are equal, whatever pictures follow them.
-fn same_parameters(a: &[Parameter], b: &[Parameter]) -> bool
+fn has_same_input_parameters(a: &[Parameter], b: &[Parameter]) -> bool
     requires first { All (λ p. FitsSigned w32 p.value) (map parameter_view a.now) }
     requires second { All (λ p. FitsSigned w32 p.value) (map parameter_view b.now) }
     ensures same { IsTrue result → map parameter_view a.now ≡ map parameter_view b.now }
@@ -56,7 +56,7 @@ fn same_parameters(a: &[Parameter], b: &[Parameter]) -> bool
     match (a.split_first(), b.split_first()) {
         (None, None) => true,
         (Some((first, rest)), Some((other, others))) => {
-            same_parameter(first, other) && same_parameters(rest, others)
+            is_same_input_parameter(first, other) && has_same_input_parameters(rest, others)
         }
         (Some((first, _)), None) | (None, Some((first, _))) => {
             // The length of a name is no byte with which tables or a picture begin: 0, or the letter `P`.
@@ -67,7 +67,7 @@ fn same_parameters(a: &[Parameter], b: &[Parameter]) -> bool
     }
 }
 
-fn same_parameter(a: &Parameter, b: &Parameter) -> bool
+fn is_same_input_parameter(a: &Parameter, b: &Parameter) -> bool
     requires first { FitsSigned w32 a.now.value }
     requires second { FitsSigned w32 b.now.value }
     ensures { IsTrue result ↔ parameter_view a.now ≡ parameter_view b.now }
@@ -76,7 +76,7 @@ fn same_parameter(a: &Parameter, b: &Parameter) -> bool
 }
 
 // Whether the tables are the same. They are if their bytes are equal, whatever pictures follow them.
-fn same_tables(a: &[Table], b: &[Table]) -> bool
+fn has_same_input_tables(a: &[Table], b: &[Table]) -> bool
     requires first { All IsTable a.now }
     requires second { All IsTable b.now }
     ensures same { IsTrue result → a.now ≡ b.now }
@@ -86,7 +86,7 @@ fn same_tables(a: &[Table], b: &[Table]) -> bool
     match (a.split_first(), b.split_first()) {
         (None, None) => true,
         (Some((first, rest)), Some((other, others))) => {
-            same_table(first, other) && same_tables(rest, others)
+            is_same_input_table(first, other) && has_same_input_tables(rest, others)
         }
         (Some((first, _)), None) | (None, Some((first, _))) => {
             let name = first.name.as_bytes();
@@ -96,34 +96,37 @@ fn same_tables(a: &[Table], b: &[Table]) -> bool
     }
 }
 
-fn same_table(a: &Table, b: &Table) -> bool
+fn is_same_input_table(a: &Table, b: &Table) -> bool
     ensures { IsTrue result ↔ a.now ≡ b.now }
 {
     a.name.as_bytes() == b.name.as_bytes()
         && a.lo == b.lo
-        && same_entries(a.values.as_slice(), b.values.as_slice())
+        && has_same_table_entries(a.values.as_slice(), b.values.as_slice())
 }
 
-fn same_entries(a: &[i32], b: &[i32]) -> bool
+fn has_same_table_entries(a: &[i32], b: &[i32]) -> bool
     ensures { IsTrue result ↔ a.now ≡ b.now }
 {
     a == b
 }
 
-fn same_picture(a: &Picture, b: &Picture) -> bool
+fn is_same_input_picture(a: &Picture, b: &Picture) -> bool
     ensures { IsTrue result ↔ a.now ≡ b.now }
 {
-    a.rows() == b.rows() && a.cols() == b.cols() && a.max() == b.max() && same_planes(a, b)
+    a.rows() == b.rows()
+        && a.cols() == b.cols()
+        && a.max() == b.max()
+        && has_same_picture_planes(a, b)
 }
 
-fn same_planes(a: &Picture, b: &Picture) -> bool
+fn has_same_picture_planes(a: &Picture, b: &Picture) -> bool
     ensures { IsTrue result ↔ a.now.planes ≡ b.now.planes }
 {
     if a.plane_count() != b.plane_count() {
         return false;
     }
     for plane in 0..a.plane_count() {
-        if !same_samples(&a.samples(plane), &b.samples(plane)) {
+        if !has_same_plane_samples(&a.samples(plane), &b.samples(plane)) {
             return false;
         }
     }
@@ -131,7 +134,7 @@ fn same_planes(a: &Picture, b: &Picture) -> bool
 }
 
 // Whether samples are the same, however they lie in memory.
-fn same_samples(a: &Samples<'_>, b: &Samples<'_>) -> bool
+fn has_same_plane_samples(a: &PlaneSamples<'_>, b: &PlaneSamples<'_>) -> bool
     ensures { IsTrue result
         ↔ (count_in a.now ≡ count_in b.now)
         × ((k : ℕ) → k < count_in a.now → sample_in a.now k ≡ sample_in b.now k) }
@@ -140,7 +143,7 @@ fn same_samples(a: &Samples<'_>, b: &Samples<'_>) -> bool
         return false;
     }
     for k in 0..a.count() {
-        if a.at(k) != b.at(k) {
+        if a.load_sample(k) != b.load_sample(k) {
             return false;
         }
     }

@@ -11,9 +11,12 @@ ghost use Rattle.job.specs.TileSides.{HasFewTiles};
 
 use crate::formula::Formula;
 use crate::job::StageKind;
-use crate::reads::{Read, reads_elsewhere, reads_in, reads_of_both, reads_of_function};
+use crate::reads::{
+    Read, collect_formula_reads, collect_function_reads, collect_otherwise_reads,
+    collect_reads_of_two_formulas,
+};
 use domains::{Area, Grid, Span, TileSides};
-use operators::{Fold, Test};
+use operators::{PointTest, ReductionOp};
 use pipe_tokens::Name;
 use std::alloc::{AllocError, Global};
 
@@ -24,7 +27,7 @@ const MOST_TILES: u64 = 65_536;
 #[derive(Debug, Drop)]
 pub struct JobCase {
     area: Option<Area>,
-    tests: Vec<Test>,
+    tests: Vec<PointTest>,
     formula: Formula,
     reads: Vec<Read>,
     ghost found: { map read_view reads.items ≡ reads_in (formula_view formula) } by { same_reads-prop _ _ },
@@ -35,9 +38,9 @@ pub struct JobCase {
 pub struct Function {
     cases: Vec<JobCase>,
     otherwise: Option<Formula>,
-    other_reads: Vec<Read>,
+    otherwise_reads: Vec<Read>,
     all_reads: Vec<Read>,
-    ghost elsewhere: { map read_view other_reads.items
+    ghost elsewhere: { map read_view otherwise_reads.items
         ≡ flat_map reads_in (other_formula (option_map formula_view otherwise)) } by { same_reads-prop _ _ },
     ghost found: { map read_view all_reads.items
         ≡ flat_map reads_in (map (λ p. formula_view p.formula) cases.items
@@ -47,7 +50,7 @@ pub struct Function {
 /// An accumulator: how it joins the numbers of a bin, its bins, and of each point the number and the bin.
 #[derive(Debug, Drop)]
 pub struct Accumulator {
-    fold: Fold,
+    fold: ReductionOp,
     bins: Span,
     value: Formula,
     bin: Formula,
@@ -131,7 +134,7 @@ impl Stage {
     }
 
     /// How an accumulator joins the numbers of a bin; none of other stages.
-    pub fn op(&self) -> Option<Fold>
+    pub fn op(&self) -> Option<ReductionOp>
         ensures { result ≡ fold_of (stage_view self.now).body }
     {
         match &self.body {
@@ -182,14 +185,14 @@ impl JobCase {
     pub fn new(
         alloc: Global,
         area: Option<Area>,
-        tests: Vec<Test>,
+        tests: Vec<PointTest>,
         formula: Formula,
     ) -> Result<Self, AllocError>
         ensures area { IfOk result (λ p. p.area ≡ area) }
         ensures tests { IfOk result (λ p. p.tests ≡ tests) }
         ensures formula { IfOk result (λ p. p.formula ≡ formula) }
     {
-        let reads = reads_in(alloc, &formula)?;
+        let reads = collect_formula_reads(alloc, &formula)?;
         Ok(JobCase {
             area,
             tests,
@@ -206,7 +209,7 @@ impl JobCase {
     }
 
     /// The tests, in the order of the text.
-    pub fn tests(&self) -> &[Test]
+    pub fn tests(&self) -> &[PointTest]
         ensures { result.now ≡ self.now.tests.items }
     {
         &self.tests
@@ -245,12 +248,12 @@ impl Function {
         ensures cases { IfOk result (λ f. f.cases ≡ cases) }
         ensures otherwise { IfOk result (λ f. f.otherwise ≡ otherwise) }
     {
-        let other_reads = reads_elsewhere(alloc, &otherwise)?;
-        let all_reads = reads_of_function(alloc, &cases, &otherwise)?;
+        let otherwise_reads = collect_otherwise_reads(alloc, &otherwise)?;
+        let all_reads = collect_function_reads(alloc, &cases, &otherwise)?;
         Ok(Function {
             cases,
             otherwise,
-            other_reads,
+            otherwise_reads,
             all_reads,
         })
     }
@@ -270,11 +273,11 @@ impl Function {
     }
 
     /// What is read where no case holds, in the order of the text.
-    pub fn reads_elsewhere(&self) -> &[Read]
+    pub fn otherwise_reads(&self) -> &[Read]
         ensures { map read_view result.now
             ≡ flat_map reads_in (other_formula (option_map formula_view self.now.otherwise)) }
     {
-        &self.other_reads
+        &self.otherwise_reads
     }
 
     /// What all cases read, and then what is read where none holds, in the order of the text.
@@ -297,7 +300,7 @@ impl Accumulator {
     /// Fails only where memory is refused.
     pub fn new(
         alloc: Global,
-        fold: Fold,
+        fold: ReductionOp,
         bins: Span,
         value: Formula,
         bin: Formula,
@@ -307,7 +310,7 @@ impl Accumulator {
         ensures value { IfOk result (λ a. a.value ≡ value) }
         ensures bin { IfOk result (λ a. a.bin ≡ bin) }
     {
-        let point_reads = reads_of_both(alloc, &value, &bin)?;
+        let point_reads = collect_reads_of_two_formulas(alloc, &value, &bin)?;
         Ok(Accumulator {
             fold,
             bins,
@@ -318,7 +321,7 @@ impl Accumulator {
     }
 
     /// How the numbers of a bin are joined.
-    pub fn fold(&self) -> Fold
+    pub fn fold(&self) -> ReductionOp
         ensures { result ≡ self.now.fold }
     {
         self.fold

@@ -72,14 +72,14 @@ pub fn first_case_counts()
 {}
 
 /// Tests of the first variable restrict rows, those of the second restrict columns, and a remainder restricts nothing.
-pub fn boxes_by_axis()
+pub fn tests_cut_boxes_by_axis()
     ensures rows { box_of (area (pos 2) (pos 3)) odd_columns ≡ Some (area (pos 1) (pos 3)) }
     ensures columns { box_of (area (pos 2) (pos 3)) right_half
         ≡ Some (record { rows = ends (pos 0) (pos 2); cols = ends (pos 2) (pos 3) }) }
 {}
 
 /// A clamp applies its lower end and then its upper end; a comparison has its left side on the left; shifts double and halve.
-pub fn operations_by_hand()
+pub fn operations_match_hand_results()
     ensures clamp { (env : Valuation) (r c : ℤ)
         → formula_value env (ternary Clamp (number (pos 5)) (number (pos 7)) (number (pos 3))) r c ≡ pos 3 }
     ensures at_most { (env : Valuation) (r c : ℤ)
@@ -101,14 +101,14 @@ pub fn operations_by_hand()
 {}
 
 /// Points and indices may lie below 0, and an index is rounded down.
-pub fn indices_below_zero()
+pub fn indices_round_down_below_zero()
     ensures first { value below_zero 2 (negsuc 0) (pos 0) ≡ negsuc 2 }
     ensures middle { value below_zero 2 (pos 0) (pos 0) ≡ negsuc 1 }
     ensures last { value below_zero 2 (pos 1) (pos 0) ≡ negsuc 1 }
 {}
 
 /// The greatest sample of each column, over all points and over those of the first tile.
-pub fn greatest_of_columns()
+pub fn totals_are_column_maxima()
     ensures whole { totals greatest_samples 1 ≡ pos 5 ∷ pos 8 ∷ pos 4 ∷ [] }
     ensures tile { totals_over greatest_samples (area (pos 1) (pos 1)) 1
         ≡ pos 5 ∷ pos 8 ∷ negsuc 9223372036854775807 ∷ [] }

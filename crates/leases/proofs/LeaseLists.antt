@@ -9,7 +9,7 @@ use Rattle.std.proofs.lemmas.List.Kept.{AllPairs-cons}
 use Rattle.std.proofs.lemmas.Option.{none-some}
 use Rattle.identity.specs.declared.key.Key.{Key}
 use Rattle.leases.specs.declared.entry.Lease.{Lease}
-use Rattle.leases.specs.declared.entry.Entry.{Entry}
+use Rattle.leases.specs.declared.entry.LeaseEntry.{LeaseEntry}
 use Rattle.leases.specs.Leases.{time_of, ends, end_of, entry_lease, ended_lease, leases_of, lasts}
 use Rattle.leases.specs.Standing.{lease_unless_over}
 
@@ -19,14 +19,14 @@ Apart [] = Unit {0}
 Apart (l ∷ ls) = All (λ m. l.until ≤ m.from) ls × Apart ls
 
 -- a lease of q that was there before an entry
-abbrev pub cut : Key → Entry → Lease → Lease
+abbrev pub cut : Key → LeaseEntry → Lease → Lease
 cut q e l = record l { until = if ends q e then min l.until (time_of e) else l.until }
 
 cut_twice : (until soon late : ℕ) (b : Bool) → soon ≤ late → min until soon ≡ (if b then min (min until soon) late else min until soon)
 cut_twice until soon late true h = omega arith
 cut_twice until soon late false h = refl
 
-end_of-more : (q : Key) (until : ℕ) (h : List Entry) (e : Entry) → All (λ d. time_of d ≤ time_of e) h
+end_of-more : (q : Key) (until : ℕ) (h : List LeaseEntry) (e : LeaseEntry) → All (λ d. time_of d ≤ time_of e) h
     → end_of q until (h ++ e ∷ []) ≡ (if ends q e then min (end_of q until h) (time_of e) else end_of q until h)
 end_of-more q until [] e before = refl
 end_of-more q until (d ∷ h) e before =
@@ -41,7 +41,7 @@ given_alone : (q : Key) (o : Option Lease) → option_to_list (option_map (ended
 given_alone q None = refl
 given_alone q (Some l) = refl
 
-given_before : (q : Key) (h : List Entry) (e : Entry) (o : Option Lease) (later rest : List Lease) → All (λ d. time_of d ≤ time_of e) h
+given_before : (q : Key) (h : List LeaseEntry) (e : LeaseEntry) (o : Option Lease) (later rest : List Lease) → All (λ d. time_of d ≤ time_of e) h
     → later ≡ map (cut q e) rest ++ option_to_list (entry_lease q e)
     → option_to_list (option_map (ended_lease q (h ++ e ∷ [])) o) ++ later
     ≡ map (cut q e) (option_to_list (option_map (ended_lease q h) o) ++ rest) ++ option_to_list (entry_lease q e)
@@ -50,11 +50,11 @@ given_before q h e (Some l) later rest before eq =
     ap (λ u. record l { until = u } ∷ later) (end_of-more q l.until h e before) ∙ ap (λ ls. cut q e (ended_lease q h l) ∷ ls) eq
 
 -- one entry more may end leases that were there, and give one
-pub leases_of-more : (q : Key) (h : List Entry) (e : Entry) → All (λ d. time_of d ≤ time_of e) h
+pub leases_of-more : (q : Key) (h : List LeaseEntry) (e : LeaseEntry) → All (λ d. time_of d ≤ time_of e) h
     → leases_of q (h ++ e ∷ []) ≡ map (cut q e) (leases_of q h) ++ option_to_list (entry_lease q e)
 leases_of-more q [] e before = given_alone q (entry_lease q e)
 leases_of-more q (d ∷ h) e before =
-    let P : Entry → Type 0 = λ d. time_of d ≤ time_of e in
+    let P : LeaseEntry → Type 0 = λ d. time_of d ≤ time_of e in
     let tail = All-tail P d h before in
     given_before q h e (entry_lease q d) _ (leases_of q h) tail (leases_of-more q h e tail)
 
@@ -119,7 +119,7 @@ sooner_end : (until soon : ℕ) (b : Bool) → (if b then min until soon else un
 sooner_end until soon true = omega arith
 sooner_end until soon false = omega arith
 
-pub apart_cut : (q : Key) (e : Entry) (ls : List Lease) → Apart ls → Apart (map (cut q e) ls)
+pub apart_cut : (q : Key) (e : LeaseEntry) (ls : List Lease) → Apart ls → Apart (map (cut q e) ls)
 apart_cut q e [] apart = tt
 apart_cut q e (l ∷ ls) apart =
     let sooner : (cut q e l).until ≤ l.until = sooner_end l.until (time_of e) (ends q e) in (

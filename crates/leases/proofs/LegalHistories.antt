@@ -15,21 +15,21 @@ use Rattle.identity.proofs.KeyLaws.{same_key}
 use Rattle.leases.specs.declared.answer.Claim.TheVariants as claim
 use Rattle.leases.specs.declared.answer.Release.TheVariants as release
 use Rattle.leases.specs.declared.entry.Lease.{Lease}
-use Rattle.leases.specs.declared.entry.Entry.{Entry}
-use Rattle.leases.specs.declared.entry.Entry.TheVariants.{Granted, Renewed, Held, Released}
+use Rattle.leases.specs.declared.entry.LeaseEntry.{LeaseEntry}
+use Rattle.leases.specs.declared.entry.LeaseEntry.TheVariants.{Granted, Renewed, Held, Released}
 use Rattle.leases.specs.Leases.{is_same_key, time_of, ends, entry_lease, leases_of, in_force}
 use Rattle.leases.specs.Rules.{until_of, claim_by, release_by, claim_entry}
 use Rattle.leases.specs.Rules.{release_entry, with_entry, IsLegal, empty, later, claimed, released}
 use Rattle.leases.proofs.LeaseLists.{Apart, cut, leases_of-more, all_over, apart_cut, apart_push}
 
-pub record Kept (h : List Entry) (t : ℕ) : Type 0 where
+pub record Kept (h : List LeaseEntry) (t : ℕ) : Type 0 where
   pub times : All (λ e. time_of e ≤ t) h
   pub rising : AllPairs (λ a b. time_of a ≤ time_of b) h
   pub begun : (q : Key) → All (λ l. l.from ≤ t) (leases_of q h)
   pub apart : (q : Key) → Apart (leases_of q h)
 
 -- a grant comes where no lease of its key is in force
-abbrev pub MayCome : List Entry → Entry → Type 0
+abbrev pub MayCome : List LeaseEntry → LeaseEntry → Type 0
 MayCome h (Granted key lease) = in_force key lease.from h ≡ None
 MayCome h (Renewed key lease) = Unit {0}
 MayCome h (Held key node time) = Unit {0}
@@ -48,10 +48,10 @@ cut_until until t true h = omega arith
 cut_until until t false h = cc
 
 -- where an entry gives a lease of q, or ends one, those before are over
-pub cut_over : (q : Key) (e : Entry) (ls : List Lease) → ends q e ≡ true → All (λ l. (cut q e l).until ≤ time_of e) ls
+pub cut_over : (q : Key) (e : LeaseEntry) (ls : List Lease) → ends q e ≡ true → All (λ l. (cut q e l).until ≤ time_of e) ls
 cut_over q e ls h = λ k d within. cut_until _ (time_of e) (ends q e) h
 
-pub given_over : (q : Key) (h : List Entry) (e : Entry) (n : Lease) → Kept h (time_of e) → MayCome h e → entry_lease q e ≡ Some n
+pub given_over : (q : Key) (h : List LeaseEntry) (e : LeaseEntry) (n : Lease) → Kept h (time_of e) → MayCome h e → entry_lease q e ≡ Some n
     → (n.from ≡ time_of e) × All (λ l. (cut q e l).until ≤ time_of e) (leases_of q h)
 given_over q h (Granted key lease) n k m eq =
     let it = cond_some (is_same_key key q) lease n eq in
@@ -63,7 +63,7 @@ given_over q h (Renewed key lease) n k m eq =
 given_over q h (Held key node time) n k m eq = absurd (none-some n eq)
 given_over q h (Released key node time) n k m eq = absurd (none-some n eq)
 
-given_begun : (q : Key) (h : List Entry) (e : Entry) (o : Option Lease) → Kept h (time_of e) → MayCome h e → entry_lease q e ≡ o
+given_begun : (q : Key) (h : List LeaseEntry) (e : LeaseEntry) (o : Option Lease) → Kept h (time_of e) → MayCome h e → entry_lease q e ≡ o
     → All (λ l. l.from ≤ time_of e) (option_to_list o) × Apart (map (cut q e) (leases_of q h) ++ option_to_list o)
 given_begun q h e None k m eq = (All-nil (λ l. l.from ≤ time_of e), rw append-nil (apart_cut q e (leases_of q h) (k.apart q)))
 given_begun q h e (Some n) k m eq =
@@ -73,7 +73,7 @@ given_begun q h e (Some n) k m eq =
           (All-map (λ l. l.until ≤ n.from) (cut q e) (leases_of q h) (rw it.0 it.1)),
     )
 
-kept_more : (h : List Entry) (e : Entry) → Kept h (time_of e) → MayCome h e → Kept (h ++ e ∷ []) (time_of e)
+kept_more : (h : List LeaseEntry) (e : LeaseEntry) → Kept h (time_of e) → MayCome h e → Kept (h ++ e ∷ []) (time_of e)
 kept_more h e k m =
     let P : Lease → Type 0 = λ l. l.from ≤ time_of e in
     let now : time_of e ≤ time_of e = omega arith in
@@ -87,9 +87,9 @@ kept_more h e k m =
     }
 
 -- what is recorded of a claim by the rules may come
-claim_more_by : (P : List Entry → Type 0) (h : List Entry) (time node : ℕ) (key : Key) (ttl : ℕ) (o : Option Lease)
+claim_more_by : (P : List LeaseEntry → Type 0) (h : List LeaseEntry) (time node : ℕ) (key : Key) (ttl : ℕ) (o : Option Lease)
     → in_force key time h ≡ o
-    → ((e : Entry) → MayCome h e → time_of e ≡ time → P (h ++ e ∷ []))
+    → ((e : LeaseEntry) → MayCome h e → time_of e ≡ time → P (h ++ e ∷ []))
     → P (with_entry h (claim_entry time node key (claim_by o time node ttl)))
 claim_more_by P h time node key ttl None eq step =
     step (Granted key (record { node = node; from = time; until = until_of time ttl })) eq refl
@@ -100,8 +100,8 @@ claim_more_by P h time node key ttl (Some l) eq step =
       | false ↦ step (Held key node time) tt refl
     ]
 
-release_more_by : (P : List Entry → Type 0) (h : List Entry) (time node : ℕ) (key : Key) (o : Option Lease) → P h
-    → ((e : Entry) → MayCome h e → time_of e ≡ time → P (h ++ e ∷ []))
+release_more_by : (P : List LeaseEntry → Type 0) (h : List LeaseEntry) (time node : ℕ) (key : Key) (o : Option Lease) → P h
+    → ((e : LeaseEntry) → MayCome h e → time_of e ≡ time → P (h ++ e ∷ []))
     → P (with_entry h (release_entry time node key (release_by o node)))
 release_more_by P h time node key None same step = same
 release_more_by P h time node key (Some l) same step =
@@ -110,10 +110,10 @@ release_more_by P h time node key (Some l) same step =
       | false ↦ same
     ]
 
-kept_step : (h : List Entry) (time : ℕ) (e : Entry) → Kept h time → MayCome h e → time_of e ≡ time → Kept (h ++ e ∷ []) time
+kept_step : (h : List LeaseEntry) (time : ℕ) (e : LeaseEntry) → Kept h time → MayCome h e → time_of e ≡ time → Kept (h ++ e ∷ []) time
 kept_step h time e k m at = subst (Kept (h ++ e ∷ [])) at (kept_more h e (subst (Kept h) (sym at) k) m)
 
-kept_later : (h : List Entry) (t x : ℕ) → t ≤ x → Kept h t → Kept h x
+kept_later : (h : List LeaseEntry) (t x : ℕ) → t ≤ x → Kept h t → Kept h x
 kept_later h t x le k = record {
   times = All-weaker (λ e. time_of e ≤ t) (λ e. time_of e ≤ x) (λ e below. omega arith) h k.times;
   rising = k.rising;
@@ -122,7 +122,7 @@ kept_later h t x le k = record {
 }
 
 -- the rules keep it
-pub legal_is_kept : (h : List Entry) (t : ℕ) → IsLegal h t → Kept h t
+pub legal_is_kept : (h : List LeaseEntry) (t : ℕ) → IsLegal h t → Kept h t
 legal_is_kept _ _ empty = record {
   times = All-nil (λ e. time_of e ≤ 0);
   rising = λ i j d below within. absurd (omega arith);

@@ -15,8 +15,8 @@ use Rattle.leases.specs.declared.answer.Release.{Release}
 use Rattle.leases.specs.declared.answer.Release.TheVariants as release
 use Rattle.leases.specs.declared.desk.Desk.{Desk}
 use Rattle.leases.specs.declared.entry.Lease.{Lease}
-use Rattle.leases.specs.declared.entry.Entry.{Entry}
-use Rattle.leases.specs.declared.entry.Entry.TheVariants.{Granted, Renewed, Held, Released}
+use Rattle.leases.specs.declared.entry.LeaseEntry.{LeaseEntry}
+use Rattle.leases.specs.declared.entry.LeaseEntry.TheVariants.{Granted, Renewed, Held, Released}
 use Rattle.leases.specs.Leases.{is_same_key, time_of, ends, entry_lease, leases_of, lasts, in_force}
 use Rattle.leases.specs.Rules.{until_of, claim_by, claim_answer, release_by, release_answer, lease_of, claim_entry, release_entry}
 use Rattle.leases.specs.Rules.{with_entry, time_after, later, claimed, released}
@@ -25,7 +25,7 @@ use Rattle.leases.proofs.LeaseLists.{cut, leases_of-more, none_lasts, find_later
 use Rattle.leases.proofs.LegalHistories.{Kept, legal_is_kept, MayCome, given_over, cut_over}
 
 -- what a table has of q after an entry
-abbrev pub table_after : Key → Entry → Option Lease → Option Lease
+abbrev pub table_after : Key → LeaseEntry → Option Lease → Option Lease
 table_after q e o = option_or (entry_lease q e) (if ends q e then None else o)
 
 over_twice_by : (t x until : ℕ) (l : Lease) → t ≤ x → l.until ≡ until
@@ -43,7 +43,7 @@ over_twice : (t x : ℕ) (o : Option Lease) → t ≤ x → lease_unless_over x 
 over_twice t x None le = refl
 over_twice t x (Some l) le = over_twice_by t x l.until l le refl
 
-in_force_later : (q : Key) (t x : ℕ) (h : List Entry) → Kept h t → t ≤ x → lease_unless_over x (in_force q t h) ≡ in_force q x h
+in_force_later : (q : Key) (t x : ℕ) (h : List LeaseEntry) → Kept h t → t ≤ x → lease_unless_over x (in_force q t h) ≡ in_force q x h
 in_force_later q t x h k le = find_later t x (leases_of q h) le (k.begun q) (k.apart q)
 
 map_same : (ls : List Lease) → map (λ l. l) ls ≡ ls
@@ -55,7 +55,7 @@ or_none None = refl
 or_none (Some l) = refl
 
 -- of the leases before an entry, those that it does not end stay in force
-before_entry : (q : Key) (h : List Entry) (e : Entry) → Kept h (time_of e) → (b : Bool) → ends q e ≡ b
+before_entry : (q : Key) (h : List LeaseEntry) (e : LeaseEntry) → Kept h (time_of e) → (b : Bool) → ends q e ≡ b
     → option_or (find (lasts (time_of e)) (map (cut q e) (leases_of q h))) None
     ≡ lease_unless_over (time_of e) (if b then None else in_force q (time_of e) h)
 before_entry q h e k true eq =
@@ -70,7 +70,7 @@ before_entry q h e k false eq =
     or_none (find (lasts t) (map (cut q e) (leases_of q h))) ∙ ap (find (lasts t)) uncut ∙ sym (in_force_later q t t h k (omega arith))
 
 -- what is in force after an entry
-in_force_after : (q : Key) (h : List Entry) (e : Entry) → Kept h (time_of e) → MayCome h e → (g : Option Lease) → entry_lease q e ≡ g
+in_force_after : (q : Key) (h : List LeaseEntry) (e : LeaseEntry) → Kept h (time_of e) → MayCome h e → (g : Option Lease) → entry_lease q e ≡ g
     → option_or (find (lasts (time_of e)) (map (cut q e) (leases_of q h))) (find (lasts (time_of e)) (option_to_list g))
     ≡ lease_unless_over (time_of e) (option_or g (if ends q e then None else in_force q (time_of e) h))
 in_force_after q h e k m None eq = before_entry q h e k (ends q e) refl
@@ -82,7 +82,7 @@ in_force_after q h e k m (Some n) eq =
     (none_lasts t (map (cut q e) (leases_of q h)) (All-map (λ l. l.until ≤ t) (cut q e) (leases_of q h) it.1))
     ∙ ap (λ b. cond b (Some n) None) (lasts_begun t n begun)
 
-in_force-more : (q : Key) (h : List Entry) (e : Entry) → Kept h (time_of e) → MayCome h e
+in_force-more : (q : Key) (h : List LeaseEntry) (e : LeaseEntry) → Kept h (time_of e) → MayCome h e
     → in_force q (time_of e) (h ++ e ∷ []) ≡ lease_unless_over (time_of e) (table_after q e (in_force q (time_of e) h))
 in_force-more q h e k m =
     let t = time_of e in
@@ -97,7 +97,7 @@ after_shown_by t None o p true eq = refl
 after_shown_by t None o p false eq = sym (over_twice t t o (omega arith)) ∙ ap (lease_unless_over t) eq
 
 -- a table that is changed as an entry says shows what is in force after it
-shows_more : (q : Key) (h : List Entry) (e : Entry) (o p : Option Lease) → Kept h (time_of e) → MayCome h e
+shows_more : (q : Key) (h : List LeaseEntry) (e : LeaseEntry) (o p : Option Lease) → Kept h (time_of e) → MayCome h e
     → lease_unless_over (time_of e) o ≡ in_force q (time_of e) h → p ≡ table_after q e o
     → lease_unless_over (time_of e) p ≡ in_force q (time_of e) (h ++ e ∷ [])
 shows_more q h e o p k m shown table =
@@ -106,12 +106,12 @@ shows_more q h e o p k m shown table =
     ∙ sym (in_force-more q h e k m)
 
 -- a desk shows also later what is in force
-pub shown_later : (desk : Desk) (h : List Entry) (t x : ℕ) (q : Key) → StandsFor desk h t → t ≤ x → shown_lease x desk q ≡ in_force q x h
+pub shown_later : (desk : Desk) (h : List LeaseEntry) (t x : ℕ) (q : Key) → StandsFor desk h t → t ≤ x → shown_lease x desk q ≡ in_force q x h
 shown_later desk h t x q s le =
     sym (over_twice t x (get key_cmp desk.leases q) le) ∙ ap (lease_unless_over x) (s.shows q) ∙ in_force_later q t x h (legal_is_kept h t s.legal) le
 
 -- and so does one whose time alone has moved
-pub stands_later : (old new : Desk) (h : List Entry) (t x : ℕ) → StandsFor old h t → t ≤ x → new.clock ≡ x → new.leases ≡ old.leases
+pub stands_later : (old new : Desk) (h : List LeaseEntry) (t x : ℕ) → StandsFor old h t → t ≤ x → new.clock ≡ x → new.leases ≡ old.leases
     → StandsFor new h x
 stands_later old new h t x s le clock table = record {
   legal = later h t x s.legal le;
@@ -129,7 +129,7 @@ given_none true o = refl
 given_none false o = refl
 
 -- what is in force after a claim, where the table gets the lease that it gives
-shows_claim : (q : Key) (h : List Entry) (t node : ℕ) (key : Key) (ttl : ℕ) (o p : Option Lease) (f : Option Lease) → Kept h t
+shows_claim : (q : Key) (h : List LeaseEntry) (t node : ℕ) (key : Key) (ttl : ℕ) (o p : Option Lease) (f : Option Lease) → Kept h t
     → in_force key t h ≡ f → lease_unless_over t o ≡ in_force q t h
     → p ≡ option_or (if is_same_key key q then lease_of t node (claim_by f t node ttl) else None) o
     → lease_unless_over t p ≡ in_force q t (with_entry h (claim_entry t node key (claim_by f t node ttl)))
@@ -147,7 +147,7 @@ shows_claim q h t node key ttl o p (Some l) k eq shown =
     ]
 
 -- a claim that is answered by the rules, and given its lease
-pub stands_claimed : (old new : Desk) (h : List Entry) (t x node : ℕ) (key : Key) (ttl : ℕ) (c : Claim) → StandsFor old h t → t ≤ x
+pub stands_claimed : (old new : Desk) (h : List LeaseEntry) (t x node : ℕ) (key : Key) (ttl : ℕ) (c : Claim) → StandsFor old h t → t ≤ x
     → c ≡ claim_by (shown_lease x old key) x node ttl → new.clock ≡ x
     → ((q : Key) → get key_cmp new.leases q ≡ option_or (if is_same_key key q then lease_of x node c else None) (get key_cmp old.leases q))
     → (c ≡ claim_answer h x node key ttl) × StandsFor new (with_entry h (claim_entry x node key c)) x
@@ -174,7 +174,7 @@ time_after_by t now x node ttl (Some l) =
     [ true ↦ refl | false ↦ refl ]
 
 -- a call's answer and what is left of the desk, by the greater of its time and the call's
-pub claim_done : (old new : Desk) (h : List Entry) (t now x node : ℕ) (key : Key) (ttl : ℕ) (c : Claim) (g : Option Lease)
+pub claim_done : (old new : Desk) (h : List LeaseEntry) (t now x node : ℕ) (key : Key) (ttl : ℕ) (c : Claim) (g : Option Lease)
     → StandsFor old h t
     → x ≡ max old.clock now → c ≡ claim_by (shown_lease x old key) x node ttl → g ≡ lease_of x node c → new.clock ≡ x
     → ((q : Key) → get key_cmp new.leases q ≡ option_or (if is_same_key key q then g else None) (get key_cmp old.leases q))
@@ -200,7 +200,7 @@ abbrev pub without : Key → Key → Release → Option Lease → Option Lease
 without key q release.Released o = if is_same_key key q then None else o
 without key q release.NotHolder o = o
 
-shows_release : (q : Key) (h : List Entry) (t node : ℕ) (key : Key) (o p : Option Lease) (f : Option Lease) → Kept h t
+shows_release : (q : Key) (h : List LeaseEntry) (t node : ℕ) (key : Key) (o p : Option Lease) (f : Option Lease) → Kept h t
     → lease_unless_over t o ≡ in_force q t h → p ≡ without key q (release_by f node) o
     → lease_unless_over t p ≡ in_force q t (with_entry h (release_entry t node key (release_by f node)))
 shows_release q h t node key o p None k shown = λ table. ap (lease_unless_over t) table ∙ shown
@@ -211,7 +211,7 @@ shows_release q h t node key o p (Some l) k shown =
       | false ↦ λ table. ap (lease_unless_over t) table ∙ shown
     ]
 
-pub stands_released : (old new : Desk) (h : List Entry) (t x node : ℕ) (key : Key) (r : Release) → StandsFor old h t → t ≤ x
+pub stands_released : (old new : Desk) (h : List LeaseEntry) (t x node : ℕ) (key : Key) (r : Release) → StandsFor old h t → t ≤ x
     → r ≡ release_by (shown_lease x old key) node → new.clock ≡ x
     → ((q : Key) → get key_cmp new.leases q ≡ without key q r (get key_cmp old.leases q))
     → (r ≡ release_answer h x node key) × StandsFor new (with_entry h (release_entry x node key r)) x
@@ -227,7 +227,7 @@ stands_released old new h t x node key r s le answer clock table =
       }),
     )
 
-pub release_done : (old new : Desk) (h : List Entry) (t now x node : ℕ) (key : Key) (r : Release) → StandsFor old h t
+pub release_done : (old new : Desk) (h : List LeaseEntry) (t now x node : ℕ) (key : Key) (r : Release) → StandsFor old h t
     → x ≡ max old.clock now → r ≡ release_by (shown_lease x old key) node → new.clock ≡ x
     → ((q : Key) → get key_cmp new.leases q ≡ without key q r (get key_cmp old.leases q))
     → (r ≡ release_answer h (max t now) node key) × StandsFor new (with_entry h (release_entry (max t now) node key r)) (max t now)

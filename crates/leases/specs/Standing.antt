@@ -5,7 +5,7 @@ use Rattle.std.specs.Option.{option_and_then}
 use Rattle.identity.specs.Keys.{key_cmp}
 use Rattle.identity.specs.declared.key.Key.{Key}
 use Rattle.leases.specs.declared.desk.Desk.{Desk}
-use Rattle.leases.specs.declared.entry.Entry.{Entry}
+use Rattle.leases.specs.declared.entry.LeaseEntry.{LeaseEntry}
 use Rattle.leases.specs.declared.entry.Lease.{Lease}
 use Rattle.leases.specs.Leases.{in_force}
 use Rattle.leases.specs.Rules.{IsLegal}
@@ -19,7 +19,7 @@ abbrev pub shown_lease : ℕ → Desk → Key → Option Lease
 shown_lease x desk key = lease_unless_over x (get key_cmp desk.leases key)
 
 -- the desk is at that time, and shows of each key the lease that is then in force by the history, or none
-pub record StandsFor (desk : Desk) (h : List Entry) (time : ℕ) : Type 0 where
+pub record StandsFor (desk : Desk) (h : List LeaseEntry) (time : ℕ) : Type 0 where
   pub legal : IsLegal h time
   pub clock : desk.clock ≡ time
   pub shows : (key : Key) → shown_lease time desk key ≡ in_force key time h

@@ -2,7 +2,7 @@
 
 ghost use Rattle.std.specs.Prelude.{◌≡◌};
 
-use crate::entry::{Entry, Lease};
+use crate::entry::{Lease, LeaseEntry};
 use identity::Key;
 
 /// The answer to a claim.
@@ -22,7 +22,7 @@ impl Claim {
     ghost use Rattle.leases.specs.Rules.{claim_by, lease_of, claim_entry};
 
     // How the rules answer a node's claim when that lease is in force.
-    pub(crate) fn decide(in_force: Option<Lease>, time: u64, node: u8, ttl: u64) -> Claim
+    pub(crate) fn decide_by_lease(in_force: Option<Lease>, time: u64, node: u8, ttl: u64) -> Claim
         ensures { result ≡ claim_by in_force time node ttl }
     {
         let until = time.saturating_add(ttl);
@@ -51,21 +51,21 @@ impl Claim {
     }
 
     // What is recorded of it.
-    pub(crate) fn to_entry(self, time: u64, node: u8, key: &Key) -> Option<Entry>
+    pub(crate) fn to_lease_entry(self, time: u64, node: u8, key: &Key) -> Option<LeaseEntry>
         ensures { result ≡ claim_entry time node key.now self }
     {
         let key = *key;
         let from = time;
         match self {
-            Claim::Granted { until } => Some(Entry::Granted {
+            Claim::Granted { until } => Some(LeaseEntry::Granted {
                 key,
                 lease: Lease { node, from, until },
             }),
-            Claim::Renewed { until } => Some(Entry::Renewed {
+            Claim::Renewed { until } => Some(LeaseEntry::Renewed {
                 key,
                 lease: Lease { node, from, until },
             }),
-            Claim::Held { .. } => Some(Entry::Held { key, node, time }),
+            Claim::Held { .. } => Some(LeaseEntry::Held { key, node, time }),
             Claim::Memory => None,
         }
     }
@@ -84,7 +84,7 @@ impl Release {
     ghost use Rattle.leases.specs.Rules.{release_by, release_entry};
 
     // How the rules answer a node's release when that lease is in force.
-    pub(crate) fn decide(in_force: Option<Lease>, node: u8) -> Release
+    pub(crate) fn decide_by_lease(in_force: Option<Lease>, node: u8) -> Release
         ensures { result ≡ release_by in_force node }
     {
         match in_force {
@@ -94,12 +94,12 @@ impl Release {
     }
 
     // What is recorded of it.
-    pub(crate) fn to_entry(self, time: u64, node: u8, key: &Key) -> Option<Entry>
+    pub(crate) fn to_lease_entry(self, time: u64, node: u8, key: &Key) -> Option<LeaseEntry>
         ensures { result ≡ release_entry time node key.now self }
     {
         let key = *key;
         match self {
-            Release::Released => Some(Entry::Released { key, node, time }),
+            Release::Released => Some(LeaseEntry::Released { key, node, time }),
             Release::NotHolder => None,
         }
     }

@@ -5,7 +5,7 @@ ghost use Rattle.leases.specs.declared.answer.Claim.{Claim};
 
 use crate::answer::{Claim, Release};
 use crate::desk::Desk;
-use crate::entry::Entry;
+use crate::entry::LeaseEntry;
 use identity::Key;
 use std::alloc::Global;
 use std::marker::Model;
@@ -15,7 +15,7 @@ use std::marker::Model;
 #[derive(Drop)]
 pub struct DeskBook {
     desk: Desk,
-    history: Vec<Entry>,
+    history: Vec<LeaseEntry>,
 }
 
 impl Model for DeskBook {
@@ -44,7 +44,7 @@ impl DeskBook {
     }
 
     /// The entries of all calls so far.
-    pub fn history(&self) -> &[Entry]
+    pub fn history(&self) -> &[LeaseEntry]
         ensures entries { result.now ≡ self.now.history }
         ensures legal { IsLegal self.now.history self.now.time }
     {
@@ -70,9 +70,9 @@ impl DeskBook {
         if self.history.reserve(self.desk.count_leases() + 2).is_err() {
             return Claim::Memory;
         }
-        let time = self.desk.find_call_time(now);
+        let time = self.desk.compute_call_time(now);
         let claim = self.desk.claim(now, node, key, ttl);
-        if let Some(entry) = claim.to_entry(time, node, &key) {
+        if let Some(entry) = claim.to_lease_entry(time, node, &key) {
             self.history.push_reserved(entry);
         }
         claim
@@ -86,9 +86,9 @@ impl DeskBook {
             ≡ with_entry self.old.history (release_entry (max self.old.time now) node key.now result) }
         ensures time { self.new.time ≡ max self.old.time now }
     {
-        let time = self.desk.find_call_time(now);
+        let time = self.desk.compute_call_time(now);
         let release = self.desk.release(now, node, key);
-        if let Some(entry) = release.to_entry(time, node, key) {
+        if let Some(entry) = release.to_lease_entry(time, node, key) {
             self.history.push_reserved(entry);
         }
         release

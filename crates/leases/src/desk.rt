@@ -3,7 +3,7 @@
 ghost use Rattle.std.specs.Prelude.{◌≡◌, ◌≢◌, ◌+◌, ◌^◌, ◌<◌, ◌≤◌, ℕ, Option, Some, None, List, [], max};
 ghost use Rattle.leases.specs.declared.answer.Claim.{Claim};
 ghost use Rattle.leases.specs.declared.answer.Release.{Release};
-ghost use Rattle.leases.specs.declared.entry.Entry.{Entry};
+ghost use Rattle.leases.specs.declared.entry.LeaseEntry.{LeaseEntry};
 
 use crate::answer::{Claim, Release};
 use crate::entry::Lease;
@@ -51,17 +51,17 @@ impl Desk {
     /// the node that has the key renews its lease. With `Memory` the desk and its time are unchanged; it is answered instead of
     /// `Granted` alone.
     pub fn claim(&mut self, now: u64, node: u8, key: Key, ttl: u64) -> Claim
-        ensures answer { (h : List Entry) (t : ℕ) → StandsFor self.old h t → result ≢ Claim.Memory
+        ensures answer { (h : List LeaseEntry) (t : ℕ) → StandsFor self.old h t → result ≢ Claim.Memory
             → result ≡ claim_answer h (max t now) node key ttl }
-        ensures memory { (h : List Entry) (t : ℕ) → StandsFor self.old h t → result ≡ Claim.Memory
+        ensures memory { (h : List LeaseEntry) (t : ℕ) → StandsFor self.old h t → result ≡ Claim.Memory
             → in_force key (max t now) h ≡ None }
-        ensures stands { (h : List Entry) (t : ℕ) → StandsFor self.old h t
+        ensures stands { (h : List LeaseEntry) (t : ℕ) → StandsFor self.old h t
             → StandsFor self.new (with_entry h (claim_entry (max t now) node key result))
             (time_after t now result) }
         ensures kept { lease_count self.new ≤ lease_count self.old + 1 }
     {
         let time = self.clock.max(now);
-        let claim = Claim::decide(self.find_lease(&key, time), time, node, ttl);
+        let claim = Claim::decide_by_lease(self.find_lease(&key, time), time, node, ttl);
         if let Some(lease) = claim.to_lease(time, node) {
             let Ok(_) = self.leases.insert(key, lease) else {
                 return Claim::Memory;
@@ -73,16 +73,16 @@ impl Desk {
 
     /// Ends the lease of a node, if it is in force.
     pub fn release(&mut self, now: u64, node: u8, key: &Key) -> Release
-        ensures answer { (h : List Entry) (t : ℕ) → StandsFor self.old h t
+        ensures answer { (h : List LeaseEntry) (t : ℕ) → StandsFor self.old h t
             → result ≡ release_answer h (max t now) node key.now }
-        ensures stands { (h : List Entry) (t : ℕ) → StandsFor self.old h t
+        ensures stands { (h : List LeaseEntry) (t : ℕ) → StandsFor self.old h t
             → StandsFor self.new (with_entry h (release_entry (max t now) node key.now result))
             (max t now) }
         ensures kept { lease_count self.new ≤ lease_count self.old }
         ensures fewer { result ≡ Release.Released → lease_count self.new + 1 ≤ lease_count self.old }
     {
         self.clock = self.clock.max(now);
-        let release = Release::decide(self.find_lease(key, self.clock), node);
+        let release = Release::decide_by_lease(self.find_lease(key, self.clock), node);
         if let Release::Released = release {
             self.leases.remove(key);
         }
@@ -91,9 +91,9 @@ impl Desk {
 
     /// The node whose lease of a key is in force. The call moves the time.
     pub fn holder(&mut self, now: u64, key: &Key) -> Option<u8>
-        ensures answer { (h : List Entry) (t : ℕ) → StandsFor self.old h t
+        ensures answer { (h : List LeaseEntry) (t : ℕ) → StandsFor self.old h t
             → result ≡ holder_of h (max t now) key.now }
-        ensures stands { (h : List Entry) (t : ℕ) → StandsFor self.old h t
+        ensures stands { (h : List LeaseEntry) (t : ℕ) → StandsFor self.old h t
             → StandsFor self.new h (max t now) }
         ensures kept { lease_count self.new ≡ lease_count self.old }
     {
@@ -102,8 +102,8 @@ impl Desk {
     }
 
     // The time of a call.
-    pub(crate) fn find_call_time(&self, now: u64) -> u64
-        ensures { (h : List Entry) (t : ℕ) → StandsFor self.now h t → result ≡ max t now }
+    pub(crate) fn compute_call_time(&self, now: u64) -> u64
+        ensures { (h : List LeaseEntry) (t : ℕ) → StandsFor self.now h t → result ≡ max t now }
     {
         self.clock.max(now)
     }

@@ -15,7 +15,7 @@ pub struct Lease {
 
 /// What is recorded of a call.
 #[derive(Clone, Copy, Debug, PartialEq, Eq)]
-pub enum Entry {
+pub enum LeaseEntry {
     /// A claim of a key of which no lease was in force.
     Granted { key: Key, lease: Lease },
     /// A claim by the node whose lease was in force.

@@ -11,5 +11,5 @@ mod live;
 pub use answer::{Claim, Release};
 pub use book::DeskBook;
 pub use desk::Desk;
-pub use entry::{Entry, Lease};
+pub use entry::{Lease, LeaseEntry};
 pub use live::LiveDesk;

@@ -5,7 +5,7 @@ use Rattle.catalog.specs.Entries.{Entry, IsCatalog}
 use Rattle.identity.specs.declared.key.Key.{Key}
 use Rattle.held_facts.specs.Answers.{AreHeld}
 use Rattle.held_facts.specs.HeldFacts.{HoldsTrueFacts}
-use Rattle.identity.specs.declared.job_ids.Ids.{Ids}
+use Rattle.identity.specs.declared.job_ids.JobId.{JobId}
 use Rattle.node_state.specs.States.{State, nothing, join, retired_in}
 use Rattle.tile_fact.specs.declared.update.Update.{Update}
 use Rattle.updates.specs.TrueUpdates.{AreTrue}
@@ -57,7 +57,7 @@ module _ (catalog : List Entry) where
         true_kept = true_kept;
       }
 
-  pub book_lent : (held kept : State) (h : List Event) (keys : List Key) (retired : List Ids) → IsBook catalog held kept h
+  pub book_lent : (held kept : State) (h : List Event) (keys : List Key) (retired : List JobId) → IsBook catalog held kept h
       → AreHeld held.facts keys → retired ≡ retired_in held → IsBook catalog held kept (h ++ Lent keys retired ∷ [])
   book_lent held kept h keys retired b are told =
       book_more held kept h (Lent keys retired) b (are, told) b.true_held b.true_kept

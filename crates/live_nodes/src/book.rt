@@ -11,12 +11,11 @@ ghost use Rattle.node_state.specs.States.{facts_in, lent, retired_in};
 ghost use Rattle.std.specs.Prelude.{◌≡◌, ◌++◌, ◌∷◌, [], IfErr, IfOk, OnErr, OnOk, length};
 ghost use Rattle.updates.specs.TrueUpdates.{AreTrue};
 
-use crate::event::{Event, Updates, copy_to_sequence, make_lent_event};
+use crate::event::{Event, Updates, copy_updates_to_sequence, make_lent_event};
 use crate::receipt::{Loan, Receipt};
-use catalog::Catalog;
+use catalog::{Catalog, NamedCatalog};
 use fact_store::{FactStore, TableFacts};
 use identity::Key;
-use named_catalogs::NamedCatalog;
 use node_state::{LendFault, NodeState};
 use std::alloc::{AllocError, AllocFailed, Global};
 use std::marker::{Model, PhantomData};
@@ -125,7 +124,7 @@ impl<C: NamedCatalog, S: FactStore> NodeBook<C, S> {
         ensures handed_back { IfErr result (λ back. back.value ≡ updates) }
         ensures unchanged { OnErr result (self.new ≡ self.old) }
     {
-        match self.take_copies(&updates) {
+        match self.take_copies_of_updates(&updates) {
             Ok(number) => Ok(Receipt {
                 number,
                 event: Event::Took(Updates::new(updates)),
@@ -135,14 +134,14 @@ impl<C: NamedCatalog, S: FactStore> NodeBook<C, S> {
     }
 
     // Takes copies of updates, and returns the number of the event.
-    fn take_copies(&mut self, updates: &[Update]) -> Result<u64, AllocError>
+    fn take_copies_of_updates(&mut self, updates: &[Update]) -> Result<u64, AllocError>
         requires { AreTrue C.catalog updates.now }
         ensures recorded { OnOk result (self.new ≡ self.old ++ Took updates.now ∷ []) }
         ensures number { IfOk result (λ number. number ≡ length self.old) }
         ensures unchanged { OnErr result (self.new ≡ self.old) }
     {
-        let taken = copy_to_sequence(self.alloc, updates)?;
-        let state: NodeState<S> = build_state(self.alloc, updates)?;
+        let taken = copy_updates_to_sequence(self.alloc, updates)?;
+        let state: NodeState<S> = build_node_state_from_updates(self.alloc, updates)?;
         self.history.reserve(1)?;
         self.held.merge(&state)?;
         let number = self.history.len() as u64;
@@ -195,18 +194,24 @@ impl<C: NamedCatalog, S: FactStore> NodeBook<C, S> {
 }
 
 // What these updates alone make.
-fn build_state<S: FactStore>(alloc: Global, updates: &[Update]) -> Result<NodeState<S>, AllocError>
+fn build_node_state_from_updates<S: FactStore>(
+    alloc: Global,
+    updates: &[Update],
+) -> Result<NodeState<S>, AllocError>
     ensures { IfOk result (λ state. state ≡ state_of updates.now) }
 {
     let mut state = NodeState::new(alloc);
     for update in updates {
-        take_update(&mut state, update)?;
+        apply_update_to_node_state(&mut state, update)?;
     }
     Ok(state)
 }
 
 // Takes an update into a state.
-fn take_update<S: FactStore>(state: &mut NodeState<S>, update: &Update) -> Result<(), AllocError>
+fn apply_update_to_node_state<S: FactStore>(
+    state: &mut NodeState<S>,
+    update: &Update,
+) -> Result<(), AllocError>
     ensures { OnOk result (state.new ≡ with_update state.old update.now) }
 {
     match update {

@@ -12,8 +12,8 @@ use crate::fault::CloseFault;
 use crate::matching::match_receipts;
 use crate::receipt::Receipt;
 use crate::seat::Seat;
+use catalog::NamedCatalog;
 use fact_store::{FactStore, TableFacts};
-use named_catalogs::NamedCatalog;
 use node_state::NodeState;
 use std::alloc::Global;
 use std::marker::Model;
@@ -61,7 +61,7 @@ impl<S: FactStore> ClosedNode<S> {
 ///
 /// Fails at the first receipt, list after list, that does not fit; then at the least number that is on no receipt. Also fails
 /// where memory is refused.
-pub fn close_book<C: NamedCatalog, S: FactStore>(
+pub fn close_node_book<C: NamedCatalog, S: FactStore>(
     alloc: Global,
     book: NodeBook<C, S>,
     ends: Vec<(Seat, Vec<Receipt>)>,

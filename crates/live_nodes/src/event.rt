@@ -3,7 +3,7 @@
 ghost use Rattle.live_nodes.specs.declared.event.Event.TheVariants.{Lent};
 ghost use Rattle.std.specs.Prelude.{◌≡◌, IfOk};
 
-use identity::{Ids, Key};
+use identity::{JobId, Key};
 use sequences::Sequence;
 use std::alloc::{AllocError, Global};
 use tile_fact::Update;
@@ -13,7 +13,7 @@ use updates::copy_updates;
 pub type Keys = Sequence<Key>;
 
 /// The identities of retired jobs, rising.
-pub type RetiredIds = Sequence<Ids>;
+pub type RetiredIds = Sequence<JobId>;
 
 /// Updates, in the order in which they came.
 pub type Updates = Sequence<Update>;
@@ -22,7 +22,7 @@ pub type Updates = Sequence<Update>;
 pub(crate) fn make_lent_event(
     alloc: Global,
     keys: &[Key],
-    retired: &[Ids],
+    retired: &[JobId],
 ) -> Result<Event, AllocError>
     ensures { IfOk result (λ event. event ≡ Lent keys.now retired.now) }
 {
@@ -32,7 +32,10 @@ pub(crate) fn make_lent_event(
 }
 
 /// A copy of updates, which shares their numbers.
-pub(crate) fn copy_to_sequence(alloc: Global, updates: &[Update]) -> Result<Updates, AllocError>
+pub(crate) fn copy_updates_to_sequence(
+    alloc: Global,
+    updates: &[Update],
+) -> Result<Updates, AllocError>
     ensures { IfOk result (λ copy. copy ≡ updates.now) }
 {
     Ok(Updates::new(copy_updates(alloc, updates)?))

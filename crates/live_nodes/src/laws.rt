@@ -15,7 +15,7 @@ pub fn events_come_one_by_one()
 {}
 
 /// If lists of receipts account for a history, they have together as many receipts as it has events.
-pub fn accounts_are_as_long()
+pub fn receipts_are_as_many_as_events()
     ensures { (history : List EventType) (lists : List (List Receipt)) → AccountFor history lists
         → length history ≡ sum_by length lists }
 {}

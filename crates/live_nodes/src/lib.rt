@@ -14,7 +14,7 @@ mod receipt;
 mod seat;
 
 pub use book::NodeBook;
-pub use closing::{ClosedNode, close_book};
+pub use closing::{ClosedNode, close_node_book};
 pub use event::{Event, Keys, RetiredIds, Updates};
 pub use fault::CloseFault;
 pub use live::LiveNode;

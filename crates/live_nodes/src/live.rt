@@ -10,13 +10,12 @@ ghost use Rattle.std.specs.Prelude.{◌≡◌, ◌+◌, All, IfErr, IfOk, OnErr,
 ghost use Rattle.updates.specs.TrueUpdates.{AreTrue};
 
 use crate::book::NodeBook;
-use crate::closing::{ClosedNode, close_book};
+use crate::closing::{ClosedNode, close_node_book};
 use crate::fault::CloseFault;
 use crate::receipt::{Loan, Receipt};
 use crate::seat::Seat;
-use catalog::Catalog;
+use catalog::{Catalog, NamedCatalog};
 use identity::Key;
-use named_catalogs::NamedCatalog;
 use node_state::{LendFault, NodeState};
 use std::alloc::{AllocError, AllocFailed, Global};
 use std::sync::{Mutex, Wait};
@@ -145,7 +144,7 @@ impl<C: NamedCatalog> LiveNode<C> {
         ensures fault { IfErr result (λ back. IsSomeCloseFault ends.items back.2) }
     {
         let LiveNode { alloc, book } = self;
-        match close_book(alloc, book.into_inner(), ends) {
+        match close_node_book(alloc, book.into_inner(), ends) {
             Ok(closed) => Ok(closed),
             Err((book, ends, fault)) => Err((
                 LiveNode {

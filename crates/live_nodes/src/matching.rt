@@ -7,7 +7,7 @@ ghost use Rattle.std.specs.Bool.{OnTrue};
 ghost use Rattle.std.specs.Prelude.{◌≡◌, ◌↔◌, ◌<◌, ◌++◌, ◌∷◌, [], ℕ, List, IfErr, IfNone, IfSome, IsTrue, OnOk, false, length};
 ghost use Rattle.std.specs.Prelude.{map, slice_index_or, true};
 
-use crate::equality::is_same_event;
+use crate::equality::is_same_node_event;
 use crate::event::Event;
 use crate::fault::CloseFault;
 use crate::receipt::Receipt;
@@ -31,18 +31,26 @@ pub fn match_receipts<T>(
 {
     let mut seen = Vec::from_elem(alloc, false, history.len())?;
     for list in lists {
-        if let Err(number) = match_list(history, list.1.as_slice(), seen.as_mut_slice()) {
+        if let Err(number) = mark_events_with_receipts(
+            history,
+            list.1.as_slice(),
+            seen.as_mut_slice(),
+        ) {
             return Err(CloseFault::ReceiptMismatch(number));
         }
     }
-    match find_first_unseen(seen.as_slice()) {
+    match find_first_event_without_receipt(seen.as_slice()) {
         Some(number) => Err(CloseFault::ReceiptMismatch(number)),
         None => Ok(()),
     }
 }
 
 // Marks the numbers of one more list, or returns the number of the first receipt that does not fit.
-fn match_list(history: &[Event], receipts: &[Receipt], seen: &mut [bool]) -> Result<(), u64>
+fn mark_events_with_receipts(
+    history: &[Event],
+    receipts: &[Receipt],
+    seen: &mut [bool],
+) -> Result<(), u64>
     requires { length seen.old ≡ length history.now }
     ensures seen { (earlier : List (List ReceiptType)) → AreSeen history.now earlier seen.old
         → OnOk result (AreSeen history.now (earlier ++ receipts.now ∷ []) seen.new) }
@@ -56,7 +64,7 @@ fn match_list(history: &[Event], receipts: &[Receipt], seen: &mut [bool]) -> Res
         if number < least {
             return Err(number);
         }
-        if !is_shown(history, receipt) {
+        if !is_receipt_in_history(history, receipt) {
             return Err(number);
         }
         if seen[number as usize] {
@@ -69,18 +77,18 @@ fn match_list(history: &[Event], receipts: &[Receipt], seen: &mut [bool]) -> Res
 }
 
 // Whether the history has the receipt's event at its number.
-fn is_shown(history: &[Event], receipt: &Receipt) -> bool
+fn is_receipt_in_history(history: &[Event], receipt: &Receipt) -> bool
     ensures shown { IsTrue result ↔ IsShown history.now receipt.now }
     ensures within { OnTrue result (receipt.now.number < length history.now) }
 {
     match history.get(receipt.number as usize) {
-        Some(event) => is_same_event(event, &receipt.event),
+        Some(event) => is_same_node_event(event, &receipt.event),
         None => false,
     }
 }
 
 // The least number that is not marked.
-fn find_first_unseen(seen: &[bool]) -> Option<u64>
+fn find_first_event_without_receipt(seen: &[bool]) -> Option<u64>
     ensures within { IfSome result (λ number. number < length seen.now) }
     ensures unseen { IfSome result (λ number. slice_index_or seen.now number false ≡ false) }
     ensures first { IfSome result

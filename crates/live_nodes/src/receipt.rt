@@ -1,7 +1,7 @@
 //! The result of a recorded call.
 
 use crate::event::Event;
-use identity::Ids;
+use identity::JobId;
 use tile_fact::Fact;
 
 /// An event, and its number in the history, from 0 on.
@@ -17,6 +17,6 @@ pub struct Loan {
     /// The facts, rising.
     pub facts: Vec<Fact>,
     /// The identities of all jobs that are retired there, rising.
-    pub retired: Vec<Ids>,
+    pub retired: Vec<JobId>,
     pub receipt: Receipt,
 }

@@ -7,9 +7,9 @@ use Rattle.std.proofs.lemmas.List.{length-append}
 use Rattle.std.specs.Char.{is_ascii_digit}
 use Rattle.netpbm.specs.declared.fault.PicFault.{PicFault}
 use Rattle.netpbm.specs.declared.fault.PicFault.TheVariants.{OtherFormat, HeaderCut, BadSize, BadMax}
-use Rattle.netpbm.specs.declared.header.Coding.{Coding}
-use Rattle.netpbm.specs.declared.header.Coding.TheVariants.{Plain, Raw}
-use Rattle.netpbm.specs.declared.header.Header.{Header}
+use Rattle.netpbm.specs.declared.header.RasterCoding.{RasterCoding}
+use Rattle.netpbm.specs.declared.header.RasterCoding.TheVariants.{Plain, Raw}
+use Rattle.netpbm.specs.declared.header.PictureHeader.{PictureHeader}
 use Rattle.netpbm.specs.Image.{InRange}
 use Rattle.netpbm.specs.Text.{is_white}
 use Rattle.netpbm.specs.Grammar.{magic, IsNumber, nothing, IsGap, IsFields, NoDigit}
@@ -22,10 +22,10 @@ use Rattle.netpbm.proofs.NumberLaws.{size_view, max_view, white_view, size_compl
 
 -- ---- the first two bytes
 
-abbrev pub MagicThere : List ℕ → Coding × ℕ → Type 0
+abbrev pub MagicThere : List ℕ → RasterCoding × ℕ → Type 0
 MagicThere bytes m = ((m.1 ≡ 1) ⊎ (m.1 ≡ 3)) × (bytes ≡ magic m.0 m.1 ++ drop 2 bytes) × (2 ≤ length bytes)
 
-abbrev pub MagicView : List ℕ → Result (Coding × ℕ) PicFault → Type 0
+abbrev pub MagicView : List ℕ → Result (RasterCoding × ℕ) PicFault → Type 0
 MagicView bytes r = MatchResult r (MagicThere bytes) (IsFault bytes)
 
 kind_view : (k : ℕ) (rest : List ℕ) → MagicView (80 ∷ k ∷ rest) (kind_of k)
@@ -75,12 +75,12 @@ magic_view (p ∷ k ∷ rest) =
           (inl (p, k ∷ rest, refl, refl, ne))
     ]
 
-pub magic_complete : (coding : Coding) (colours : ℕ) (rest : List ℕ) → (colours ≡ 1) ⊎ (colours ≡ 3)
+pub magic_complete : (coding : RasterCoding) (colours : ℕ) (rest : List ℕ) → (colours ≡ 1) ⊎ (colours ≡ 3)
     → magic_read (magic coding colours ++ rest) ≡ Ok (coding, colours)
 magic_complete Plain colours rest h = elim h [ inl e ↦ rw e (magic_long 80 50 rest) | inr e ↦ rw e (magic_long 80 51 rest) ]
 magic_complete Raw colours rest h = elim h [ inl e ↦ rw e (magic_long 80 53 rest) | inr e ↦ rw e (magic_long 80 54 rest) ]
 
-length-magic : (coding : Coding) (colours : ℕ) → length (magic coding colours) ≡ 2
+length-magic : (coding : RasterCoding) (colours : ℕ) → length (magic coding colours) ≡ 2
 length-magic Plain colours = refl
 length-magic Raw colours = refl
 
@@ -101,7 +101,7 @@ IsFields-push (m ∷ ms) f gap digits n (g', d', r, e, hg, hd, hr) g d = (
   IsFields-push ms r gap digits n hr g d,
 )
 
-pub front_more : (coding : Coding) (colours n : ℕ) (numbers front gap digits : List ℕ) → IsHeaderFront coding colours numbers front
+pub front_more : (coding : RasterCoding) (colours n : ℕ) (numbers front gap digits : List ℕ) → IsHeaderFront coding colours numbers front
     → IsGap gap → IsNumber digits n → Fit (4096 ∷ 4096 ∷ 65535 ∷ []) (numbers ++ n ∷ [])
     → IsHeaderFront coding colours (numbers ++ n ∷ []) (front ++ (gap ++ digits))
 front_more coding colours n numbers front gap digits h g d fit =
@@ -114,21 +114,21 @@ front_more coding colours n numbers front gap digits h g d fit =
     }
 
 -- a place behind the first numbers: what stands before it, and what follows
-pub record IsAt (bytes : List ℕ) (at : ℕ) (coding : Coding) (colours : ℕ) (numbers front rest : List ℕ) : Type 0 where
+pub record IsAt (bytes : List ℕ) (at : ℕ) (coding : RasterCoding) (colours : ℕ) (numbers front rest : List ℕ) : Type 0 where
   pub whole : bytes ≡ front ++ rest
   pub place : at ≡ length front
   pub front_is : IsHeaderFront coding colours numbers front
   pub taken : 0 < length numbers → NoDigit rest
 
-pub rest_at : (bytes : List ℕ) (at : ℕ) (coding : Coding) (colours : ℕ) (numbers front rest : List ℕ)
+pub rest_at : (bytes : List ℕ) (at : ℕ) (coding : RasterCoding) (colours : ℕ) (numbers front rest : List ℕ)
     → IsAt bytes at coding colours numbers front rest → drop at bytes ≡ rest
 rest_at bytes at coding colours numbers front rest h = ap (drop at) h.whole ∙ drop_at front rest at (sym h.place)
 
-pub within_at : (bytes : List ℕ) (at : ℕ) (coding : Coding) (colours : ℕ) (numbers front rest : List ℕ)
+pub within_at : (bytes : List ℕ) (at : ℕ) (coding : RasterCoding) (colours : ℕ) (numbers front rest : List ℕ)
     → IsAt bytes at coding colours numbers front rest → at ≤ length bytes
 within_at bytes at coding colours numbers front rest h = omega (arith, h.place, ap length h.whole, length-append front rest)
 
-module _ (bytes : List ℕ) (at : ℕ) (coding : Coding) (colours : ℕ) (numbers front rest : List ℕ)
+module _ (bytes : List ℕ) (at : ℕ) (coding : RasterCoding) (colours : ℕ) (numbers front rest : List ℕ)
     (here : IsAt bytes at coding colours numbers front rest) where
   parts_at : (xs ys : List ℕ) → drop at bytes ≡ xs ++ ys → bytes ≡ front ++ (xs ++ ys)
   parts_at xs ys e = here.whole ∙ ap (λ (l : List ℕ). front ++ l) (sym (rest_at bytes at coding colours numbers front rest here) ∙ e)
@@ -275,7 +275,7 @@ module _ (bytes : List ℕ) (at : ℕ) (coding : Coding) (colours : ℕ) (number
 -- ---- the whole header
 
 -- what a header says, and what follows it
-pub record HeaderThere (bytes : List ℕ) (h : Header) : Type 0 where
+pub record HeaderThere (bytes : List ℕ) (h : PictureHeader) : Type 0 where
   pub front : List ℕ
   pub white : ℕ
   pub rest : List ℕ
@@ -285,10 +285,10 @@ pub record HeaderThere (bytes : List ℕ) (h : Header) : Type 0 where
   pub white_is : is_white white ≡ true
   pub rest_is : drop h.end bytes ≡ rest
 
-abbrev pub HeaderView : List ℕ → Result Header PicFault → Type 0
+abbrev pub HeaderView : List ℕ → Result PictureHeader PicFault → Type 0
 HeaderView bytes r = MatchResult r (HeaderThere bytes) (IsFault bytes)
 
-header_5 : (bytes : List ℕ) (at : ℕ) (coding : Coding) (colours cols rows max : ℕ) (front rest : List ℕ)
+header_5 : (bytes : List ℕ) (at : ℕ) (coding : RasterCoding) (colours cols rows max : ℕ) (front rest : List ℕ)
     → IsAt bytes at coding colours (cols ∷ rows ∷ max ∷ []) front rest → (r : Result ℕ PicFault)
     → MatchResult r (WhiteThere bytes at) (WhiteFails bytes at)
     → HeaderView bytes (r >>= λ end. Ok (record { coding = coding; colours = colours; cols = cols; rows = rows; max = max; end = end }))
@@ -308,7 +308,7 @@ header_5 bytes at coding colours cols rows max front rest here (Ok end) (white, 
       rest_is = ap (λ (n : ℕ). drop n bytes) place ∙ behind bytes (white ∷ []) more at after;
     }
 
-header_4 : (bytes : List ℕ) (at : ℕ) (coding : Coding) (colours cols rows : ℕ) (front rest : List ℕ)
+header_4 : (bytes : List ℕ) (at : ℕ) (coding : RasterCoding) (colours cols rows : ℕ) (front rest : List ℕ)
     → IsAt bytes at coding colours (cols ∷ rows ∷ []) front rest → (r : Result (ℕ × ℕ) PicFault)
     → MatchResult r (FieldThere 65535 bytes at) (FieldFails 65535 BadMax bytes at)
     → HeaderView bytes (r
@@ -327,7 +327,7 @@ header_4 bytes at coding colours cols rows front rest here (Ok x) there =
     header_5 bytes x.1 coding colours cols rows x.0 (front ++ (there.gap ++ there.digits)) there.rest next (white_read bytes x.1)
     (white_view bytes x.1 inside)
 
-header_3 : (bytes : List ℕ) (at : ℕ) (coding : Coding) (colours cols : ℕ) (front rest : List ℕ)
+header_3 : (bytes : List ℕ) (at : ℕ) (coding : RasterCoding) (colours cols : ℕ) (front rest : List ℕ)
     → IsAt bytes at coding colours (cols ∷ []) front rest → (r : Result (ℕ × ℕ) PicFault)
     → MatchResult r (FieldThere 4096 bytes at) (FieldFails 4096 BadSize bytes at)
     → HeaderView bytes (r
@@ -346,7 +346,7 @@ header_3 bytes at coding colours cols front rest here (Ok x) there =
     header_4 bytes x.1 coding colours cols x.0 (front ++ (there.gap ++ there.digits)) there.rest next (max_read bytes x.1)
     (max_view bytes x.1 inside)
 
-header_2 : (bytes : List ℕ) (at : ℕ) (coding : Coding) (colours : ℕ) (front rest : List ℕ) → IsAt bytes at coding colours [] front rest
+header_2 : (bytes : List ℕ) (at : ℕ) (coding : RasterCoding) (colours : ℕ) (front rest : List ℕ) → IsAt bytes at coding colours [] front rest
     → (r : Result (ℕ × ℕ) PicFault)
     → MatchResult r (FieldThere 4096 bytes at) (FieldFails 4096 BadSize bytes at)
     → HeaderView bytes (r
@@ -364,7 +364,7 @@ header_2 bytes at coding colours front rest here (Ok x) there =
     header_3 bytes x.1 coding colours x.0 (front ++ (there.gap ++ there.digits)) there.rest next (size_read bytes x.1)
     (size_view bytes x.1 inside)
 
-header_1 : (bytes : List ℕ) (r : Result (Coding × ℕ) PicFault) → MagicView bytes r
+header_1 : (bytes : List ℕ) (r : Result (RasterCoding × ℕ) PicFault) → MagicView bytes r
     → HeaderView bytes (r
     >>= λ m. size_read bytes 2
     >>= λ cols. size_read bytes cols.1
@@ -387,7 +387,7 @@ header_view bytes = header_1 bytes (magic_read bytes) (magic_view bytes)
 
 -- ---- each header is read
 
-pub header_complete : (coding : Coding) (colours cols rows max : ℕ) (fields : List ℕ) (white : ℕ) (rest : List ℕ)
+pub header_complete : (coding : RasterCoding) (colours cols rows max : ℕ) (fields : List ℕ) (white : ℕ) (rest : List ℕ)
     → (colours ≡ 1) ⊎ (colours ≡ 3) → IsFields (cols ∷ rows ∷ max ∷ []) fields
     → InRange 4096 cols → InRange 4096 rows → InRange 65535 max → is_white white ≡ true → (bytes : List ℕ)
     → bytes ≡ magic coding colours ++ (fields ++ white ∷ rest)

@@ -2,9 +2,9 @@
 use Rattle.std.proofs.Common.{◌≡◌, ℕ, ◌+◌, ◌-◌, ◌*◌, ◌/◌, ◌≤◌, ◌<◌, ◌⊎◌, inl, List, length, take, drop, Ok, Err, sym, ap, subst, ◌∙◌, arith, drop-drop}
 use Rattle.std.proofs.lemmas.List.{take_all, take_rest, get_or-drop}
 use Rattle.netpbm.specs.declared.fault.PicFault.{PicFault}
-use Rattle.netpbm.specs.declared.header.Coding.{Coding}
-use Rattle.netpbm.specs.declared.header.Coding.TheVariants.{Raw}
-use Rattle.netpbm.specs.declared.header.Header.{Header}
+use Rattle.netpbm.specs.declared.header.RasterCoding.{RasterCoding}
+use Rattle.netpbm.specs.declared.header.RasterCoding.TheVariants.{Raw}
+use Rattle.netpbm.specs.declared.header.PictureHeader.{PictureHeader}
 use Rattle.netpbm.specs.Colours.{interleaved, separated}
 use Rattle.netpbm.specs.Gives.{Fails}
 use Rattle.netpbm.specs.Image.{image, IsImage}
@@ -38,14 +38,14 @@ pub header_fault : (items bytes : List ℕ) (start : ℕ) (e : PicFault) → byt
 header_fault items bytes start e same h = subst (λ (l : List ℕ). Fails e (picture_read l)) same (header_fails bytes e h)
 
 -- in the parts of an input behind a place
-module _ (items bytes : List ℕ) (start : ℕ) (h : Header) (same : bytes ≡ drop start items)
+module _ (items bytes : List ℕ) (start : ℕ) (h : PictureHeader) (same : bytes ≡ drop start items)
     (header : header_read (drop start items) ≡ Ok h) (raw : h.coding ≡ Raw) where
   header_here : header_read bytes ≡ Ok h
   header_here = ap header_read same ∙ header
 
   pub raster_fault : (e : PicFault) → planes_read Raw bytes h ≡ Err e → Fails e (picture_read (drop start items))
   raster_fault e fault =
-      let here = subst (λ (coding : Coding). planes_read coding bytes h ≡ Err e) (sym raw) fault in
+      let here = subst (λ (coding : RasterCoding). planes_read coding bytes h ≡ Err e) (sym raw) fault in
       subst (λ (l : List ℕ). Fails e (picture_read l)) same (planes_fail bytes h e header_here (inl here))
 
   pub record IsThere : Type 0 where
@@ -62,7 +62,7 @@ module _ (items bytes : List ℕ) (start : ℕ) (h : Header) (same : bytes ≡ d
       let there : planes_read Raw bytes h ≡ Ok (separated h.colours (decoded h.max raster)) =
       subst (λ (l : List ℕ). planes_read Raw bytes h ≡ Ok (separated h.colours (decoded h.max l))) place planes in
       let read = reads bytes h (separated h.colours (decoded h.max raster)) header_here
-      (subst (λ (coding : Coding). planes_read coding bytes h ≡ Ok (separated h.colours (decoded h.max raster))) (sym raw) there) in
+      (subst (λ (coding : RasterCoding). planes_read coding bytes h ≡ Ok (separated h.colours (decoded h.max raster))) (sym raw) there) in
       let p = image h.rows h.cols h.max (separated h.colours (decoded h.max raster)) in
       let here = subst (λ (l : List ℕ). picture_read l ≡ Ok p) same read in
       record { read = here; whole = (is_picture (drop start items) p (AreBytes-drop start items are) here).image }

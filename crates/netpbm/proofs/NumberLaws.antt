@@ -11,7 +11,7 @@ use Rattle.std.proofs.lemmas.List.{take-append-drop, length-take-le, length-drop
 use Rattle.std.proofs.lemmas.List.Sums.{prefix_len-le-length}
 use Rattle.netpbm.specs.declared.fault.PicFault.{PicFault}
 use Rattle.netpbm.specs.declared.fault.PicFault.TheVariants.{HeaderCut, BadNumber, BadSize, BadMax, CommentBehindDigit}
-use Rattle.netpbm.specs.declared.header.Number.{Number}
+use Rattle.netpbm.specs.declared.header.HeaderNumber.{HeaderNumber}
 use Rattle.netpbm.specs.Image.{InRange}
 use Rattle.netpbm.specs.Text.{is_white, begins_filler, digits_len, digits_in_front}
 use Rattle.netpbm.specs.Scanning.{gap_len}
@@ -31,7 +31,7 @@ pub behind : (bytes xs ys : List ℕ) (at : ℕ) → drop at bytes ≡ xs ++ ys 
 behind bytes xs ys at e = sym (drop-drop (length xs) at bytes) ∙ ap (drop (length xs)) e ∙ drop_at xs ys (length xs) refl
 
 -- a gap, the digits of a number, and what follows
-pub record NumberThere (bytes : List ℕ) (at : ℕ) (n : Number) : Type 0 where
+pub record NumberThere (bytes : List ℕ) (at : ℕ) (n : HeaderNumber) : Type 0 where
   pub gap : List ℕ
   pub digits : List ℕ
   pub rest : List ℕ
@@ -81,8 +81,8 @@ number_view bytes at le =
     let size : length (take len xs) ≡ len = length-take-le len xs within in
     let whole : xs ≡ take len xs ++ rest = sym (take-append-drop len xs) ∙ ap (λ l. take len xs ++ l) rest-is in
     let test = ltb at start && ltb start (start + count) in
-    let n : Number = record { value = min 65536 (digits_value 10 (digits_in_front rest)); start = start; end = start + count } in
-    let P : Result Number PicFault → Type 0 = λ r. MatchResult r (NumberThere bytes at) (StopThere bytes at) in
+    let n : HeaderNumber = record { value = min 65536 (digits_value 10 (digits_in_front rest)); start = start; end = start + count } in
+    let P : Result HeaderNumber PicFault → Type 0 = λ r. MatchResult r (NumberThere bytes at) (StopThere bytes at) in
     elim (cases_Bool test) [
       | inl h ↦
           let tests = and_parts (ltb at start) (ltb start (start + count)) h in
@@ -187,13 +187,13 @@ pub record BadThere (limit : ℕ) (bytes : List ℕ) (at start : ℕ) : Type 0 w
   pub out : InRange limit number → ⊥
   pub place : start ≡ at + length gap
 
-abbrev pub field_read : ℕ → (ℕ → PicFault) → Result Number PicFault → Result (ℕ × ℕ) PicFault
+abbrev pub field_read : ℕ → (ℕ → PicFault) → Result HeaderNumber PicFault → Result (ℕ × ℕ) PicFault
 field_read limit bad r = r >>= λ n. cond (ltb n.value 1 || ltb limit n.value) (Err (bad n.start)) (Ok (n.value, n.end))
 
 abbrev pub FieldFails : ℕ → (ℕ → PicFault) → List ℕ → ℕ → PicFault → Type 0
 FieldFails limit bad bytes at e = StopThere bytes at e ⊎ ((start : ℕ) × (e ≡ bad start) × BadThere limit bytes at start)
 
-pub field_view : (limit : ℕ) (bad : ℕ → PicFault) (bytes : List ℕ) (at : ℕ) (r : Result Number PicFault) → limit ≤ 65535
+pub field_view : (limit : ℕ) (bad : ℕ → PicFault) (bytes : List ℕ) (at : ℕ) (r : Result HeaderNumber PicFault) → limit ≤ 65535
     → MatchResult r (NumberThere bytes at) (StopThere bytes at)
     → MatchResult (field_read limit bad r) (FieldThere limit bytes at) (FieldFails limit bad bytes at)
 field_view limit bad bytes at (Err e) le h = inl h
@@ -247,7 +247,7 @@ pub max_view : (bytes : List ℕ) (at : ℕ) → at ≤ length bytes
 unfolding max_read
 max_view bytes at le = field_view 65535 BadMax bytes at (number_read bytes at) (omega arith) (number_view bytes at le)
 
-field_complete : (limit : ℕ) (bad : ℕ → PicFault) (n : Number) (value : ℕ) → limit ≤ 65535 → n.value ≡ min 65536 value → InRange limit value
+field_complete : (limit : ℕ) (bad : ℕ → PicFault) (n : HeaderNumber) (value : ℕ) → limit ≤ 65535 → n.value ≡ min 65536 value → InRange limit value
     → field_read limit bad (Ok n) ≡ Ok (value, n.end)
 field_complete limit bad n value le e range =
     let same : n.value ≡ value = omega (arith, range.most) in

@@ -6,9 +6,9 @@ use Rattle.std.specs.List.{list_all}
 use Rattle.std.proofs.lemmas.Bool.{and_parts}
 use Rattle.std.proofs.lemmas.List.{length-append, length-drop}
 use Rattle.netpbm.specs.declared.fault.PicFault.{PicFault}
-use Rattle.netpbm.specs.declared.header.Coding.{Coding}
-use Rattle.netpbm.specs.declared.header.Coding.TheVariants.{Plain, Raw}
-use Rattle.netpbm.specs.declared.header.Header.{Header}
+use Rattle.netpbm.specs.declared.header.RasterCoding.{RasterCoding}
+use Rattle.netpbm.specs.declared.header.RasterCoding.TheVariants.{Plain, Raw}
+use Rattle.netpbm.specs.declared.header.PictureHeader.{PictureHeader}
 use Rattle.netpbm.specs.Image.{Image, image}
 use Rattle.netpbm.specs.Colours.{interleaved, separated}
 use Rattle.netpbm.specs.Raw.{raw_raster}
@@ -27,7 +27,7 @@ use Rattle.netpbm.proofs.ColourLaws.{separated_are, interleaved_are}
 abbrev PictureView : List ℕ → Result Image PicFault → Type 0
 PictureView bytes r = MatchResult r (IsPicture bytes) (IsFault bytes)
 
-module _ (bytes : List ℕ) (coding : Coding) (colours cols rows max end : ℕ)
+module _ (bytes : List ℕ) (coding : RasterCoding) (colours cols rows max end : ℕ)
     (there : HeaderThere bytes (record { coding = coding; colours = colours; cols = cols; rows = rows; max = max; end = end })) where
   pub max_fits : max ≤ 65535
   max_fits = there.front_is.ranges.1.1.0.most
@@ -268,7 +268,7 @@ module _ (bytes : List ℕ) (colours cols rows max end : ℕ)
 
 -- ---- the whole
 
-raster_picture : (bytes : List ℕ) (coding : Coding) (colours cols rows max end : ℕ)
+raster_picture : (bytes : List ℕ) (coding : RasterCoding) (colours cols rows max end : ℕ)
     → HeaderThere bytes (record { coding = coding; colours = colours; cols = cols; rows = rows; max = max; end = end }) → AreBytes bytes
     → PictureView bytes
     (raster_read coding bytes end max (colours * (rows * cols)) >>= λ samples. Ok (image rows cols max (separated colours samples)))
@@ -281,7 +281,7 @@ raster_picture bytes Raw colours cols rows max end there h =
     raw_picture bytes colours cols rows max end there (raw_read bytes end max (colours * (rows * cols)))
     (raw_view bytes end max (colours * (rows * cols)) h)
 
-header_picture : (bytes : List ℕ) (r : Result Header PicFault) → HeaderView bytes r → AreBytes bytes
+header_picture : (bytes : List ℕ) (r : Result PictureHeader PicFault) → HeaderView bytes r → AreBytes bytes
     → PictureView bytes (r
     >>= λ h. raster_read h.coding bytes h.end h.max (h.colours * (h.rows * h.cols))
     >>= λ samples. Ok (image h.rows h.cols h.max (separated h.colours samples)))
@@ -298,7 +298,7 @@ white_ends : (ws : List ℕ) → IsWhite ws → NoDigit ws
 white_ends [] h = tt
 white_ends (w ∷ ws) h = white_no_digit w (and_parts (is_white w) (list_all is_white ws) h).0
 
-raster_complete : (bytes : List ℕ) (coding : Coding) (end max count : ℕ) (samples raster : List ℕ) → end ≤ length bytes → max ≤ 65535
+raster_complete : (bytes : List ℕ) (coding : RasterCoding) (end max count : ℕ) (samples raster : List ℕ) → end ≤ length bytes → max ≤ 65535
     → drop end bytes ≡ raster → IsRaster coding max samples raster → All (λ s. s ≤ max) samples → count ≡ length samples
     → raster_read coding bytes end max count ≡ Ok samples
 unfolding plain_read
@@ -339,6 +339,6 @@ picture_complete bytes p h =
     h.raster_is planes.bounded (sym planes.number) in
     rw (header, raster) (ap (λ (ps : List (List ℕ)). Ok (image p.rows p.cols p.max ps)) planes.apart)
   where
-    length_magic : (coding : Coding) (colours : ℕ) → length (magic coding colours) ≡ 2
+    length_magic : (coding : RasterCoding) (colours : ℕ) → length (magic coding colours) ≡ 2
     length_magic Plain colours = refl
     length_magic Raw colours = refl

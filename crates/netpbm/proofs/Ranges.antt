@@ -2,7 +2,7 @@
 use Rattle.std.proofs.Common.{◌≡◌, ℕ, ◌+◌, ◌-◌, ◌<◌, ◌≤◌, List, ◌++◌, length, get_or, take, drop, sym, ap, ◌∙◌, arith, append_assoc}
 use Rattle.std.specs.List.{slice_range}
 use Rattle.std.proofs.lemmas.List.{length-take-le, length-drop, get_or-drop, get_or-take}
-use Rattle.plane_samples.specs.declared.samples.Samples.{Samples}
+use Rattle.plane_samples.specs.declared.samples.PlaneSamples.{PlaneSamples}
 use Rattle.plane_samples.specs.Samples.{sample_in, IsSamples}
 use Rattle.netpbm.proofs.Rasters.{copied, take_part}
 
@@ -12,7 +12,7 @@ length_range list start end le = length-take-le (end - start) (drop start list) 
 pub get_range : (list : List ℕ) (start end k : ℕ) → k < end - start → get_or (slice_range list start end) k 0 ≡ get_or list (start + k) 0
 get_range list start end k lt = get_or-take (end - start) (drop start list) k 0 lt ∙ get_or-drop start list k 0
 
-pub copied_part : (out : List ℕ) (samples : Samples) (start end : ℕ) (list : List ℕ) → IsSamples samples list → end ≤ length list
+pub copied_part : (out : List ℕ) (samples : PlaneSamples) (start end : ℕ) (list : List ℕ) → IsSamples samples list → end ≤ length list
     → end - start ≤ length out → ((k : ℕ) → k < end - start → get_or out k 0 ≡ sample_in samples (start + k))
     → take (end - start) out ≡ slice_range list start end
 copied_part out samples start end list is within room h =

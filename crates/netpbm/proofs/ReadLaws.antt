@@ -7,8 +7,8 @@ use Rattle.std.proofs.lemmas.Fmt.{decimal_is_IsNumeral}
 use Rattle.std.proofs.lemmas.Result.{MatchResult-at_ok, MatchResult-at_err}
 use Rattle.netpbm.specs.declared.fault.PicFault.{PicFault}
 use Rattle.netpbm.specs.declared.fault.PicFault.TheVariants.{Memory}
-use Rattle.netpbm.specs.declared.header.Coding.TheVariants.{Raw}
-use Rattle.netpbm.specs.declared.header.Header.{Header}
+use Rattle.netpbm.specs.declared.header.RasterCoding.TheVariants.{Raw}
+use Rattle.netpbm.specs.declared.header.PictureHeader.{PictureHeader}
 use Rattle.netpbm.specs.Image.{Image, image, IsImage}
 use Rattle.netpbm.specs.Colours.{interleaved, separated}
 use Rattle.netpbm.specs.Raw.{width_of, decoded, raw_raster}
@@ -51,14 +51,14 @@ gives_on (Err e) planes f g h = absurd (never planes e h)
     never : (planes : List (List ℕ)) (e : PicFault) → (let r : Result (List (List ℕ)) PicFault = Err e in r) ≡ Ok planes → ⊥
     never planes e h = cc
 
-pub planes_fail : (bytes : List ℕ) (h : Header) (e : PicFault) → header_read bytes ≡ Ok h → Fails e (planes_read h.coding bytes h)
+pub planes_fail : (bytes : List ℕ) (h : PictureHeader) (e : PicFault) → header_read bytes ≡ Ok h → Fails e (planes_read h.coding bytes h)
     → Fails e (picture_read bytes)
 unfolding picture_read
 planes_fail bytes h e is fails =
     rw is (fails_on (raster_read h.coding bytes h.end h.max (h.colours * (h.rows * h.cols))) e (separated h.colours)
     (λ planes. image h.rows h.cols h.max planes) fails)
 
-pub reads : (bytes : List ℕ) (h : Header) (planes : List (List ℕ)) → header_read bytes ≡ Ok h
+pub reads : (bytes : List ℕ) (h : PictureHeader) (planes : List (List ℕ)) → header_read bytes ≡ Ok h
     → planes_read h.coding bytes h ≡ Ok planes → picture_read bytes ≡ Ok (image h.rows h.cols h.max planes)
 unfolding picture_read
 reads bytes h planes is r =
@@ -66,7 +66,7 @@ reads bytes h planes is r =
     (λ planes. image h.rows h.cols h.max planes) r)
 
 -- the planes of a raster of as many samples as the header tells, none above the greatest
-pub raw_planes_are : (bytes raster : List ℕ) (h : Header) (planes : List (List ℕ)) → raster ≡ drop h.end bytes
+pub raw_planes_are : (bytes raster : List ℕ) (h : PictureHeader) (planes : List (List ℕ)) → raster ≡ drop h.end bytes
     → length raster ≡ (h.colours * (h.rows * h.cols)) * width_of h.max → All (λ s. s ≤ h.max) (decoded h.max raster)
     → planes ≡ separated h.colours (decoded h.max raster) → planes_read Raw bytes h ≡ Ok planes
 raw_planes_are bytes raster h planes same size bounded are =

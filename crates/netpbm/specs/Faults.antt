@@ -5,8 +5,8 @@ use Rattle.std.specs.Char.{is_ascii_digit}
 use Rattle.netpbm.specs.declared.fault.PicFault.{PicFault}
 use Rattle.netpbm.specs.declared.fault.PicFault.TheVariants.{OtherFormat, HeaderCut, BadNumber, BadSize, BadMax}
 use Rattle.netpbm.specs.declared.fault.PicFault.TheVariants.{CommentBehindDigit, RasterCut, SampleTooBig, TrailingBytes, Memory}
-use Rattle.netpbm.specs.declared.header.Coding.{Coding}
-use Rattle.netpbm.specs.declared.header.Coding.TheVariants.{Plain, Raw}
+use Rattle.netpbm.specs.declared.header.RasterCoding.{RasterCoding}
+use Rattle.netpbm.specs.declared.header.RasterCoding.TheVariants.{Plain, Raw}
 use Rattle.netpbm.specs.Grammar.{magic, IsNumber, Filler, IsGap, IsFields, NoDigit, IsWhite, IsSamples, IsPicture}
 use Rattle.netpbm.specs.Image.{Image, InRange}
 use Rattle.netpbm.specs.Raw.{width_of, sample_bytes, raw_raster}
@@ -21,7 +21,7 @@ Fit [] (n ∷ ns) = ⊥
 Fit (limit ∷ limits) (n ∷ ns) = InRange limit n × Fit limits ns
 
 -- a header up to the last digit of the first numbers
-pub record IsHeaderFront (coding : Coding) (colours : ℕ) (numbers front : List ℕ) : Type 0 where
+pub record IsHeaderFront (coding : RasterCoding) (colours : ℕ) (numbers front : List ℕ) : Type 0 where
   pub fields : List ℕ
   pub parts : front ≡ magic coding colours ++ fields
   pub colours_are : (colours ≡ 1) ⊎ (colours ≡ 3)
@@ -35,7 +35,7 @@ pub data CutFiller : List ℕ → Type 0 where
 
 -- the bytes end in a gap or in its place; nothing may follow the greatest sample but its one white byte
 pub record EndsInHeader (bytes : List ℕ) : Type 0 where
-  pub coding : Coding
+  pub coding : RasterCoding
   pub colours : ℕ
   pub numbers : List ℕ
   pub front : List ℕ
@@ -47,7 +47,7 @@ pub record EndsInHeader (bytes : List ℕ) : Type 0 where
 
 -- after a gap, or in its place, is a byte that continues nothing
 pub record HasBadHeaderByte (bytes : List ℕ) (at : ℕ) : Type 0 where
-  pub coding : Coding
+  pub coding : RasterCoding
   pub colours : ℕ
   pub numbers : List ℕ
   pub front : List ℕ
@@ -65,7 +65,7 @@ pub record HasBadHeaderByte (bytes : List ℕ) (at : ℕ) : Type 0 where
 
 -- after `before` numbers is one, taken whole, that is out of its range
 pub record HasBadField (limit : ℕ) (bytes : List ℕ) (at before : ℕ) : Type 0 where
-  pub coding : Coding
+  pub coding : RasterCoding
   pub colours : ℕ
   pub numbers : List ℕ
   pub front : List ℕ
@@ -84,7 +84,7 @@ pub record HasBadField (limit : ℕ) (bytes : List ℕ) (at before : ℕ) : Type
 
 -- a `#` is directly after the greatest sample
 pub record HasCommentBehindMax (bytes : List ℕ) (at : ℕ) : Type 0 where
-  pub coding : Coding
+  pub coding : RasterCoding
   pub colours : ℕ
   pub numbers : List ℕ
   pub front : List ℕ
@@ -97,17 +97,17 @@ pub record HasCommentBehindMax (bytes : List ℕ) (at : ℕ) : Type 0 where
 -- ---- the raster
 
 -- the first samples of a raster
-abbrev pub IsRasterFront : Coding → ℕ → List ℕ → List ℕ → Type 0
+abbrev pub IsRasterFront : RasterCoding → ℕ → List ℕ → List ℕ → Type 0
 IsRasterFront Plain max samples bytes = IsSamples samples bytes
 IsRasterFront Raw max samples bytes = bytes ≡ raw_raster max samples
 
 -- what follows the first samples leaves the last of them as it is
-abbrev pub LeavesWhole : Coding → List ℕ → List ℕ → Type 0
+abbrev pub LeavesWhole : RasterCoding → List ℕ → List ℕ → Type 0
 LeavesWhole Plain samples rest = 0 < length samples → NoDigit rest
 LeavesWhole Raw samples rest = Unit {0}
 
 -- a whole header, and the first samples after it, none above the greatest
-pub record HasSamples (bytes : List ℕ) (coding : Coding) (max count : ℕ) (samples : List ℕ) (at : ℕ) (rest : List ℕ) : Type 0 where
+pub record HasSamples (bytes : List ℕ) (coding : RasterCoding) (max count : ℕ) (samples : List ℕ) (at : ℕ) (rest : List ℕ) : Type 0 where
   pub colours : ℕ
   pub cols : ℕ
   pub rows : ℕ
@@ -124,12 +124,12 @@ pub record HasSamples (bytes : List ℕ) (coding : Coding) (max count : ℕ) (sa
   pub leaves : LeavesWhole coding samples rest
 
 -- too little for one more sample
-abbrev pub IsNoSample : Coding → ℕ → List ℕ → Type 0
+abbrev pub IsNoSample : RasterCoding → ℕ → List ℕ → Type 0
 IsNoSample Plain max rest = IsWhite rest
 IsNoSample Raw max rest = length rest < width_of max
 
 pub record EndsInRaster (bytes : List ℕ) : Type 0 where
-  pub coding : Coding
+  pub coding : RasterCoding
   pub max : ℕ
   pub count : ℕ
   pub samples : List ℕ
@@ -156,12 +156,12 @@ pub record HasBadRasterByte (bytes : List ℕ) (at : ℕ) : Type 0 where
   pub no_digit : is_ascii_digit byte ≡ false
 
 -- one sample at the front of the rest
-abbrev pub IsSample : Coding → ℕ → ℕ → List ℕ → List ℕ → List ℕ → Type 0
+abbrev pub IsSample : RasterCoding → ℕ → ℕ → List ℕ → List ℕ → List ℕ → Type 0
 IsSample Plain max sample white spelled rest = IsWhite white × IsNumber spelled sample × NoDigit rest
 IsSample Raw max sample white spelled rest = (white ≡ []) × (spelled ≡ sample_bytes max sample)
 
 pub record HasBigSample (bytes : List ℕ) (at : ℕ) : Type 0 where
-  pub coding : Coding
+  pub coding : RasterCoding
   pub max : ℕ
   pub count : ℕ
   pub samples : List ℕ
@@ -177,12 +177,12 @@ pub record HasBigSample (bytes : List ℕ) (at : ℕ) : Type 0 where
   pub big : max < sample
 
 -- what may follow the raster
-abbrev pub IsBehind : Coding → List ℕ → ℕ → Type 0
+abbrev pub IsBehind : RasterCoding → List ℕ → ℕ → Type 0
 IsBehind Plain white byte = IsWhite white × (is_white byte ≡ false)
 IsBehind Raw white byte = white ≡ []
 
 pub record HasTrailingByte (bytes : List ℕ) (at : ℕ) : Type 0 where
-  pub coding : Coding
+  pub coding : RasterCoding
   pub max : ℕ
   pub count : ℕ
   pub samples : List ℕ

@@ -3,15 +3,15 @@ use Rattle.std.specs.Prelude.{◌≡◌, ℕ, ◌<◌, false, true, ◌==◌, if
 use Rattle.std.specs.Char.{is_ascii_digit}
 use Rattle.std.specs.List.{list_all}
 use Rattle.std.specs.Str.Parse.{IsNumeral, digits_value}
-use Rattle.netpbm.specs.declared.header.Coding.{Coding}
-use Rattle.netpbm.specs.declared.header.Coding.TheVariants.{Plain, Raw}
+use Rattle.netpbm.specs.declared.header.RasterCoding.{RasterCoding}
+use Rattle.netpbm.specs.declared.header.RasterCoding.TheVariants.{Plain, Raw}
 use Rattle.netpbm.specs.Colours.{interleaved}
 use Rattle.netpbm.specs.Image.{Image, IsImage}
 use Rattle.netpbm.specs.Raw.{raw_raster}
 use Rattle.netpbm.specs.Text.{is_white, is_comment_end, is_comment_byte}
 
 -- the first two bytes: `P2`, `P3`, `P5` or `P6`
-abbrev pub magic : Coding → ℕ → List ℕ
+abbrev pub magic : RasterCoding → ℕ → List ℕ
 magic Plain colours = 80 ∷ (if colours == 1 then 50 else 51) ∷ []
 magic Raw colours = 80 ∷ (if colours == 1 then 53 else 54) ∷ []
 
@@ -53,12 +53,12 @@ IsSamples (n ∷ ns) bytes =
     × IsSamples ns rest
 
 -- white space may follow a plain raster, and nothing a raw one
-abbrev pub IsRaster : Coding → ℕ → List ℕ → List ℕ → Type 0
+abbrev pub IsRaster : RasterCoding → ℕ → List ℕ → List ℕ → Type 0
 IsRaster Plain max samples bytes = (front white : List ℕ) × (bytes ≡ front ++ white) × IsSamples samples front × IsWhite white
 IsRaster Raw max samples bytes = bytes ≡ raw_raster max samples
 
 pub record IsPicture (bytes : List ℕ) (p : Image) : Type 0 where
-  pub coding : Coding
+  pub coding : RasterCoding
   pub fields : List ℕ
   pub white : ℕ
   pub raster : List ℕ

@@ -5,10 +5,10 @@ use Rattle.std.specs.Str.Parse.{digits_value}
 use Rattle.netpbm.specs.declared.fault.PicFault.{PicFault}
 use Rattle.netpbm.specs.declared.fault.PicFault.TheVariants.{OtherFormat, HeaderCut, BadNumber, BadSize, BadMax}
 use Rattle.netpbm.specs.declared.fault.PicFault.TheVariants.{CommentBehindDigit, RasterCut, SampleTooBig, TrailingBytes}
-use Rattle.netpbm.specs.declared.header.Coding.{Coding}
-use Rattle.netpbm.specs.declared.header.Coding.TheVariants.{Plain, Raw}
-use Rattle.netpbm.specs.declared.header.Header.{Header}
-use Rattle.netpbm.specs.declared.header.Number.{Number}
+use Rattle.netpbm.specs.declared.header.RasterCoding.{RasterCoding}
+use Rattle.netpbm.specs.declared.header.RasterCoding.TheVariants.{Plain, Raw}
+use Rattle.netpbm.specs.declared.header.PictureHeader.{PictureHeader}
+use Rattle.netpbm.specs.declared.header.HeaderNumber.{HeaderNumber}
 use Rattle.netpbm.specs.Colours.{separated}
 use Rattle.netpbm.specs.Image.{Image, image}
 use Rattle.netpbm.specs.Raw.{width_of, decoded, first_big}
@@ -29,7 +29,7 @@ stop cut bytes at = if nat_lt at (length bytes) then BadNumber at else cut
 abbrev pub header_stop : List ℕ → ℕ → PicFault
 header_stop bytes at = stop (HeaderCut at) bytes at
 
-abbrev pub kind_of : ℕ → Result (Coding × ℕ) PicFault
+abbrev pub kind_of : ℕ → Result (RasterCoding × ℕ) PicFault
 kind_of byte =
     if byte == 50 then Ok (Plain, 1)
     else (if byte == 51 then Ok (Plain, 3)
@@ -37,7 +37,7 @@ kind_of byte =
     else (if byte == 54 then Ok (Raw, 3)
     else Err (OtherFormat 1))))
 
-unfoldable pub magic_read : List ℕ → Result (Coding × ℕ) PicFault
+unfoldable pub magic_read : List ℕ → Result (RasterCoding × ℕ) PicFault
 magic_read bytes =
     if length bytes == 0 then Err (HeaderCut 0)
     else (if not (slice_index bytes 0 == 80) then Err (OtherFormat 0)
@@ -45,7 +45,7 @@ magic_read bytes =
     else kind_of (slice_index bytes 1)))
 
 -- a gap and a number
-unfoldable pub number_read : List ℕ → ℕ → Result Number PicFault
+unfoldable pub number_read : List ℕ → ℕ → Result HeaderNumber PicFault
 number_read bytes at =
     let start = at + gap_len false (drop at bytes) in
     let rest = drop start bytes in
@@ -69,7 +69,7 @@ white_read bytes at =
     else (if nat_lt at (length bytes) && (slice_index bytes at == 35) then Err (CommentBehindDigit at)
     else Err (header_stop bytes at))
 
-unfoldable pub header_read : List ℕ → Result Header PicFault
+unfoldable pub header_read : List ℕ → Result PictureHeader PicFault
 header_read bytes = do
   magic ← magic_read bytes
   cols ← size_read bytes 2
@@ -125,12 +125,12 @@ raw_read bytes start max count =
 
 -- ---- the whole
 
-abbrev pub raster_read : Coding → List ℕ → ℕ → ℕ → ℕ → Result (List ℕ) PicFault
+abbrev pub raster_read : RasterCoding → List ℕ → ℕ → ℕ → ℕ → Result (List ℕ) PicFault
 raster_read Plain bytes start max count = plain_read bytes start max count
 raster_read Raw bytes start max count = raw_read bytes start max count
 
 -- the planes that a header specifies, of a raster of this coding
-abbrev pub planes_read : Coding → List ℕ → Header → Result (List (List ℕ)) PicFault
+abbrev pub planes_read : RasterCoding → List ℕ → PictureHeader → Result (List (List ℕ)) PicFault
 planes_read coding bytes h = do
   samples ← raster_read coding bytes h.end h.max (h.colours * (h.rows * h.cols))
   Ok (separated h.colours samples)

@@ -6,7 +6,7 @@ ghost use Rattle.netpbm.specs.Planes.{samples_of};
 use std::alloc::{AllocError, Global};
 
 /// The planes of interleaved samples: as many as there are colours, 1 or 3.
-pub fn planes_of(
+pub fn split_into_planes(
     alloc: Global,
     samples: Vec<u16>,
     colours: usize,
@@ -14,7 +14,7 @@ pub fn planes_of(
     ensures { IfOk result (λ planes. samples_of planes.items ≡ separated colours samples.items) }
 {
     if colours != 1 {
-        return three_planes(alloc, samples.as_slice());
+        return split_into_colour_planes(alloc, samples.as_slice());
     }
     let mut planes = Vec::with_capacity(alloc, 1)?;
     planes.push(samples)?;
@@ -22,15 +22,15 @@ pub fn planes_of(
 }
 
 // The planes of interleaved samples of three colours.
-fn three_planes(alloc: Global, samples: &[u16]) -> Result<Vec<Vec<u16>>, AllocError>
+fn split_into_colour_planes(alloc: Global, samples: &[u16]) -> Result<Vec<Vec<u16>>, AllocError>
     ensures { IfOk result (λ planes. samples_of planes.items ≡ separated 3 samples.now) }
 {
     let all = samples.len() / 3;
-    let mut apart = Apart::with_capacity(alloc, all)?;
+    let mut apart = ColourPlanes::with_capacity(alloc, all)?;
     let mut done = 0;
     while done < all {
         let end = all.min(done + PIECE);
-        apart.add(&samples[3 * done..3 * end])?;
+        apart.append_interleaved(&samples[3 * done..3 * end])?;
         done = end;
     }
     apart.into_planes(alloc)
@@ -41,20 +41,20 @@ pub const PIECE: usize = 4096;
 
 /// A red, a green and a blue plane that grow.
 #[derive(Drop)]
-pub struct Apart {
+pub struct ColourPlanes {
     red: Vec<u16>,
     green: Vec<u16>,
     blue: Vec<u16>,
 }
 
-impl Apart {
+impl ColourPlanes {
     /// Empty planes with capacity for `area` samples each.
-    pub fn with_capacity(alloc: Global, area: usize) -> Result<Apart, AllocError>
+    pub fn with_capacity(alloc: Global, area: usize) -> Result<ColourPlanes, AllocError>
         ensures red { IfOk result (λ apart. apart.red.items ≡ []) }
         ensures green { IfOk result (λ apart. apart.green.items ≡ []) }
         ensures blue { IfOk result (λ apart. apart.blue.items ≡ []) }
     {
-        Ok(Apart {
+        Ok(ColourPlanes {
             red: Vec::with_capacity(alloc, area)?,
             green: Vec::with_capacity(alloc, area)?,
             blue: Vec::with_capacity(alloc, area)?,
@@ -62,7 +62,7 @@ impl Apart {
     }
 
     /// Adds interleaved red, green and blue samples to their planes.
-    pub fn add(&mut self, samples: &[u16]) -> Result<(), AllocError>
+    pub fn append_interleaved(&mut self, samples: &[u16]) -> Result<(), AllocError>
         requires { length samples.now ≤ 12288 }
         ensures red { OnOk result
             (self.new.red.items ≡ self.old.red.items ++ thirds 0 samples.now) }
@@ -74,7 +74,7 @@ impl Apart {
         let mut red = [0u16; PIECE];
         let mut green = [0u16; PIECE];
         let mut blue = [0u16; PIECE];
-        part(&mut red, &mut green, &mut blue, samples);
+        split_colour_samples(&mut red, &mut green, &mut blue, samples);
         let count = samples.len() / 3;
         self.red.extend_from_slice(&red[..count])?;
         self.green.extend_from_slice(&green[..count])?;
@@ -86,7 +86,7 @@ impl Apart {
         ensures { IfOk result (λ planes. samples_of planes.items
             ≡ self.red.items ∷ self.green.items ∷ self.blue.items ∷ []) }
     {
-        let Apart { red, green, blue } = self;
+        let ColourPlanes { red, green, blue } = self;
         let mut planes = Vec::with_capacity(alloc, 3)?;
         planes.push(red)?;
         planes.push(green)?;
@@ -97,7 +97,7 @@ impl Apart {
 
 // Puts the red, the green and the blue ones of interleaved samples into the fronts of three buffers.
 #[tactic(auto, using(crate::proofs::Rasters::gathered))]
-fn part(red: &mut [u16], green: &mut [u16], blue: &mut [u16], samples: &[u16])
+fn split_colour_samples(red: &mut [u16], green: &mut [u16], blue: &mut [u16], samples: &[u16])
     requires red { length samples.now ≤ 3 * length red.old }
     requires green { length samples.now ≤ 3 * length green.old }
     requires blue { length samples.now ≤ 3 * length blue.old }
@@ -114,7 +114,7 @@ fn part(red: &mut [u16], green: &mut [u16], blue: &mut [u16], samples: &[u16])
 
 /// Puts the samples of three planes, interleaved, into the front of `out`.
 #[tactic(auto, using(crate::proofs::Rasters::weaved))]
-pub fn weave(out: &mut [u16], red: &[u16], green: &[u16], blue: &[u16])
+pub fn interleave_samples(out: &mut [u16], red: &[u16], green: &[u16], blue: &[u16])
     requires green { length green.now ≡ length red.now }
     requires blue { length blue.now ≡ length red.now }
     requires room { 3 * length red.now ≤ length out.old }
@@ -129,7 +129,7 @@ pub fn weave(out: &mut [u16], red: &[u16], green: &[u16], blue: &[u16])
 
 /// The same of bytes.
 #[tactic(auto, using(crate::proofs::Rasters::weaved))]
-pub fn weave_bytes(out: &mut [u8], red: &[u8], green: &[u8], blue: &[u8])
+pub fn interleave_bytes(out: &mut [u8], red: &[u8], green: &[u8], blue: &[u8])
     requires green { length green.now ≡ length red.now }
     requires blue { length blue.now ≡ length red.now }
     requires room { 3 * length red.now ≤ length out.old }

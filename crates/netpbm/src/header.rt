@@ -5,11 +5,14 @@ ghost use Rattle.netpbm.specs.Reading.{magic_read, number_read, size_read, max_r
 
 use crate::fault::PicFault;
 use crate::picture::LONGEST_SIDE;
-use crate::text::{digits_at, gap_end, is_white, stop_at};
+use crate::text::{
+    is_netpbm_space, read_netpbm_digits, report_missing_netpbm_number,
+    skip_netpbm_spaces_and_comments,
+};
 
 /// How the samples of a raster are written.
 #[derive(Clone, Copy, Debug, PartialEq, Eq)]
-pub enum Coding {
+pub enum RasterCoding {
     /// In digits.
     Plain,
     /// In one byte or two.
@@ -18,8 +21,8 @@ pub enum Coding {
 
 /// What a header specifies, and where the raster begins.
 #[derive(Clone, Copy, Debug)]
-pub struct Header {
-    pub coding: Coding,
+pub struct PictureHeader {
+    pub coding: RasterCoding,
     /// The number of planes, 1 or 3.
     pub colours: usize,
     pub cols: u32,
@@ -31,7 +34,7 @@ pub struct Header {
 
 /// Reads the header of a picture.
 #[tactic(auto, unfolding(crate::specs::Reading::header_read))]
-pub fn read_header(bytes: &[u8]) -> Result<Header, PicFault>
+pub fn read_picture_header(bytes: &[u8]) -> Result<PictureHeader, PicFault>
     ensures read { result ≡ header_read bytes.now }
     ensures within { IfOk result (λ h. h.end ≤ length bytes.now) }
     ensures colours { IfOk result (λ h. (h.colours ≡ 1) ⊎ (h.colours ≡ 3)) }
@@ -39,12 +42,12 @@ pub fn read_header(bytes: &[u8]) -> Result<Header, PicFault>
     ensures rows { IfOk result (λ h. InRange 4096 h.rows) }
     ensures max { IfOk result (λ h. InRange 65535 h.max) }
 {
-    let (coding, colours) = magic(bytes)?;
-    let (cols, end) = size_at(bytes, 2)?;
-    let (rows, end) = size_at(bytes, end)?;
-    let (max, end) = max_at(bytes, end)?;
-    let end = white_at(bytes, end)?;
-    Ok(Header {
+    let (coding, colours) = read_picture_magic(bytes)?;
+    let (cols, end) = read_picture_side(bytes, 2)?;
+    let (rows, end) = read_picture_side(bytes, end)?;
+    let (max, end) = read_max_sample(bytes, end)?;
+    let end = read_picture_header_end(bytes, end)?;
+    Ok(PictureHeader {
         coding,
         colours,
         cols,
@@ -56,7 +59,7 @@ pub fn read_header(bytes: &[u8]) -> Result<Header, PicFault>
 
 // The coding and the number of planes that the first two bytes name.
 #[tactic(auto, unfolding(crate::specs::Reading::magic_read))]
-fn magic(bytes: &[u8]) -> Result<(Coding, usize), PicFault>
+fn read_picture_magic(bytes: &[u8]) -> Result<(RasterCoding, usize), PicFault>
     ensures read { result ≡ magic_read bytes.now }
     ensures long { IfOk result (λ _. 2 ≤ length bytes.now) }
     ensures colours { IfOk result (λ m. (m.1 ≡ 1) ⊎ (m.1 ≡ 3)) }
@@ -71,17 +74,17 @@ fn magic(bytes: &[u8]) -> Result<(Coding, usize), PicFault>
         return Err(PicFault::HeaderCut(1));
     }
     match bytes[1] {
-        b'2' => Ok((Coding::Plain, 1)),
-        b'3' => Ok((Coding::Plain, 3)),
-        b'5' => Ok((Coding::Raw, 1)),
-        b'6' => Ok((Coding::Raw, 3)),
+        b'2' => Ok((RasterCoding::Plain, 1)),
+        b'3' => Ok((RasterCoding::Plain, 3)),
+        b'5' => Ok((RasterCoding::Raw, 1)),
+        b'6' => Ok((RasterCoding::Raw, 3)),
         _ => Err(PicFault::OtherFormat(1)),
     }
 }
 
 // A number of the header: its value, which stops at 65536, and where its digits begin and end.
 #[derive(Clone, Copy)]
-struct Number {
+struct HeaderNumber {
     value: u32,
     start: usize,
     end: usize,
@@ -89,28 +92,28 @@ struct Number {
 
 // The gap at a place, and the number after it.
 #[tactic(auto, unfolding(crate::specs::Reading::number_read))]
-fn number_at(bytes: &[u8], at: usize) -> Result<Number, PicFault>
+fn read_netpbm_number(bytes: &[u8], at: usize) -> Result<HeaderNumber, PicFault>
     requires { at ≤ length bytes.now }
     ensures read { result ≡ number_read bytes.now at }
     ensures within { IfOk result (λ n. n.end ≤ length bytes.now) }
 {
-    let start = gap_end(bytes, at);
-    let (value, end) = digits_at(bytes, start);
+    let start = skip_netpbm_spaces_and_comments(bytes, at);
+    let (value, end) = read_netpbm_digits(bytes, start);
     if start > at && end > start {
-        return Ok(Number { value, start, end });
+        return Ok(HeaderNumber { value, start, end });
     }
-    Err(stop_at(bytes, start, PicFault::HeaderCut(start)))
+    Err(report_missing_netpbm_number(bytes, start, PicFault::HeaderCut(start)))
 }
 
 // A gap and a side after it, and where its digits end.
 #[tactic(auto, unfolding(crate::specs::Reading::size_read))]
-fn size_at(bytes: &[u8], at: usize) -> Result<(u32, usize), PicFault>
+fn read_picture_side(bytes: &[u8], at: usize) -> Result<(u32, usize), PicFault>
     requires { at ≤ length bytes.now }
     ensures read { result ≡ size_read bytes.now at }
     ensures within { IfOk result (λ n. n.1 ≤ length bytes.now) }
     ensures range { IfOk result (λ n. InRange 4096 n.0) }
 {
-    let number = number_at(bytes, at)?;
+    let number = read_netpbm_number(bytes, at)?;
     if number.value < 1 || number.value > LONGEST_SIDE {
         return Err(PicFault::BadSize(number.start));
     }
@@ -119,13 +122,13 @@ fn size_at(bytes: &[u8], at: usize) -> Result<(u32, usize), PicFault>
 
 // A gap and a greatest sample after it, and where its digits end.
 #[tactic(auto, unfolding(crate::specs::Reading::max_read))]
-fn max_at(bytes: &[u8], at: usize) -> Result<(u16, usize), PicFault>
+fn read_max_sample(bytes: &[u8], at: usize) -> Result<(u16, usize), PicFault>
     requires { at ≤ length bytes.now }
     ensures read { result ≡ max_read bytes.now at }
     ensures within { IfOk result (λ n. n.1 ≤ length bytes.now) }
     ensures range { IfOk result (λ n. InRange 65535 n.0) }
 {
-    let number = number_at(bytes, at)?;
+    let number = read_netpbm_number(bytes, at)?;
     if number.value < 1 || number.value > 65535 {
         return Err(PicFault::BadMax(number.start));
     }
@@ -134,16 +137,16 @@ fn max_at(bytes: &[u8], at: usize) -> Result<(u16, usize), PicFault>
 
 // The place after the one white byte that follows the greatest sample.
 #[tactic(auto, unfolding(crate::specs::Reading::white_read))]
-fn white_at(bytes: &[u8], at: usize) -> Result<usize, PicFault>
+fn read_picture_header_end(bytes: &[u8], at: usize) -> Result<usize, PicFault>
     requires { at ≤ length bytes.now }
     ensures read { result ≡ white_read bytes.now at }
     ensures within { IfOk result (λ end. end ≤ length bytes.now) }
 {
-    if at < bytes.len() && is_white(bytes[at]) {
+    if at < bytes.len() && is_netpbm_space(bytes[at]) {
         return Ok(at + 1);
     }
     if at < bytes.len() && bytes[at] == b'#' {
         return Err(PicFault::CommentBehindDigit(at));
     }
-    Err(stop_at(bytes, at, PicFault::HeaderCut(at)))
+    Err(report_missing_netpbm_number(bytes, at, PicFault::HeaderCut(at)))
 }

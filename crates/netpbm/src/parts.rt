@@ -1,14 +1,14 @@
 //! Parts of the samples of a plane.
 ghost use Rattle.std.specs.Prelude.{ℕ, List, IfSome, ◌≡◌, ◌≤◌, ◌-◌, length, take, slice_range};
 ghost use Rattle.plane_samples.specs.Samples.{count_in, IsSamples};
-ghost use Rattle.plane_samples.specs.declared.samples.Samples.TheVariants.{Bytes};
+ghost use Rattle.plane_samples.specs.declared.samples.PlaneSamples.TheVariants.{Bytes};
 
-use plane_samples::{Samples, SpacedBytes};
+use plane_samples::{PlaneSamples, SpacedBytes};
 
 /// A view of the samples from one place up to another: in place if they are words, else copied into the buffer `room`.
-pub fn lend_part<'a>(
+pub fn view_or_copy_samples<'a>(
     room: &'a mut [u16],
-    samples: &Samples<'a>,
+    samples: &PlaneSamples<'a>,
     start: usize,
     end: usize,
 ) -> &'a [u16]
@@ -19,16 +19,16 @@ pub fn lend_part<'a>(
         → result.now ≡ slice_range list start end }
 {
     match samples {
-        Samples::Words(words) => &words[start..end],
-        Samples::Bytes(_) | Samples::Pairs(_) => {
-            copy_each(room, samples, start, end);
+        PlaneSamples::Words(words) => &words[start..end],
+        PlaneSamples::Bytes(_) | PlaneSamples::Pairs(_) => {
+            copy_plane_samples(room, samples, start, end);
             &room[..end - start]
         }
     }
 }
 
 // Puts the samples from one place up to another into the front of `out`, one by one.
-fn copy_each(out: &mut [u16], samples: &Samples<'_>, start: usize, end: usize)
+fn copy_plane_samples(out: &mut [u16], samples: &PlaneSamples<'_>, start: usize, end: usize)
     requires order { start ≤ end }
     requires within { end ≤ count_in samples.now }
     requires room { end - start ≤ length out.old }
@@ -36,23 +36,23 @@ fn copy_each(out: &mut [u16], samples: &Samples<'_>, start: usize, end: usize)
         → take (end - start) out.new ≡ slice_range list start end }
 {
     for k in 0..end - start {
-        out[k] = samples.at(start + k);
+        out[k] = samples.load_sample(start + k);
     }
 }
 
 /// The samples as bytes, if each is a byte and they are contiguous.
-pub fn whole_bytes<'a>(samples: &Samples<'a>) -> Option<&'a [u8]>
+pub fn view_samples_as_bytes<'a>(samples: &PlaneSamples<'a>) -> Option<&'a [u8]>
     ensures { IfSome result
         (λ bytes. (list : List ℕ) → IsSamples samples.now list → bytes.now ≡ list) }
 {
     match samples {
-        Samples::Bytes(spaced) => unspaced(spaced),
-        Samples::Words(_) => None,
-        Samples::Pairs(_) => None,
+        PlaneSamples::Bytes(spaced) => view_contiguous_byte_samples(spaced),
+        PlaneSamples::Words(_) => None,
+        PlaneSamples::Pairs(_) => None,
     }
 }
 
-fn unspaced<'a>(spaced: &SpacedBytes<'a>) -> Option<&'a [u8]>
+fn view_contiguous_byte_samples<'a>(spaced: &SpacedBytes<'a>) -> Option<&'a [u8]>
     ensures { IfSome result
         (λ bytes. (list : List ℕ) → IsSamples (Bytes spaced.now) list → bytes.now ≡ list) }
 {

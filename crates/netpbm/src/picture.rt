@@ -9,10 +9,10 @@ ghost use Rattle.netpbm.specs.Rasters.{bytes_of, IsKept};
 ghost use Rattle.netpbm.specs.Raw.{decoded, raw_raster};
 ghost use Rattle.plane_samples.specs.Samples.{IsSamples};
 
-use crate::made_plane::{Plane, is_made_plane};
-use crate::parts::whole_bytes;
-use crate::raster::{KeptRaster, Raster, as_written, samples_in};
-use plane_samples::Samples;
+use crate::packed_plane::{PackedPlane, is_valid_packed_plane};
+use crate::parts::view_samples_as_bytes;
+use crate::raster::{KeptRaster, Raster, view_kept_raster, view_raster_plane};
+use plane_samples::PlaneSamples;
 use std::marker::Model;
 
 /// The longest side of a picture, in samples.
@@ -22,7 +22,7 @@ pub const LONGEST_SIDE: u32 = 4096;
 ///
 /// Both sides are from 1 to 4096 and the greatest sample `max` from 1 to 65535. Each plane has
 /// `rows * cols` samples, none above `max`, from the top row to the bottom one and from left to right.
-/// One that `read_owned` reads of a raw raster keeps the bytes that it was read from.
+/// One that `read_picture_in_place` reads of a raw raster keeps the bytes that it was read from.
 #[derive(Debug, Drop)]
 pub struct Picture {
     rows: u32,
@@ -57,25 +57,25 @@ impl Picture {
         ensures ok { IfOk result (λ p. p ≡ image rows cols max (samples_of planes.items)) }
         ensures refused { IfErr result (λ back. back ≡ planes) }
     {
-        if is_image(rows, cols, max, &planes) {
-            Ok(Picture::from_parts(rows, cols, max, planes))
+        if is_valid_picture(rows, cols, max, &planes) {
+            Ok(Picture::from_valid_planes(rows, cols, max, planes))
         } else {
             Err(planes)
         }
     }
 
     /// Like `of`, of planes that were made piece by piece.
-    pub fn of_planes(
+    pub fn from_packed_planes(
         rows: u32,
         cols: u32,
         max: u16,
-        planes: Vec<Plane>,
-    ) -> Result<Picture, Vec<Plane>>
+        planes: Vec<PackedPlane>,
+    ) -> Result<Picture, Vec<PackedPlane>>
         ensures exact { IsOk result ↔ IsImage (image rows cols max (made_samples planes.items)) }
         ensures ok { IfOk result (λ p. p ≡ image rows cols max (made_samples planes.items)) }
         ensures refused { IfErr result (λ back. back ≡ planes) }
     {
-        if is_made_image(rows, cols, max, &planes) {
+        if is_valid_packed_picture(rows, cols, max, &planes) {
             Ok(Picture {
                 rows,
                 cols,
@@ -88,7 +88,12 @@ impl Picture {
     }
 
     // A picture of parts that are known to be those of one.
-    pub(crate) fn from_parts(rows: u32, cols: u32, max: u16, planes: Vec<Vec<u16>>) -> Picture
+    pub(crate) fn from_valid_planes(
+        rows: u32,
+        cols: u32,
+        max: u16,
+        planes: Vec<Vec<u16>>,
+    ) -> Picture
         requires { IsImage (image rows cols max (samples_of planes.items)) }
         ensures { result ≡ image rows cols max (samples_of planes.items) }
     {
@@ -153,17 +158,17 @@ impl Picture {
     }
 
     /// The samples of a plane. Planes count from 0.
-    pub fn samples(&self, plane: usize) -> Samples<'_>
+    pub fn samples(&self, plane: usize) -> PlaneSamples<'_>
         requires { plane < length self.now.planes }
         ensures samples { IsSamples result (slice_index_or self.now.planes plane []) }
         ensures image { IsImage self.now }
     {
         match &self.raster {
-            Raster::Planes(planes) => Samples::Words(planes[plane].as_slice()),
+            Raster::Planes(planes) => PlaneSamples::Words(planes[plane].as_slice()),
             Raster::Made(planes) => planes[plane].samples(),
             Raster::Kept(raster) => {
                 let bytes = &raster.bytes[raster.start..];
-                samples_in(bytes, self.max, raster.colours, self.area(), plane)
+                view_raster_plane(bytes, self.max, raster.colours, self.area(), plane)
             }
         }
     }
@@ -178,16 +183,16 @@ impl Picture {
     }
 
     // The raster that is written, if it lies in memory in this form.
-    pub(crate) fn written(&self) -> Option<&[u8]>
+    pub(crate) fn view_raw_raster(&self) -> Option<&[u8]>
         ensures { IfSome result
             (λ bytes. bytes.now ≡ raw_raster self.now.max (interleaved self.now.planes)) }
     {
         match &self.raster {
             Raster::Planes(_) => None,
-            Raster::Made(planes) => written_bytes(planes, self.max),
+            Raster::Made(planes) => view_packed_grey_raster(planes, self.max),
             Raster::Kept(raster) => {
                 let bytes = &raster.bytes[raster.start..];
-                Some(as_written(bytes, self.max, raster.colours, self.area()))
+                Some(view_kept_raster(bytes, self.max, raster.colours, self.area()))
             }
         }
     }
@@ -201,12 +206,12 @@ impl Picture {
             ≡ slice_index (slice_index_or self.now.planes plane []) (row * self.now.cols + col) }
     {
         self.samples(plane)
-            .at(row as usize * self.cols as usize + col as usize)
+            .load_sample(row as usize * self.cols as usize + col as usize)
     }
 }
 
 // The bytes of a grey plane, if they are what is written of it.
-fn written_bytes(planes: &[Plane], max: u16) -> Option<&[u8]>
+fn view_packed_grey_raster(planes: &[PackedPlane], max: u16) -> Option<&[u8]>
     ensures { IfSome result
         (λ bytes. bytes.now ≡ raw_raster max (interleaved (made_samples planes.now))) }
 {
@@ -216,33 +221,33 @@ fn written_bytes(planes: &[Plane], max: u16) -> Option<&[u8]>
     if max > 255 {
         return None;
     }
-    whole_bytes(&planes[0].samples())
+    view_samples_as_bytes(&planes[0].samples())
 }
 
 // Whether these are the parts of a picture.
-fn is_image(rows: u32, cols: u32, max: u16, planes: &[Vec<u16>]) -> bool
+fn is_valid_picture(rows: u32, cols: u32, max: u16, planes: &[Vec<u16>]) -> bool
     ensures { IsTrue result ↔ IsImage (image rows cols max (samples_of planes.now)) }
 {
-    are_sizes(rows, cols, max, planes.len())
-        && are_planes(rows as usize * cols as usize, max, planes)
+    is_valid_picture_shape(rows, cols, max, planes.len())
+        && has_valid_planes(rows as usize * cols as usize, max, planes)
 }
 
 // Whether these are the parts of a picture.
-fn is_made_image(rows: u32, cols: u32, max: u16, planes: &[Plane]) -> bool
+fn is_valid_packed_picture(rows: u32, cols: u32, max: u16, planes: &[PackedPlane]) -> bool
     ensures { IsTrue result ↔ IsImage (image rows cols max (made_samples planes.now)) }
 {
-    are_sizes(rows, cols, max, planes.len())
-        && are_made_planes(rows as usize * cols as usize, max, planes)
+    is_valid_picture_shape(rows, cols, max, planes.len())
+        && has_valid_packed_planes(rows as usize * cols as usize, max, planes)
 }
 
 // Whether a picture may have these sides, this greatest sample and this number of planes.
-fn are_sizes(rows: u32, cols: u32, max: u16, colours: usize) -> bool
+fn is_valid_picture_shape(rows: u32, cols: u32, max: u16, colours: usize) -> bool
     ensures { IsTrue result ↔ AreSizes rows cols max colours }
 {
-    if !is_side(rows) {
+    if !is_picture_side(rows) {
         return false;
     }
-    if !is_side(cols) {
+    if !is_picture_side(cols) {
         return false;
     }
     if max == 0 {
@@ -255,35 +260,37 @@ fn are_sizes(rows: u32, cols: u32, max: u16, colours: usize) -> bool
 }
 
 // Whether a picture may have a side of this length.
-fn is_side(side: u32) -> bool
+fn is_picture_side(side: u32) -> bool
     ensures { IsTrue result ↔ InRange 4096 side }
 {
     0 < side && side <= LONGEST_SIDE
 }
 
 // Whether each plane has `area` samples, none above `max`.
-fn are_planes(area: usize, max: u16, planes: &[Vec<u16>]) -> bool
+fn has_valid_planes(area: usize, max: u16, planes: &[Vec<u16>]) -> bool
     ensures { IsTrue result ↔ All (λ plane. IsPlane area max plane.items) planes.now }
 {
-    planes.iter().all(|plane| is_plane(area, max, plane))
+    planes.iter().all(|plane| is_valid_plane(area, max, plane))
 }
 
 // The same of planes that were made piece by piece.
-fn are_made_planes(area: usize, max: u16, planes: &[Plane]) -> bool
+fn has_valid_packed_planes(area: usize, max: u16, planes: &[PackedPlane]) -> bool
     ensures { IsTrue result ↔ All (λ plane. IsPlane area max plane.samples) planes.now }
 {
-    planes.iter().all(|plane| is_made_plane(area, max, plane))
+    planes
+        .iter()
+        .all(|plane| is_valid_packed_plane(area, max, plane))
 }
 
 // Whether a plane has `area` samples, none above `max`.
-fn is_plane(area: usize, max: u16, plane: &Vec<u16>) -> bool
+fn is_valid_plane(area: usize, max: u16, plane: &Vec<u16>) -> bool
     ensures { IsTrue result ↔ IsPlane area max plane.now.items }
 {
-    plane.len() == area && is_bounded(max, plane.as_slice())
+    plane.len() == area && has_bounded_samples(max, plane.as_slice())
 }
 
 /// Whether no sample is above `max`. It always goes to the end, in a loop that is compiled to few steps.
-pub fn is_bounded(max: u16, samples: &[u16]) -> bool
+pub fn has_bounded_samples(max: u16, samples: &[u16]) -> bool
     ensures { IsTrue result ↔ All (λ sample. sample ≤ max) samples.now }
 {
     let mut greatest = 0;

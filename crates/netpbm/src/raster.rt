@@ -3,16 +3,16 @@ ghost use Rattle.std.specs.Prelude.{ℕ, ◌≡◌, ◌≤◌, ◌<◌, ◌+◌,
 ghost use Rattle.netpbm.specs.Colours.{interleaved, separated};
 ghost use Rattle.netpbm.specs.Raw.{width_of, decoded, pairs, raw_raster};
 ghost use Rattle.plane_samples.specs.Samples.{IsSamples};
-ghost use Rattle.plane_samples.specs.declared.samples.Samples.TheVariants.{Bytes, Pairs};
+ghost use Rattle.plane_samples.specs.declared.samples.PlaneSamples.TheVariants.{Bytes, Pairs};
 
-use crate::made_plane::Plane;
-use plane_samples::{Samples, SpacedBytes, SpacedPairs};
+use crate::packed_plane::PackedPlane;
+use plane_samples::{PlaneSamples, SpacedBytes, SpacedPairs};
 
 /// The samples of a picture.
 #[derive(Debug, Drop)]
 pub enum Raster {
     Planes(Vec<Vec<u16>>),
-    Made(Vec<Plane>),
+    Made(Vec<PackedPlane>),
     Kept(KeptRaster),
 }
 
@@ -26,7 +26,13 @@ pub struct KeptRaster {
 }
 
 /// The samples of a plane of a raw raster with `area` samples in each.
-pub fn samples_in(raster: &[u8], max: u16, colours: usize, area: usize, plane: usize) -> Samples<'_>
+pub fn view_raster_plane(
+    raster: &[u8],
+    max: u16,
+    colours: usize,
+    area: usize,
+    plane: usize,
+) -> PlaneSamples<'_>
     requires whole { length raster.now ≡ (colours * area) * width_of max }
     requires colours { (colours ≡ 1) ⊎ (colours ≡ 3) }
     requires some { 0 < area }
@@ -35,14 +41,14 @@ pub fn samples_in(raster: &[u8], max: u16, colours: usize, area: usize, plane: u
         (slice_index_or (separated colours (decoded max raster.now)) plane []) }
 {
     if max < 256 {
-        Samples::Bytes(bytes_in(raster, colours, area, plane))
+        PlaneSamples::Bytes(view_plane_bytes(raster, colours, area, plane))
     } else {
-        Samples::Pairs(pairs_in(raster, colours, area, plane))
+        PlaneSamples::Pairs(view_plane_byte_pairs(raster, colours, area, plane))
     }
 }
 
 // The bytes of a plane where each is a sample.
-fn bytes_in(raster: &[u8], colours: usize, area: usize, plane: usize) -> SpacedBytes<'_>
+fn view_plane_bytes(raster: &[u8], colours: usize, area: usize, plane: usize) -> SpacedBytes<'_>
     requires whole { length raster.now ≡ colours * area }
     requires colours { (colours ≡ 1) ⊎ (colours ≡ 3) }
     requires some { 0 < area }
@@ -57,7 +63,12 @@ fn bytes_in(raster: &[u8], colours: usize, area: usize, plane: usize) -> SpacedB
 }
 
 // The bytes of a plane where two are a sample.
-fn pairs_in(raster: &[u8], colours: usize, area: usize, plane: usize) -> SpacedPairs<'_>
+fn view_plane_byte_pairs(
+    raster: &[u8],
+    colours: usize,
+    area: usize,
+    plane: usize,
+) -> SpacedPairs<'_>
     requires whole { length raster.now ≡ (colours * area) * 2 }
     requires colours { (colours ≡ 1) ⊎ (colours ≡ 3) }
     requires some { 0 < area }
@@ -73,7 +84,7 @@ fn pairs_in(raster: &[u8], colours: usize, area: usize, plane: usize) -> SpacedP
 }
 
 /// What is written of the planes of a raw raster with `area` samples in each: the raster itself.
-pub fn as_written(raster: &[u8], max: u16, colours: usize, area: usize) -> &[u8]
+pub fn view_kept_raster(raster: &[u8], max: u16, colours: usize, area: usize) -> &[u8]
     requires whole { length raster.now ≡ (colours * area) * width_of max }
     requires colours { (colours ≡ 1) ⊎ (colours ≡ 3) }
     ensures { result.now ≡ raw_raster max (interleaved (separated colours (decoded max raster.now))) }

@@ -4,21 +4,21 @@ ghost use Rattle.std.specs.Bool.{OnTrue};
 ghost use Rattle.netpbm.specs.Raw.{pairs, decoded};
 
 /// Whether no sample of a raster is above `max`.
-pub fn is_bounded_raster(raster: &[u8], max: u16) -> bool
+pub fn has_bounded_raster_samples(raster: &[u8], max: u16) -> bool
     ensures { OnTrue result (All (λ sample. sample ≤ max) (decoded max raster.now)) }
 {
-    if takes_any_bytes(max) {
+    if has_full_sample_range(max) {
         return true;
     }
     if max < 256 {
-        are_bytes_bounded(raster, max)
+        has_bounded_raster_bytes(raster, max)
     } else {
-        are_pairs_bounded(raster, max)
+        has_bounded_raster_pairs(raster, max)
     }
 }
 
 /// Whether no bytes spell a sample above `max`. If so, no sample needs to be looked at.
-pub fn takes_any_bytes(max: u16) -> bool
+pub fn has_full_sample_range(max: u16) -> bool
     ensures { OnTrue result ((bytes : List ℕ) → All (λ byte. byte ≤ 255) bytes
         → All (λ sample. sample ≤ max) (decoded max bytes)) }
 {
@@ -29,7 +29,7 @@ pub fn takes_any_bytes(max: u16) -> bool
 }
 
 // Whether no byte is above `max`. It always goes to the end, in a loop that is compiled to few steps.
-fn are_bytes_bounded(raster: &[u8], max: u16) -> bool
+fn has_bounded_raster_bytes(raster: &[u8], max: u16) -> bool
     ensures { OnTrue result (All (λ byte. byte ≤ max) raster.now) }
 {
     let mut greatest = 0;
@@ -42,7 +42,7 @@ fn are_bytes_bounded(raster: &[u8], max: u16) -> bool
 }
 
 // Whether no pair of bytes is above `max`. It always goes to the end, in a loop that is compiled to few steps.
-fn are_pairs_bounded(raster: &[u8], max: u16) -> bool
+fn has_bounded_raster_pairs(raster: &[u8], max: u16) -> bool
     ensures { OnTrue result (All (λ sample. sample ≤ max) (pairs raster.now)) }
 {
     let mut greatest = 0;

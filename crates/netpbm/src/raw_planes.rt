@@ -4,14 +4,14 @@ ghost use Rattle.netpbm.specs.Colours.{separated};
 ghost use Rattle.netpbm.specs.Planes.{samples_of};
 ghost use Rattle.netpbm.specs.Raw.{width_of, decoded};
 
-use crate::colours::{Apart, PIECE};
-use crate::picture::is_bounded;
-use crate::raw_bounds::takes_any_bytes;
-use crate::raw_raster::decode;
+use crate::colours::{ColourPlanes, PIECE};
+use crate::picture::has_bounded_samples;
+use crate::raw_bounds::has_full_sample_range;
+use crate::raw_raster::decode_raw_samples;
 use std::alloc::Global;
 
 /// The planes of a raw raster of `area` pixels; none if a sample is above `max` or memory runs out.
-pub fn raw_planes(
+pub fn decode_raw_planes(
     alloc: Global,
     raster: &[u8],
     max: u16,
@@ -26,27 +26,27 @@ pub fn raw_planes(
         (λ _. All (λ sample. sample ≤ max) (decoded max raster.now)) }
 {
     if colours == 1 {
-        grey_planes(alloc, raster, max, area)
+        decode_grey_plane(alloc, raster, max, area)
     } else {
-        coloured_planes(alloc, raster, max, area)
+        decode_colour_planes(alloc, raster, max, area)
     }
 }
 
 // The one plane of a raster of grey samples.
-fn grey_planes(alloc: Global, raster: &[u8], max: u16, area: usize) -> Option<Vec<Vec<u16>>>
+fn decode_grey_plane(alloc: Global, raster: &[u8], max: u16, area: usize) -> Option<Vec<Vec<u16>>>
     requires { length (decoded max raster.now) ≡ area }
     ensures planes { IfSome result
         (λ planes. samples_of planes.items ≡ separated 1 (decoded max raster.now)) }
     ensures bounded { IfSome result
         (λ _. All (λ sample. sample ≤ max) (decoded max raster.now)) }
 {
-    let grey = grey_samples(alloc, raster, max, area)?;
+    let grey = decode_grey_samples(alloc, raster, max, area)?;
     let mut planes = Vec::with_capacity(alloc, 1).ok()?;
     planes.push(grey).ok()?;
     Some(planes)
 }
 
-fn grey_samples(alloc: Global, raster: &[u8], max: u16, area: usize) -> Option<Vec<u16>>
+fn decode_grey_samples(alloc: Global, raster: &[u8], max: u16, area: usize) -> Option<Vec<u16>>
     requires { length (decoded max raster.now) ≡ area }
     ensures samples { IfSome result (λ samples. samples.items ≡ decoded max raster.now) }
     ensures bounded { IfSome result
@@ -57,7 +57,7 @@ fn grey_samples(alloc: Global, raster: &[u8], max: u16, area: usize) -> Option<V
     let mut done = 0;
     while done < area {
         let end = area.min(done + PIECE);
-        if !decode_bounded(&mut piece, raster, max, done, end) {
+        if !decode_and_check_samples(&mut piece, raster, max, done, end) {
             return None;
         }
         grey.extend_from_slice(&piece[..end - done]).ok()?;
@@ -68,29 +68,40 @@ fn grey_samples(alloc: Global, raster: &[u8], max: u16, area: usize) -> Option<V
 
 // The red, the green and the blue plane of a raster of interleaved samples.
 #[tactic(auto, using(crate::proofs::RawReads::decoded_short))]
-fn coloured_planes(alloc: Global, raster: &[u8], max: u16, area: usize) -> Option<Vec<Vec<u16>>>
+fn decode_colour_planes(
+    alloc: Global,
+    raster: &[u8],
+    max: u16,
+    area: usize,
+) -> Option<Vec<Vec<u16>>>
     requires { length (decoded max raster.now) ≡ 3 * area }
     ensures planes { IfSome result
         (λ planes. samples_of planes.items ≡ separated 3 (decoded max raster.now)) }
     ensures bounded { IfSome result
         (λ _. All (λ sample. sample ≤ max) (decoded max raster.now)) }
 {
-    let mut apart = Apart::with_capacity(alloc, area).ok()?;
+    let mut apart = ColourPlanes::with_capacity(alloc, area).ok()?;
     let mut piece = [0u16; 3 * PIECE];
     let mut done = 0;
     while done < area {
         let end = area.min(done + PIECE);
-        if !decode_bounded(&mut piece, raster, max, 3 * done, 3 * end) {
+        if !decode_and_check_samples(&mut piece, raster, max, 3 * done, 3 * end) {
             return None;
         }
-        apart.add(&piece[..3 * (end - done)]).ok()?;
+        apart.append_interleaved(&piece[..3 * (end - done)]).ok()?;
         done = end;
     }
     apart.into_planes(alloc).ok()
 }
 
 // Decodes the samples from one place up to another, and returns whether none is above `max`.
-fn decode_bounded(out: &mut [u16], raster: &[u8], max: u16, start: usize, end: usize) -> bool
+fn decode_and_check_samples(
+    out: &mut [u16],
+    raster: &[u8],
+    max: u16,
+    start: usize,
+    end: usize,
+) -> bool
     requires order { start ≤ end }
     requires within { end ≤ length (decoded max raster.now) }
     requires room { end - start ≤ length out.old }
@@ -99,9 +110,9 @@ fn decode_bounded(out: &mut [u16], raster: &[u8], max: u16, start: usize, end: u
     ensures bounded { IsTrue result
         ↔ All (λ sample. sample ≤ max) (slice_range (decoded max raster.now) start end) }
 {
-    decode(out, raster, max, start, end);
-    if takes_any_bytes(max) {
+    decode_raw_samples(out, raster, max, start, end);
+    if has_full_sample_range(max) {
         return true;
     }
-    is_bounded(max, &out[..end - start])
+    has_bounded_samples(max, &out[..end - start])
 }

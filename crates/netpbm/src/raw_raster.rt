@@ -14,7 +14,7 @@ pub fn sample_width(max: u16) -> usize
 }
 
 /// Finds the fault of a raw raster of `count` samples that begins at `start`.
-pub fn check_raw(bytes: &[u8], start: usize, max: u16, count: usize) -> Result<(), PicFault>
+pub fn check_raw_raster(bytes: &[u8], start: usize, max: u16, count: usize) -> Result<(), PicFault>
     requires place { start ≤ length bytes.now }
     requires count { count ≤ 50331648 }
     ensures read { MatchResult result
@@ -24,7 +24,10 @@ pub fn check_raw(bytes: &[u8], start: usize, max: u16, count: usize) -> Result<(
 {
     let width = sample_width(max);
     let raster = &bytes[start..];
-    if let Some(place) = first_above(whole_part(raster, max, count), max) {
+    if let Some(place) = find_first_sample_above(
+        view_whole_raster_samples(raster, max, count),
+        max,
+    ) {
         return Err(PicFault::SampleTooBig(start + place * width));
     }
     if raster.len() / width < count {
@@ -37,7 +40,7 @@ pub fn check_raw(bytes: &[u8], start: usize, max: u16, count: usize) -> Result<(
 }
 
 // The bytes of `count` samples, or of fewer if no more are whole.
-fn whole_part(raster: &[u8], max: u16, count: usize) -> &[u8]
+fn view_whole_raster_samples(raster: &[u8], max: u16, count: usize) -> &[u8]
     ensures samples { decoded max result.now ≡ take count (decoded max raster.now) }
     ensures within { length result.now ≤ length raster.now }
 {
@@ -47,21 +50,21 @@ fn whole_part(raster: &[u8], max: u16, count: usize) -> &[u8]
 }
 
 // The place of the first sample above `max`.
-fn first_above(raster: &[u8], max: u16) -> Option<usize>
+fn find_first_sample_above(raster: &[u8], max: u16) -> Option<usize>
     ensures place { IfSome result (λ place. place ≡ first_big max (decoded max raster.now)) }
     ensures within { IfSome result (λ place. place < length (decoded max raster.now)) }
     ensures none { IfNone result
         (first_big max (decoded max raster.now) ≡ length (decoded max raster.now)) }
 {
     if max < 256 {
-        first_byte_above(raster, max)
+        find_first_raster_byte_above(raster, max)
     } else {
-        first_pair_above(raster, max)
+        find_first_raster_pair_above(raster, max)
     }
 }
 
 // The place of the first byte above `max`.
-fn first_byte_above(raster: &[u8], max: u16) -> Option<usize>
+fn find_first_raster_byte_above(raster: &[u8], max: u16) -> Option<usize>
     ensures place { IfSome result (λ place. place ≡ first_big max raster.now) }
     ensures within { IfSome result (λ place. place < length raster.now) }
     ensures none { IfNone result (first_big max raster.now ≡ length raster.now) }
@@ -75,7 +78,7 @@ fn first_byte_above(raster: &[u8], max: u16) -> Option<usize>
 }
 
 // The place of the first pair of bytes above `max`.
-fn first_pair_above(raster: &[u8], max: u16) -> Option<usize>
+fn find_first_raster_pair_above(raster: &[u8], max: u16) -> Option<usize>
     ensures place { IfSome result (λ place. place ≡ first_big max (pairs raster.now)) }
     ensures within { IfSome result (λ place. place < length (pairs raster.now)) }
     ensures none { IfNone result (first_big max (pairs raster.now) ≡ length (pairs raster.now)) }
@@ -89,22 +92,22 @@ fn first_pair_above(raster: &[u8], max: u16) -> Option<usize>
 }
 
 /// Puts the samples from one place up to another, as the bytes spell them, into the front of `out`.
-pub fn decode(out: &mut [u16], raster: &[u8], max: u16, start: usize, end: usize)
+pub fn decode_raw_samples(out: &mut [u16], raster: &[u8], max: u16, start: usize, end: usize)
     requires order { start ≤ end }
     requires within { end ≤ length (decoded max raster.now) }
     requires room { end - start ≤ length out.old }
     ensures { take (end - start) out.new ≡ slice_range (decoded max raster.now) start end }
 {
     if max < 256 {
-        widen(out, &raster[start..end]);
+        convert_bytes_to_samples(out, &raster[start..end]);
     } else {
-        join(out, &raster[2 * start..2 * end]);
+        convert_pairs_to_samples(out, &raster[2 * start..2 * end]);
     }
 }
 
 // Puts the bytes as samples into the front of `out`.
 #[tactic(auto, using(crate::proofs::Rasters::copied))]
-fn widen(out: &mut [u16], bytes: &[u8])
+fn convert_bytes_to_samples(out: &mut [u16], bytes: &[u8])
     requires { length bytes.now ≤ length out.old }
     ensures { take (length bytes.now) out.new ≡ bytes.now }
 {
@@ -115,7 +118,7 @@ fn widen(out: &mut [u16], bytes: &[u8])
 
 // Puts the pairs of bytes, most significant first, as samples into the front of `out`.
 #[tactic(auto, using(crate::proofs::Rasters::joined))]
-fn join(out: &mut [u16], bytes: &[u8])
+fn convert_pairs_to_samples(out: &mut [u16], bytes: &[u8])
     requires { length bytes.now ≤ 2 * length out.old }
     ensures { take (length bytes.now / 2) out.new ≡ pairs bytes.now }
 {
@@ -125,24 +128,24 @@ fn join(out: &mut [u16], bytes: &[u8])
 }
 
 /// Puts the samples in one byte or two into the front of `out`, and returns how many bytes they are.
-pub fn put_samples(out: &mut [u8], samples: &[u16], max: u16) -> usize
+pub fn encode_raw_samples(out: &mut [u8], samples: &[u16], max: u16) -> usize
     requires room { width_of max * length samples.now ≤ length out.old }
     requires bounded { All (λ sample. sample ≤ max) samples.now }
     ensures end { result ≡ width_of max * length samples.now }
     ensures written { take result out.new ≡ raw_raster max samples.now }
 {
     if max < 256 {
-        narrow(out, samples);
+        convert_samples_to_bytes(out, samples);
         samples.len()
     } else {
-        split(out, samples);
+        convert_samples_to_pairs(out, samples);
         2 * samples.len()
     }
 }
 
 /// Puts samples that are below 256 each as bytes into the front of `out`.
 #[tactic(auto, using(crate::proofs::Rasters::copied))]
-pub fn narrow(out: &mut [u8], samples: &[u16])
+pub fn convert_samples_to_bytes(out: &mut [u8], samples: &[u16])
     requires room { length samples.now ≤ length out.old }
     requires small { All (λ sample. sample < 256) samples.now }
     ensures { take (length samples.now) out.new ≡ samples.now }
@@ -153,7 +156,7 @@ pub fn narrow(out: &mut [u8], samples: &[u16])
 }
 
 #[tactic(auto, using(crate::proofs::Rasters::spread))]
-fn split(out: &mut [u8], samples: &[u16])
+fn convert_samples_to_pairs(out: &mut [u8], samples: &[u16])
     requires { 2 * length samples.now ≤ length out.old }
     ensures { take (2 * length samples.now) out.new ≡ flat_map two_bytes samples.now }
 {

@@ -5,20 +5,20 @@ ghost use Rattle.netpbm.specs.Faults.{IsFault};
 ghost use Rattle.netpbm.specs.Raw.{width_of, decoded};
 ghost use Rattle.netpbm.specs.Gives.{Gives, IsReadAs};
 ghost use Rattle.netpbm.specs.Grammar.{IsPicture};
-ghost use Rattle.netpbm.specs.declared.header.Coding.TheVariants.{Plain, Raw};
+ghost use Rattle.netpbm.specs.declared.header.RasterCoding.TheVariants.{Plain, Raw};
 ghost use Rattle.netpbm.specs.Image.{Image, InRange};
 ghost use Rattle.netpbm.specs.Planes.{samples_of};
 ghost use Rattle.netpbm.specs.Reading.{header_read, planes_read, picture_read};
 
-use crate::colours::planes_of;
+use crate::colours::split_into_planes;
 use crate::fault::PicFault;
-use crate::header::{Coding, Header, read_header};
+use crate::header::{PictureHeader, RasterCoding, read_picture_header};
 use crate::picture::Picture;
-use crate::plain::read_plain;
+use crate::plain::read_plain_raster;
 use crate::raster::KeptRaster;
-use crate::raw_bounds::is_bounded_raster;
-use crate::raw_planes::raw_planes;
-use crate::raw_raster::{check_raw, sample_width};
+use crate::raw_bounds::has_bounded_raster_samples;
+use crate::raw_planes::decode_raw_planes;
+use crate::raw_raster::{check_raw_raster, sample_width};
 use std::alloc::Global;
 
 /// The picture that the bytes spell, or their first fault from the left.
@@ -37,7 +37,11 @@ pub fn read(alloc: Global, bytes: &[u8]) -> Result<Picture, PicFault>
 
 /// Reads like `read` what the input spells from `start` on. If the raster is raw, the input's bytes are kept, so that no sample
 /// is copied.
-pub fn read_owned(alloc: Global, input: Vec<u8>, start: usize) -> Result<Picture, PicFault>
+pub fn read_picture_in_place(
+    alloc: Global,
+    input: Vec<u8>,
+    start: usize,
+) -> Result<Picture, PicFault>
     requires { start ≤ length input.items }
     // What is read is spelled so.
     ensures found { IfOk result (IsPicture (drop start input.items)) }
@@ -48,30 +52,38 @@ pub fn read_owned(alloc: Global, input: Vec<u8>, start: usize) -> Result<Picture
     // A fault is the first one of the bytes, at its place; memory is refused only for a picture.
     ensures fault { IfErr result (IsFault (drop start input.items)) }
 {
-    are_bytes(input.as_slice());
-    read_input(alloc, input, start)
+    bytes_are_below_256(input.as_slice());
+    read_plain_or_raw_picture(alloc, input, start)
 }
 
 // Each byte is below 256, which is known of a slice alone. No code runs.
-fn are_bytes(bytes: &[u8])
+fn bytes_are_below_256(bytes: &[u8])
     ensures { (k : ℕ) → slice_index bytes.now k < 256 }
 {}
 
 // The picture or the fault that reading from the left gives. Digits are read as they are everywhere.
-fn read_input(alloc: Global, input: Vec<u8>, start: usize) -> Result<Picture, PicFault>
+fn read_plain_or_raw_picture(
+    alloc: Global,
+    input: Vec<u8>,
+    start: usize,
+) -> Result<Picture, PicFault>
     requires start { start ≤ length input.items }
     requires bytes { (k : ℕ) → slice_index input.items k < 256 }
     ensures { Gives (λ picture. picture) result (picture_read (drop start input.items)) }
 {
-    let header = read_header(&input[start..])?;
+    let header = read_picture_header(&input[start..])?;
     match header.coding {
-        Coding::Plain => read_picture(alloc, &input[start..]),
-        Coding::Raw => keep_raw(input, start, &header),
+        RasterCoding::Plain => read_picture(alloc, &input[start..]),
+        RasterCoding::Raw => keep_raw_raster(input, start, &header),
     }
 }
 
 // The picture of a raw raster, which stays where it is.
-fn keep_raw(input: Vec<u8>, start: usize, header: &Header) -> Result<Picture, PicFault>
+fn keep_raw_raster(
+    input: Vec<u8>,
+    start: usize,
+    header: &PictureHeader,
+) -> Result<Picture, PicFault>
     requires start { start ≤ length input.items }
     requires bytes { (k : ℕ) → slice_index input.items k < 256 }
     requires read { header_read (drop start input.items) ≡ Ok header.now }
@@ -82,7 +94,7 @@ fn keep_raw(input: Vec<u8>, start: usize, header: &Header) -> Result<Picture, Pi
     requires colours { (header.now.colours ≡ 1) ⊎ (header.now.colours ≡ 3) }
     ensures { Gives (λ picture. picture) result (picture_read (drop start input.items)) }
 {
-    check_raster(&input[start..], header)?;
+    check_kept_raster(&input[start..], header)?;
     let raster = KeptRaster {
         bytes: input,
         start: start + header.end,
@@ -93,7 +105,7 @@ fn keep_raw(input: Vec<u8>, start: usize, header: &Header) -> Result<Picture, Pi
 
 // Finds the fault of a raw raster. A whole one without fault is looked at once, or not at all if its bytes spell no sample above
 // the greatest.
-fn check_raster(bytes: &[u8], header: &Header) -> Result<(), PicFault>
+fn check_kept_raster(bytes: &[u8], header: &PictureHeader) -> Result<(), PicFault>
     requires place { header.now.end ≤ length bytes.now }
     requires rows { InRange 4096 header.now.rows }
     requires cols { InRange 4096 header.now.cols }
@@ -104,25 +116,31 @@ fn check_raster(bytes: &[u8], header: &Header) -> Result<(), PicFault>
         ≡ (header.now.colours * (header.now.rows * header.now.cols)) * width_of header.now.max) }
     ensures fault { IfErr result (λ e. planes_read Raw bytes.now header.now ≡ Err e) }
 {
-    let count = header.colours * area_of(header);
+    let count = header.colours * count_plane_samples(header);
     let raster = &bytes[header.end..];
-    if raster.len() == count * sample_width(header.max) && is_bounded_raster(raster, header.max) {
+    if raster.len() == count * sample_width(header.max)
+        && has_bounded_raster_samples(raster, header.max)
+    {
         return Ok(());
     }
-    check_raw(bytes, header.end, header.max, count)
+    check_raw_raster(bytes, header.end, header.max, count)
 }
 
 // The picture or the fault that reading from the left gives.
 fn read_picture(alloc: Global, bytes: &[u8]) -> Result<Picture, PicFault>
     ensures { Gives (λ picture. picture) result (picture_read bytes.now) }
 {
-    let header = read_header(bytes)?;
-    let planes = read_planes(alloc, bytes, &header)?;
-    Ok(Picture::from_parts(header.rows, header.cols, header.max, planes))
+    let header = read_picture_header(bytes)?;
+    let planes = read_raster_planes(alloc, bytes, &header)?;
+    Ok(Picture::from_valid_planes(header.rows, header.cols, header.max, planes))
 }
 
 // The planes of the raster.
-fn read_planes(alloc: Global, bytes: &[u8], header: &Header) -> Result<Vec<Vec<u16>>, PicFault>
+fn read_raster_planes(
+    alloc: Global,
+    bytes: &[u8],
+    header: &PictureHeader,
+) -> Result<Vec<Vec<u16>>, PicFault>
     requires place { header.now.end ≤ length bytes.now }
     requires rows { InRange 4096 header.now.rows }
     requires cols { InRange 4096 header.now.cols }
@@ -131,8 +149,8 @@ fn read_planes(alloc: Global, bytes: &[u8], header: &Header) -> Result<Vec<Vec<u
         (planes_read header.now.coding bytes.now header.now) }
 {
     match header.coding {
-        Coding::Plain => read_plain_planes(alloc, bytes, header),
-        Coding::Raw => read_raw_planes(alloc, bytes, header),
+        RasterCoding::Plain => read_plain_planes(alloc, bytes, header),
+        RasterCoding::Raw => read_raw_planes(alloc, bytes, header),
     }
 }
 
@@ -140,7 +158,7 @@ fn read_planes(alloc: Global, bytes: &[u8], header: &Header) -> Result<Vec<Vec<u
 fn read_plain_planes(
     alloc: Global,
     bytes: &[u8],
-    header: &Header,
+    header: &PictureHeader,
 ) -> Result<Vec<Vec<u16>>, PicFault>
     requires place { header.now.end ≤ length bytes.now }
     requires rows { InRange 4096 header.now.rows }
@@ -149,16 +167,20 @@ fn read_plain_planes(
     ensures { Gives (λ planes. samples_of planes.items) result
         (planes_read Plain bytes.now header.now) }
 {
-    let count = header.colours * area_of(header);
-    let samples = read_plain(alloc, bytes, header.end, header.max, count)?;
-    match planes_of(alloc, samples, header.colours) {
+    let count = header.colours * count_plane_samples(header);
+    let samples = read_plain_raster(alloc, bytes, header.end, header.max, count)?;
+    match split_into_planes(alloc, samples, header.colours) {
         Ok(planes) => Ok(planes),
         Err(_) => Err(PicFault::Memory),
     }
 }
 
 // The planes of a raster whose samples are written in bytes. Their fault is looked for only if they cannot be had.
-fn read_raw_planes(alloc: Global, bytes: &[u8], header: &Header) -> Result<Vec<Vec<u16>>, PicFault>
+fn read_raw_planes(
+    alloc: Global,
+    bytes: &[u8],
+    header: &PictureHeader,
+) -> Result<Vec<Vec<u16>>, PicFault>
     requires place { header.now.end ≤ length bytes.now }
     requires rows { InRange 4096 header.now.rows }
     requires cols { InRange 4096 header.now.cols }
@@ -166,20 +188,20 @@ fn read_raw_planes(alloc: Global, bytes: &[u8], header: &Header) -> Result<Vec<V
     ensures { Gives (λ planes. samples_of planes.items) result
         (planes_read Raw bytes.now header.now) }
 {
-    let area = area_of(header);
+    let area = count_plane_samples(header);
     let raster = &bytes[header.end..];
     let count = header.colours * area;
     if raster.len() == count * sample_width(header.max) {
-        if let Some(planes) = raw_planes(alloc, raster, header.max, header.colours, area) {
+        if let Some(planes) = decode_raw_planes(alloc, raster, header.max, header.colours, area) {
             return Ok(planes);
         }
     }
-    check_raw(bytes, header.end, header.max, count)?;
+    check_raw_raster(bytes, header.end, header.max, count)?;
     Err(PicFault::Memory)
 }
 
 // The number of samples in a plane.
-fn area_of(header: &Header) -> usize
+fn count_plane_samples(header: &PictureHeader) -> usize
     requires rows { InRange 4096 header.now.rows }
     requires cols { InRange 4096 header.now.cols }
     ensures value { result ≡ header.now.rows * header.now.cols }

@@ -8,13 +8,13 @@ ghost use Rattle.netpbm.specs.Spelling.{header as header_of, spelling};
 ghost use Rattle.streams.specs.Streams.{AppendsPart, CountsFailure};
 ghost use Rattle.netpbm.specs.Pixels.{pixels};
 
-use crate::colours::{weave, weave_bytes};
-use crate::parts::{lend_part, whole_bytes};
+use crate::colours::{interleave_bytes, interleave_samples};
+use crate::parts::{view_or_copy_samples, view_samples_as_bytes};
 use crate::picture::Picture;
-use crate::raw_raster::{put_samples, sample_width};
+use crate::raw_raster::{encode_raw_samples, sample_width};
 use sha2::Digest;
 use std::alloc::{AllocError, Global};
-use streams::{Sink, WriteFailed, write_whole};
+use streams::{Sink, WriteFailed, write_all_bytes};
 
 // The most bytes of a header.
 const LONGEST_HEADER: usize = 32;
@@ -28,26 +28,26 @@ pub fn raw(alloc: Global, picture: &Picture) -> Result<Vec<u8>, AllocError>
     ensures { IfOk result (λ bytes. bytes.items ≡ spelling picture.now) }
 {
     let mut header = [0u8; LONGEST_HEADER];
-    let header_len = put_header(&mut header, picture);
-    let mut bytes = Vec::with_capacity(alloc, header_len + raster_len(picture))?;
+    let header_len = encode_picture_header(&mut header, picture);
+    let mut bytes = Vec::with_capacity(alloc, header_len + count_raster_bytes(picture))?;
     bytes.extend_from_slice(&header[..header_len])?;
-    add_raster(&mut bytes, picture)?;
+    append_raster(&mut bytes, picture)?;
     Ok(bytes)
 }
 
 // Adds the raster of a picture.
-fn add_raster(bytes: &mut Vec<u8>, picture: &Picture) -> Result<(), AllocError>
+fn append_raster(bytes: &mut Vec<u8>, picture: &Picture) -> Result<(), AllocError>
     ensures { OnOk result (bytes.new.items
         ≡ bytes.old.items ++ raw_raster picture.now.max (interleaved picture.now.planes)) }
 {
-    match picture.written() {
+    match picture.view_raw_raster() {
         Some(raster) => bytes.extend_from_slice(raster),
-        None => add_pixels(bytes, picture),
+        None => append_pixels(bytes, picture),
     }
 }
 
 // Adds the raster of a picture, some pixels at a time.
-fn add_pixels(bytes: &mut Vec<u8>, picture: &Picture) -> Result<(), AllocError>
+fn append_pixels(bytes: &mut Vec<u8>, picture: &Picture) -> Result<(), AllocError>
     ensures { OnOk result (bytes.new.items
         ≡ bytes.old.items ++ raw_raster picture.now.max (interleaved picture.now.planes)) }
 {
@@ -55,7 +55,7 @@ fn add_pixels(bytes: &mut Vec<u8>, picture: &Picture) -> Result<(), AllocError>
     let area = picture.area();
     let mut done = 0;
     while done < area {
-        let (end, len) = put_next(&mut piece, picture, done);
+        let (end, len) = encode_next_pixels(&mut piece, picture, done);
         bytes.extend_from_slice(&piece[..len])?;
         done = end;
     }
@@ -71,8 +71,8 @@ pub fn write_raw<W: Sink>(picture: &Picture, writer: &mut W) -> Result<(), Write
     ensures failed { CountsFailure result (W.failures writer.old) (W.failures writer.new) }
 {
     let mut header = [0u8; LONGEST_HEADER];
-    let header_len = put_header(&mut header, picture);
-    write_whole(writer, &header[..header_len])?;
+    let header_len = encode_picture_header(&mut header, picture);
+    write_all_bytes(writer, &header[..header_len])?;
     write_raster(writer, picture)
 }
 
@@ -84,8 +84,8 @@ fn write_raster<W: Sink>(writer: &mut W, picture: &Picture) -> Result<(), WriteF
         (raw_raster picture.now.max (interleaved picture.now.planes))) }
     ensures failed { CountsFailure result (W.failures writer.old) (W.failures writer.new) }
 {
-    match picture.written() {
-        Some(raster) => write_whole(writer, raster),
+    match picture.view_raw_raster() {
+        Some(raster) => write_all_bytes(writer, raster),
         None => write_pixels(writer, picture),
     }
 }
@@ -102,20 +102,20 @@ fn write_pixels<W: Sink>(writer: &mut W, picture: &Picture) -> Result<(), WriteF
     let area = picture.area();
     let mut done = 0;
     while done < area {
-        let (end, len) = put_next(&mut piece, picture, done);
-        write_whole(writer, &piece[..len])?;
+        let (end, len) = encode_next_pixels(&mut piece, picture, done);
+        write_all_bytes(writer, &piece[..len])?;
         done = end;
     }
     Ok(())
 }
 
 /// Adds the written form of a picture to the message that a hasher holds. It takes no memory.
-pub fn hash_raw<D: Digest>(picture: &Picture, hasher: &mut D)
+pub fn hash_raw_picture<D: Digest>(picture: &Picture, hasher: &mut D)
     ensures { (message : List ℕ) → D.holds hasher.old message
         → D.holds hasher.new (message ++ spelling picture.now) }
 {
     let mut header = [0u8; LONGEST_HEADER];
-    let header_len = put_header(&mut header, picture);
+    let header_len = encode_picture_header(&mut header, picture);
     hasher.update(&header[..header_len]);
     hash_raster(hasher, picture);
 }
@@ -125,7 +125,7 @@ fn hash_raster<D: Digest>(hasher: &mut D, picture: &Picture)
     ensures { (message : List ℕ) → D.holds hasher.old message → D.holds hasher.new
         (message ++ raw_raster picture.now.max (interleaved picture.now.planes)) }
 {
-    match picture.written() {
+    match picture.view_raw_raster() {
         Some(raster) => hasher.update(raster),
         None => hash_pixels(hasher, picture),
     }
@@ -140,14 +140,14 @@ fn hash_pixels<D: Digest>(hasher: &mut D, picture: &Picture)
     let area = picture.area();
     let mut done = 0;
     while done < area {
-        let (end, len) = put_next(&mut piece, picture, done);
+        let (end, len) = encode_next_pixels(&mut piece, picture, done);
         hasher.update(&piece[..len]);
         done = end;
     }
 }
 
 // The number of bytes of the written raster.
-fn raster_len(picture: &Picture) -> usize
+fn count_raster_bytes(picture: &Picture) -> usize
     ensures { result ≤ 100663296 }
 {
     picture.plane_count() * (picture.area() * sample_width(picture.max()))
@@ -155,7 +155,7 @@ fn raster_len(picture: &Picture) -> usize
 
 // Puts the bytes of the pixels from `start` on, of as many as are written at a time, into the front of `out`. Returns where these
 // pixels end, and how many bytes they are.
-fn put_next(out: &mut [u8], picture: &Picture, start: usize) -> (usize, usize)
+fn encode_next_pixels(out: &mut [u8], picture: &Picture, start: usize) -> (usize, usize)
     requires before { start < picture.now.rows * picture.now.cols }
     requires room { 98304 ≤ length out.old }
     ensures on { start < result.0 }
@@ -165,12 +165,12 @@ fn put_next(out: &mut [u8], picture: &Picture, start: usize) -> (usize, usize)
         ≡ raw_raster picture.now.max (pixels start result.0 picture.now.planes) }
 {
     let end = picture.area().min(start + PIXELS);
-    let len = put_pixels(out, picture, start, end);
+    let len = encode_pixels(out, picture, start, end);
     (end, len)
 }
 
 // Puts the bytes of these pixels into the front of `out`, and returns how many they are.
-fn put_pixels(out: &mut [u8], picture: &Picture, start: usize, end: usize) -> usize
+fn encode_pixels(out: &mut [u8], picture: &Picture, start: usize, end: usize) -> usize
     requires image { IsImage picture.now }
     requires order { start ≤ end }
     requires within { end ≤ picture.now.rows * picture.now.cols }
@@ -180,24 +180,24 @@ fn put_pixels(out: &mut [u8], picture: &Picture, start: usize, end: usize) -> us
     ensures written { take result out.new
         ≡ raw_raster picture.now.max (pixels start end picture.now.planes) }
 {
-    if let Some((red, green, blue)) = byte_planes(picture) {
-        weave_bytes(out, &red[start..end], &green[start..end], &blue[start..end]);
+    if let Some((red, green, blue)) = view_colour_plane_bytes(picture) {
+        interleave_bytes(out, &red[start..end], &green[start..end], &blue[start..end]);
         return 3 * (end - start);
     }
     let mut red_room = [0u16; PIXELS];
-    let red = part_of(&mut red_room, picture, 0, start, end);
+    let red = view_plane_pixels(&mut red_room, picture, 0, start, end);
     if picture.plane_count() == 1 {
-        return put_samples(out, red, picture.max());
+        return encode_raw_samples(out, red, picture.max());
     }
     let mut green_room = [0u16; PIXELS];
     let mut blue_room = [0u16; PIXELS];
-    let green = part_of(&mut green_room, picture, 1, start, end);
-    let blue = part_of(&mut blue_room, picture, 2, start, end);
-    put_colours(out, red, green, blue, picture.max())
+    let green = view_plane_pixels(&mut green_room, picture, 1, start, end);
+    let blue = view_plane_pixels(&mut blue_room, picture, 2, start, end);
+    encode_colour_samples(out, red, green, blue, picture.max())
 }
 
 // The bytes of a red, a green and a blue plane, where each sample is a byte of its own.
-fn byte_planes(picture: &Picture) -> Option<(&[u8], &[u8], &[u8])>
+fn view_colour_plane_bytes(picture: &Picture) -> Option<(&[u8], &[u8], &[u8])>
     ensures small { IfSome result (λ _. picture.now.max < 256) }
     ensures planes { IfSome result
         (λ bytes. picture.now.planes ≡ bytes.0.now ∷ bytes.1.now ∷ bytes.2.now ∷ []) }
@@ -208,14 +208,14 @@ fn byte_planes(picture: &Picture) -> Option<(&[u8], &[u8], &[u8])>
     if picture.plane_count() == 1 {
         return None;
     }
-    let red = whole_bytes(&picture.samples(0))?;
-    let green = whole_bytes(&picture.samples(1))?;
-    let blue = whole_bytes(&picture.samples(2))?;
+    let red = view_samples_as_bytes(&picture.samples(0))?;
+    let green = view_samples_as_bytes(&picture.samples(1))?;
+    let blue = view_samples_as_bytes(&picture.samples(2))?;
     Some((red, green, blue))
 }
 
 // The samples of these pixels of a plane, which may be copied into the buffer `room`.
-fn part_of<'a>(
+fn view_plane_pixels<'a>(
     room: &'a mut [u16],
     picture: &'a Picture,
     plane: usize,
@@ -230,11 +230,17 @@ fn part_of<'a>(
         ≡ slice_range (slice_index_or picture.now.planes plane []) start end }
     ensures bounded { All (λ sample. sample ≤ picture.now.max) result.now }
 {
-    lend_part(room, &picture.samples(plane), start, end)
+    view_or_copy_samples(room, &picture.samples(plane), start, end)
 }
 
 // Puts the bytes of interleaved red, green and blue samples into the front of `out`, and returns how many they are.
-fn put_colours(out: &mut [u8], red: &[u16], green: &[u16], blue: &[u16], max: u16) -> usize
+fn encode_colour_samples(
+    out: &mut [u8],
+    red: &[u16],
+    green: &[u16],
+    blue: &[u16],
+    max: u16,
+) -> usize
     requires few { length red.now ≤ 16384 }
     requires green { length green.now ≡ length red.now }
     requires blue { length blue.now ≡ length red.now }
@@ -246,13 +252,13 @@ fn put_colours(out: &mut [u8], red: &[u16], green: &[u16], blue: &[u16], max: u1
     ensures written { take result out.new ≡ raw_raster max (woven red.now green.now blue.now) }
 {
     let mut in_turn = [0u16; 3 * PIXELS];
-    weave(&mut in_turn, red, green, blue);
-    put_samples(out, &in_turn[..3 * red.len()], max)
+    interleave_samples(&mut in_turn, red, green, blue);
+    encode_raw_samples(out, &in_turn[..3 * red.len()], max)
 }
 
 // Puts the header into the front of `out`, and returns how many bytes it has.
 #[tactic(auto, using(crate::proofs::Decimals::short_decimal))]
-fn put_header(out: &mut [u8], picture: &Picture) -> usize
+fn encode_picture_header(out: &mut [u8], picture: &Picture) -> usize
     requires { 32 ≤ length out.old }
     ensures end { result ≤ 32 }
     ensures written { take result out.new ≡ header_of picture.now }
@@ -262,19 +268,19 @@ fn put_header(out: &mut [u8], picture: &Picture) -> usize
     } else {
         b'6'
     };
-    let at = put_byte(out, 0, b'P');
-    let at = put_byte(out, at, magic);
-    let at = put_byte(out, at, b'\n');
-    let at = put_number(out, at, picture.cols());
-    let at = put_byte(out, at, b' ');
-    let at = put_number(out, at, picture.rows());
-    let at = put_byte(out, at, b'\n');
-    let at = put_number(out, at, u32::from(picture.max()));
-    put_byte(out, at, b'\n')
+    let at = encode_header_byte(out, 0, b'P');
+    let at = encode_header_byte(out, at, magic);
+    let at = encode_header_byte(out, at, b'\n');
+    let at = encode_header_number(out, at, picture.cols());
+    let at = encode_header_byte(out, at, b' ');
+    let at = encode_header_number(out, at, picture.rows());
+    let at = encode_header_byte(out, at, b'\n');
+    let at = encode_header_number(out, at, u32::from(picture.max()));
+    encode_header_byte(out, at, b'\n')
 }
 
 // Puts a byte at a place of `out`, and returns where the next one goes.
-fn put_byte(out: &mut [u8], at: usize, byte: u8) -> usize
+fn encode_header_byte(out: &mut [u8], at: usize, byte: u8) -> usize
     requires { at < length out.old }
     ensures end { result ≡ at + 1 }
     ensures written { take result out.new ≡ take at out.old ++ byte ∷ [] }
@@ -285,15 +291,15 @@ fn put_byte(out: &mut [u8], at: usize, byte: u8) -> usize
 
 // Puts the digits of a number at a place of `out`, and returns where they end.
 #[tactic(auto, using(crate::proofs::Decimals::more_digits))]
-fn put_number(out: &mut [u8], start: usize, number: u32) -> usize
+fn encode_header_number(out: &mut [u8], start: usize, number: u32) -> usize
     requires { start + length (decimal number) ≤ length out.old }
     ensures end { result ≡ start + length (decimal number) }
     ensures written { take result out.new ≡ take start out.old ++ decimal number }
 {
     let last = b'0' + (number % 10) as u8;
     if number < 10 {
-        return put_byte(out, start, last);
+        return encode_header_byte(out, start, last);
     }
-    let at = put_number(out, start, number / 10);
-    put_byte(out, at, last)
+    let at = encode_header_number(out, start, number / 10);
+    encode_header_byte(out, at, last)
 }

@@ -6,7 +6,7 @@ use Rattle.std.specs.FinMap.{is_sorted}
 use Rattle.std.specs.FinMap.Entries.{below_all}
 use Rattle.std.specs.Ordering.{is_lt}
 use Rattle.identity.specs.Keys.{ids_cmp, ids_in}
-use Rattle.identity.specs.declared.job_ids.Ids.{Ids}
+use Rattle.identity.specs.declared.job_ids.JobId.{JobId}
 use Rattle.tile_fact.specs.FactFile.{is_retired}
 use Rattle.tile_fact.specs.Order.{IdsRise, RisesBehind}
 use Rattle.fact_store.proofs.KeyLaws.{in_facts}
@@ -18,17 +18,17 @@ use Rattle.states.specs.States.{IsState, State}
 use Rattle.node_state.specs.States.{facts_in, retired_in}
 
 -- ---- identities rise
-abbrev firsts : List (Ids × Unit {0}) → List Ids
-firsts es = map (λ (e : Ids × Unit {0}). e.0) es
+abbrev firsts : List (JobId × Unit {0}) → List JobId
+firsts es = map (λ (e : JobId × Unit {0}). e.0) es
 
-rise_behind : (x : Ids) (es : List (Ids × Unit {0})) → below_all ids_cmp x es ≡ true → is_sorted ids_cmp es ≡ true
+rise_behind : (x : JobId) (es : List (JobId × Unit {0})) → below_all ids_cmp x es ≡ true → is_sorted ids_cmp es ≡ true
     → RisesBehind ids_cmp (Some x) (firsts es)
 rise_behind x [] low h = tt
 rise_behind x (e ∷ es) low h =
     let parts = split (below_all ids_cmp e.0 es) (is_sorted ids_cmp es) h in
     (less (ids_cmp x e.0) ((split (is_lt (ids_cmp x e.0)) (below_all ids_cmp x es) low).0), rise_behind e.0 es parts.0 parts.1)
 
-rise : (es : List (Ids × Unit {0})) → is_sorted ids_cmp es ≡ true → IdsRise (firsts es)
+rise : (es : List (JobId × Unit {0})) → is_sorted ids_cmp es ≡ true → IdsRise (firsts es)
 rise [] h = tt
 rise (e ∷ es) h = let parts = split (below_all ids_cmp e.0 es) (is_sorted ids_cmp es) h in (tt, rise_behind e.0 es parts.0 parts.1)
 

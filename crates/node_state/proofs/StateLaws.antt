@@ -7,7 +7,7 @@ use Rattle.std.specs.Cmp.{Equal-is}
 use Rattle.std.specs.FinMap as map
 use Rattle.std.specs.Ordering.{eq_by_cmp}
 use Rattle.identity.specs.Keys.{ids_cmp, ids_in}
-use Rattle.identity.specs.declared.job_ids.Ids.{Ids}
+use Rattle.identity.specs.declared.job_ids.JobId.{JobId}
 use Rattle.identity.specs.declared.key.Key.{Key}
 use Rattle.tile_fact.specs.Order.{fact_cmp}
 use Rattle.tile_fact.specs.declared.fact.Fact.{Fact}
@@ -51,7 +51,7 @@ or_false : (a : Bool) → (a || false) ≡ a
 or_false true = refl
 or_false false = refl
 
-joined_retires : (s : State) (f : Fact) (i : Ids) → retires (join s (of_fact f)) i ≡ retires s i
+joined_retires : (s : State) (f : Fact) (i : JobId) → retires (join s (of_fact f)) i ≡ retires s i
 joined_retires s f i = retires-join s (of_fact f) i ∙ ap (λ b. retires s i || b) (has-no_ids i) ∙ or_false (retires s i)
 
 left_out : (e h r : Bool) → (e ≡ true → r ≡ true) → (h ≡ true → r ≡ false) → ((h || (e || false)) && not (r || false)) ≡ h
@@ -105,10 +105,10 @@ or_comm true false = refl
 or_comm false true = refl
 or_comm false false = refl
 
-has-one : (i j : Ids) → has (with_ids no_ids i) j ≡ (eq_by_cmp ids_cmp j i || false)
+has-one : (i j : JobId) → has (with_ids no_ids i) j ≡ (eq_by_cmp ids_cmp j i || false)
 has-one i j = has-with_ids no_ids i j ∙ ap (λ b. eq_by_cmp ids_cmp j i || b) (has-no_ids j)
 
-pub one_retired : (s : State) (i : Ids) → IsState s
+pub one_retired : (s : State) (i : JobId) → IsState s
     → state_of (sets.without s.facts (i ∷ [])) (with_ids s.retired i) ≡ join s (of_retirement i)
 one_retired s i is =
     same_state (state_of (sets.without s.facts (i ∷ [])) (with_ids s.retired i)) (join s (of_retirement i))
@@ -132,10 +132,10 @@ there true b h = refl
 there false true h = sym (h refl)
 there false false h = refl
 
-equal : (a b : Ids) → eq_by_cmp ids_cmp a b ≡ true → a ≡ b
+equal : (a b : JobId) → eq_by_cmp ids_cmp a b ≡ true → a ≡ b
 equal a b e = same_ids a b ((Equal-is (ids_cmp a b)).0 e)
 
-pub retired_again : (s : State) (i : Ids) → IsState s → retires s i ≡ true → s ≡ join s (of_retirement i)
+pub retired_again : (s : State) (i : JobId) → IsState s → retires s i ≡ true → s ≡ join s (of_retirement i)
 retired_again s i is r =
     sym (same_state (join s (of_retirement i)) s
     (λ f. holds-join s (of_retirement i) f
@@ -205,7 +205,7 @@ module _ (held : FactSet) (ids : IdSet) (s : State) (is : state_of held ids ≡ 
     taken_state (Err b) now e same = still_state held now ids ids (sym same) refl live
 
   -- a job that is retired
-  module _ (i : Ids) (now : FactSet) (more : IdSet) (less : now ≡ sets.without held (i ∷ [])) (one : more ≡ with_ids ids i) where
+  module _ (i : JobId) (now : FactSet) (more : IdSet) (less : now ≡ sets.without held (i ∷ [])) (one : more ≡ with_ids ids i) where
     pub retired : state_of now more ≡ join s (of_retirement i)
     retired =
         same_parts now (sets.without held (i ∷ [])) more (with_ids ids i) less one
@@ -230,7 +230,7 @@ module _ (held : FactSet) (ids : IdSet) (s : State) (is : state_of held ids ≡ 
       merged_state = subst IsState (sym merged) (join_is_state s t)
 
       -- of the facts that came, so many stay
-      pub stay : (came : FactSet) (ours : List Ids) (new again : ℕ) → came ≡ met → ours ≡ ids_in_set ids → new ≡ length (lacked held came)
+      pub stay : (came : FactSet) (ours : List JobId) (new again : ℕ) → came ≡ met → ours ≡ ids_in_set ids → new ≡ length (lacked held came)
           → again ≡ length (filter (λ f. names_one ours f.key) (facts_in other)) → length (lacked held now) + again ≡ new
       stay came ours new again all own count more =
           (λ k. length (lacked held (kept k)) + (more ∙ ap (λ js. length (filter (λ f. names_one js f.key) (facts_in other))) own) k)

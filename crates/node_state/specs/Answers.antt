@@ -1,7 +1,7 @@
 -- What a node answers from its state.
 use Rattle.std.specs.Prelude.{if◌then◌else◌}
 use Rattle.identity.specs.Keys.{ids_in}
-use Rattle.identity.specs.declared.job_ids.Ids.{Ids}
+use Rattle.identity.specs.declared.job_ids.JobId.{JobId}
 use Rattle.identity.specs.declared.key.Key.{Key}
 use Rattle.tile_fact.specs.declared.fact.Fact.{Fact}
 use Rattle.held_facts.specs.Answers as held
@@ -16,7 +16,7 @@ abbrev pub taken_of : State → Fact → Taken
 taken_of s f = if retires s (ids_in f.key) then Retired else held.taken_of s.facts f
 
 -- whether a retirement that is taken was new
-abbrev pub retired_of : State → Ids → Taken
+abbrev pub retired_of : State → JobId → Taken
 retired_of s ids = if retires s ids then Already else New
 
 -- none, one or several facts of the key are held, or its job is retired

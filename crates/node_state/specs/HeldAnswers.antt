@@ -1,7 +1,7 @@
 -- What a state answers for a job, and why there is no answer. A job is identified by its program's identity and its pipeline.
 use Rattle.std.specs.Prelude.{◌≡◌, ℕ, List, true, false}
 use Rattle.accumulators.specs.declared.answer.Answer.{Answer}
-use Rattle.identity.specs.declared.job_ids.Ids.{Ids}
+use Rattle.identity.specs.declared.job_ids.JobId.{JobId}
 use Rattle.job.specs.Identity.{input_id}
 use Rattle.job.specs.Pipeline.{Pipeline}
 use Rattle.held_facts.specs.HeldAnswers as held
@@ -10,7 +10,7 @@ use Rattle.held_facts.specs.declared.answer_fault.AnswerFault.TheVariants as fau
 use Rattle.node_state.specs.States.{State, retires}
 
 -- the identities of a job
-abbrev pub ids_by : List ℕ → Pipeline → Ids
+abbrev pub ids_by : List ℕ → Pipeline → JobId
 ids_by program job = record { program = program; input = input_id job }
 
 -- the job is not retired, and the answer is that of the held facts

@@ -2,7 +2,7 @@
 -- no fact of a retired job.
 use Rattle.std.specs.Coded.{Coded, code_by, coded×}
 use Rattle.std.specs.Prelude.{◌+◌, ℕ, List, length, refl}
-use Rattle.identity.specs.declared.job_ids.Ids.{Ids}
+use Rattle.identity.specs.declared.job_ids.JobId.{JobId}
 use Rattle.identity.specs.declared.key.Key.{Key}
 use Rattle.tile_fact.specs.declared.fact.Fact.{Fact}
 use Rattle.fact_store.specs.Facts as sets
@@ -19,7 +19,7 @@ abbrev pub with_fact : State → Fact → State
 with_fact s f = join s (of_fact f)
 
 -- the state with one more retired job, and without the facts of that job
-abbrev pub with_retired : State → Ids → State
+abbrev pub with_retired : State → JobId → State
 with_retired s ids = join s (of_retirement ids)
 
 -- ---- what it has
@@ -32,7 +32,7 @@ abbrev pub facts_of : State → Key → List Fact
 facts_of s key = sets.facts_of s.facts key
 
 -- the identities of the retired jobs, rising
-abbrev pub retired_in : State → List Ids
+abbrev pub retired_in : State → List JobId
 retired_in s = ids_in_set s.retired
 
 -- the held facts of these keys, and all retired jobs

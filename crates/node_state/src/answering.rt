@@ -10,7 +10,7 @@ ghost use Rattle.std.specs.Prelude.{◌≡◌, AllPairs, IfErr, IfOk};
 
 use crate::state::NodeState;
 use accumulators::Answer;
-use catalog::ids_of;
+use catalog::compute_job_ids;
 use fact_store::FactStore;
 use held_facts::AnswerFault;
 use identity::Key;
@@ -29,7 +29,7 @@ impl<S: FactStore> NodeState<S> {
             ≡ missing_keys self.now.facts (program_id_in job.now) (pipeline_in job.now)) }
         ensures rising { IfOk result (λ keys. AllPairs IsKeyBefore keys.items) }
     {
-        self.held.missing(job)
+        self.held.list_missing_keys(job)
     }
 
     /// The answer of a job by the held facts of its outputs and accumulators, whether these are true or not. The picture has
@@ -47,7 +47,7 @@ impl<S: FactStore> NodeState<S> {
         ensures fault { IfErr result
             (IsAnswerFault self.now (program_id_in job.now) (pipeline_in job.now)) }
     {
-        if self.has_retired(&ids_of(job)) {
+        if self.has_retired_job(&compute_job_ids(job)) {
             return Err(AnswerFault::Retired);
         }
         self.held.answer(job)

@@ -27,7 +27,7 @@ impl<S: FactStore> NodeState<S> {
         ensures held { IfOk result (λ _. AreHeld self.now.facts keys.now) }
         ensures fault { IfErr result (IsLendFault self.now.facts keys.now) }
     {
-        let held = self.held.lend_state(keys)?;
+        let held = self.held.lend_fact_set(keys)?;
         let retired = self.retired.copy(self.alloc)?;
         Ok(NodeState {
             alloc: self.alloc,

@@ -11,11 +11,11 @@ ghost use Rattle.std.specs.Prelude.{◌≡◌, ◌↔◌, Bool, IfErr, IfOk, IsT
 
 use crate::state::NodeState;
 use catalog::Catalog;
-use fact_audit::find_job_of_key;
+use fact_audit::find_job_of_fact_key;
 use fact_store::FactStore;
 use grouping::Schedule;
 use held_facts::MakeFault;
-use identity::{Ids, Key};
+use identity::{JobId, Key};
 use job::Job;
 use tile_fact::Fact;
 
@@ -35,27 +35,27 @@ impl<S: FactStore> NodeState<S> {
         ensures fault { IfErr result
             (IsMakeFault catalog.now self.now schedule.now.inlining key.now) }
     {
-        if self.has_retired(&Ids::of_key(key)) {
-            return Err(self.find_retired_fault(catalog, key));
+        if self.has_retired_job(&JobId::from_key(key)) {
+            return Err(self.find_retired_make_fault(catalog, key));
         }
         self.held.make(catalog, schedule, key)
     }
 
     // Why a tile of a retired job is not made.
-    fn find_retired_fault(&self, catalog: &Catalog, key: &Key) -> MakeFault
+    fn find_retired_make_fault(&self, catalog: &Catalog, key: &Key) -> MakeFault
         requires { retires self.now (ids_in key.now) ≡ true }
         ensures { (inlining : List Bool) → IsMakeFault catalog.now self.now inlining key.now result }
     {
-        match find_job_of_key(catalog, key) {
+        match find_job_of_fact_key(catalog, key) {
             None => MakeFault::Foreign,
-            Some(job) if has_tile_of_key(job, key) => MakeFault::Retired,
+            Some(job) if has_tile_of_fact_key(job, key) => MakeFault::Retired,
             Some(_) => MakeFault::NoSuchTile,
         }
     }
 }
 
 // Whether the job has the function or accumulator and the tile of it that the key names.
-fn has_tile_of_key(job: &Job, key: &Key) -> bool
+fn has_tile_of_fact_key(job: &Job, key: &Key) -> bool
     ensures { IsTrue result ↔ HasTileAt (pipeline_in job.now) key.now.stage key.now.row key.now.col }
 {
     match job.grid(usize::from(key.stage)) {

@@ -9,7 +9,7 @@ ghost use Rattle.tile_fact.specs.FactFile.{fact_file};
 use fact_store::{FactStore, TableFacts};
 use held_facts::{HeldFacts, Known, Taken};
 use id_lists::IdList;
-use identity::{Ids, Key};
+use identity::{JobId, Key};
 use std::alloc::{AllocError, AllocFailed, Global};
 use std::marker::Model;
 use tile_fact::{Fact, encode};
@@ -69,7 +69,7 @@ impl<S: FactStore> NodeState<S> {
     }
 
     /// The identities of the jobs that are retired, rising. No memory is allocated.
-    pub fn retired(&self) -> &[Ids]
+    pub fn retired(&self) -> &[JobId]
         ensures ids { result.now ≡ retired_in self.now }
         ensures state { IsState self.now }
     {
@@ -77,11 +77,11 @@ impl<S: FactStore> NodeState<S> {
     }
 
     /// Whether the job of these identities is retired.
-    pub fn has_retired(&self, ids: &Ids) -> bool
+    pub fn has_retired_job(&self, ids: &JobId) -> bool
         ensures retired { result ≡ retires self.now ids.now }
         ensures state { IsState self.now }
     {
-        self.retired.has_ids(ids)
+        self.retired.has_job_id(ids)
     }
 
     /// Adds a fact, unless its job is retired, and reports whether it was new. Where memory runs out for a new fact it is handed
@@ -94,24 +94,24 @@ impl<S: FactStore> NodeState<S> {
         ensures only_live { IfErr result (λ _. retires self.old (ids_in fact.key) ≡ false) }
         ensures unchanged { OnErr result (self.new ≡ self.old) }
     {
-        if self.has_retired(&Ids::of_key(fact.key())) {
+        if self.has_retired_job(&JobId::from_key(fact.key())) {
             return Ok(Taken::Retired);
         }
-        self.held.take(fact)
+        self.held.hold_fact(fact)
     }
 
     /// Retires a job, drops the job's facts, and reports whether the retirement was new. Where memory runs out the state is
     /// unchanged.
-    pub fn retire(&mut self, ids: &Ids) -> Result<Taken, AllocError>
+    pub fn retire(&mut self, ids: &JobId) -> Result<Taken, AllocError>
         ensures retired { OnOk result (self.new ≡ with_retired self.old ids.now) }
         ensures new { IfOk result (λ taken. taken ≡ retired_of self.old ids.now) }
         ensures only_new { IfErr result (λ _. retires self.old ids.now ≡ false) }
         ensures unchanged { OnErr result (self.new ≡ self.old) }
     {
-        if self.has_retired(ids) {
+        if self.has_retired_job(ids) {
             return Ok(Taken::Already);
         }
-        self.retired.add_ids(ids)?;
+        self.retired.add_job_id(ids)?;
         self.held.remove_facts_of_jobs(&[*ids]);
         Ok(Taken::New)
     }
@@ -125,7 +125,7 @@ impl<S: FactStore> NodeState<S> {
     {
         let retired = self.retired.unite(self.alloc, &other.retired)?;
         let again = other.held.count_facts_of_jobs(self.retired.as_slice())?;
-        let more = self.retired.count_lacked_ids(&retired);
+        let more = self.retired.count_job_ids_only_in_other(&retired);
         let new = self.held.merge(&other.held)?;
         self.held.remove_facts_of_jobs(retired.as_slice());
         self.retired = retired;
@@ -136,10 +136,10 @@ impl<S: FactStore> NodeState<S> {
     pub fn knows(&self, key: &Key) -> Known
         ensures { result ≡ known_of self.now key.now }
     {
-        if self.has_retired(&Ids::of_key(key)) {
+        if self.has_retired_job(&JobId::from_key(key)) {
             Known::Retired
         } else {
-            self.held.knows(key)
+            self.held.classify_facts_of_key(key)
         }
     }
 

@@ -4,7 +4,7 @@ use Rattle.std.specs.Prelude.{if◌then◌else◌, map}
 use Rattle.std.specs.Option.{option_map}
 use Rattle.domains.specs.Span.{Ends}
 use Rattle.domains.specs.Area.{HoldsPoint}
-use Rattle.operators.specs.declared.operator.Fold.{Fold}
+use Rattle.operators.specs.declared.operator.ReductionOp.{ReductionOp}
 use Rattle.domains.specs.declared.grid.Grid.{Grid}
 use Rattle.job.specs.declared.stage.Function.{Function as KeptFunction}
 use Rattle.job.specs.declared.stage.Body.{Body as KeptBody}
@@ -40,7 +40,7 @@ module _ (job : Pipeline) (inlining : List Bool) (given : KnownTiles) (Inner : �
     of_stored ps o is flag =
         subst (λ (b : Bool). FunctionAtHand b (Inner g r c) (IsGivenAt given g (grid_of job s) r c)) flag (of_body (function ps o) is)
 
-    pub no_accumulator : (fold : Fold) (bins : Ends) (value bin : Formula) → s.body ≡ accumulator fold bins value bin → ⊥
+    pub no_accumulator : (fold : ReductionOp) (bins : Ends) (value bin : Formula) → s.body ≡ accumulator fold bins value bin → ⊥
     no_accumulator fold bins value bin is = of_body (accumulator fold bins value bin) is
 
 module _ (job : Pipeline) (inlining : List Bool) (given : KnownTiles) (inner : Valuation) (g : ℕ) (s : Stage)

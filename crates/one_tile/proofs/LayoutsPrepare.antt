@@ -16,15 +16,15 @@ use Rattle.job.specs.Answers.{Tile}
 use Rattle.job.specs.Pipeline.{Pipeline}
 use Rattle.job.specs.WellFormed.{IsJob}
 use Rattle.tile_boxes.specs.Costs.{inner_steps, steps}
-use Rattle.tile_boxes.specs.Schedules.{is_function}
+use Rattle.tile_boxes.specs.Schedules.{is_function_stage}
 use Rattle.tile_boxes.specs.Targets.{Target, IsTarget, target_over}
-use Rattle.overlap_tiles.specs.declared.steps.Step.{Step}
+use Rattle.overlap_tiles.specs.declared.steps.TileStep.{TileStep}
 use Rattle.overlap_tiles.specs.Needs.{key_tile, needs}
 use Rattle.overlap_tiles.specs.Plans.{Layout, IsTileAt, IsTileLayout}
 use Rattle.overlap_tiles.specs.Views.{step_view}
 use Rattle.overlap_tiles.proofs.Lists.{Contains-from_map}
 use Rattle.overlap_tiles.proofs.TilesAreTargets.{tile_is_target}
-use Rattle.tile_eval.specs.Buffer.{raster}
+use Rattle.tile_eval.specs.Raster.{raster}
 use Rattle.tile_sources.specs.KnownTiles.{KnownTiles}
 use Rattle.one_tile.specs.Local.{local_value}
 use Rattle.one_tile.specs.Runs.{is_missing, first_missing, NeedsGiven, AreLocalOn}
@@ -65,10 +65,10 @@ some_of None e = absurd (true≢false e)
 some_of (Some xs) e = (xs, refl)
 
 -- a list of steps that has a last one
-pub not_empty : (steps : List Step) (inner : List (ℕ × Area)) (last : ℕ × Area) → steps ≡ [] → map step_view steps ≡ inner ++ last ∷ [] → ⊥
+pub not_empty : (steps : List TileStep) (inner : List (ℕ × Area)) (last : ℕ × Area) → steps ≡ [] → map step_view steps ≡ inner ++ last ∷ [] → ⊥
 not_empty steps inner last none are =
     let size : length (map step_view steps) ≡ length (inner ++ last ∷ []) = ap length are in
-    let zero_long : length (map step_view steps) ≡ 0 = ap (λ (ss : List Step). length (map step_view ss)) none in
+    let zero_long : length (map step_view steps) ≡ 0 = ap (λ (ss : List TileStep). length (map step_view ss)) none in
     absurd (omega (arith, size, zero_long, length-append inner (last ∷ [])))
 
 -- where no key is missing, the tile of each is given
@@ -113,7 +113,7 @@ module _ (job : Pipeline) (inlining : List Bool) (given : KnownTiles) (l : Layou
       inner : slice_get (inner_steps of_tile) k ≡ Some (h, a)
       inner = inner_at of_tile l given is.layout.layout k h a here
 
-      pub inner_function : (good : IsJob job) → NeedsGiven given l.needs → is_function job h ≡ true
+      pub inner_function : (good : IsJob job) → NeedsGiven given l.needs → is_function_stage job h ≡ true
       inner_function good are_given = inner_is_function of_tile good given (gives are_given) k h a inner
 
       pub inner_is_area : (good : IsJob job) → NeedsGiven given l.needs → IsArea a

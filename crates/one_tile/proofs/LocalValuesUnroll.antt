@@ -16,7 +16,7 @@ use Rattle.job.proofs.Steps.{IsSame, body_value-agrees}
 use Rattle.job.proofs.Unrolling.{reads_fall, value-unroll}
 use Rattle.job.proofs.Solving.{BodyReads-both, body_value-agrees_there, ranked_is}
 use Rattle.tile_eval.specs.Rows.{at}
-use Rattle.tile_eval.specs.Buffer.{place_of}
+use Rattle.tile_eval.specs.Raster.{place_of}
 use Rattle.tile_eval.proofs.Rasters.{raster_at}
 use Rattle.tile_boxes.specs.Schedules.{is_inlined}
 use Rattle.tile_sources.specs.KnownTiles.{KnownTiles, number_in, given_number, AreTrue, IsGivenAt}

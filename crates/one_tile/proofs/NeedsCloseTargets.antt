@@ -17,14 +17,14 @@ use Rattle.job.specs.Values.{value}
 use Rattle.job.specs.WellFormed.{IsValued, IsReadable, IsJob}
 use Rattle.job.proofs.Steps.{All-both}
 use Rattle.job.proofs.Solving.{ranked_is}
-use Rattle.tile_boxes.specs.Schedules.{is_inlined, is_function, is_function_body}
-use Rattle.tile_boxes.specs.Targets.{Target, IsTarget, is_boxed, box, region, IsInBox}
+use Rattle.tile_boxes.specs.Schedules.{is_inlined, is_function_stage, is_function_body}
+use Rattle.tile_boxes.specs.Targets.{Target, IsTarget, can_have_box, box, region, IsInBox}
 use Rattle.tile_boxes.proofs.BoxesHoldWhatIsRead.{has_what_it_reads}
 use Rattle.tile_boxes.proofs.BoxesLieInDomains.{region_in_domain}
 use Rattle.overlap_tiles.specs.Needs.{IsNeeded}
 use Rattle.overlap_tiles.proofs.BoxesAreLower.{box_low}
 use Rattle.tile_boxes.proofs.TilesAreTargets.{grid_fits}
-use Rattle.tile_eval.specs.Buffer.{raster}
+use Rattle.tile_eval.specs.Raster.{raster}
 use Rattle.tile_eval.proofs.Rasters.{raster_same}
 use Rattle.tile_sources.specs.KnownTiles.{KnownTiles, AreTrue, IsGivenAt}
 use Rattle.one_tile.specs.Local.{local_value, FunctionAtHand, BodyAtHand, StageAtHand, IsAtHand, IsProvided}
@@ -87,13 +87,13 @@ module _ (t : Target) (job : IsJob t.job) (target : IsTarget t) (given : KnownTi
         let grid : Grid = grid_of t.job x.stage in
         let at : grid_at t.job h ≡ Some grid = ap (stage_grid t.job) x.there ∙ (λ i. if has i then Some grid else None) in
         let tile = tile_is grid r c (grid_fits t.job h grid job at) x.within in
-        let one = and_from (is_function t.job h) (not (eqb h t.stage))
+        let one = and_from (is_function_stage t.job h) (not (eqb h t.stage))
         (ap (λ (o : Option Stage). option_map_or (λ s. is_function_body s.body) o false) x.there ∙ e) (ap not other) in (
           x.within,
           gives (record { stage = h; row = (tile_at grid r c).0; col = (tile_at grid r c).1 }) (record {
             grid = grid;
             there = at;
-            stored = and_from (is_boxed t h) (not (is_inlined t.inlining h)) one (ap not stored);
+            stored = and_from (can_have_box t h) (not (is_inlined t.inlining h)) one (ap not stored);
             area = boxed.area;
             boxed = boxed.there;
             meets = record { there = tile.there; row = r; col = c; in_tile = tile.holds; in_area = boxed.holds };

@@ -4,22 +4,22 @@ use Rattle.std.proofs.Common.{pos, ◌-◌}
 use Rattle.std.proofs.lemmas.List.{length-map}
 use Rattle.std.proofs.lemmas.Option.{slice_get_within, get_or_from_slice_get}
 use Rattle.domains.specs.Area.{IsArea, point_count}
-use Rattle.tile_boxes.specs.Schedules.{is_function}
+use Rattle.tile_boxes.specs.Schedules.{is_function_stage}
 use Rattle.domains.proofs.Places.{all_at}
 use Rattle.tile_boxes.specs.Costs.{inner_steps}
 use Rattle.tile_boxes.specs.Targets.{Target, target_over}
 use Rattle.job.specs.Pipeline.{Pipeline}
 use Rattle.job.specs.WellFormed.{IsJob}
-use Rattle.overlap_tiles.specs.declared.steps.Step.{Step}
+use Rattle.overlap_tiles.specs.declared.steps.TileStep.{TileStep}
 use Rattle.overlap_tiles.specs.Plans.{Layout, IsLayout, IsTileLayout}
 use Rattle.overlap_tiles.specs.Views.{step_view}
 use Rattle.row_kernels.proofs.Places.{place_below}
 use Rattle.scratch.specs.Parts.{with_part}
 use Rattle.scratch.proofs.PartLemmas.{length-with_part, with_part-before, with_part-within, with_part-behind}
-use Rattle.tile_eval.specs.Buffer.{raster, place_of}
+use Rattle.tile_eval.specs.Raster.{raster, place_of}
 use Rattle.tile_eval.specs.Rows.{at}
 use Rattle.tile_eval.proofs.Rasters.{raster_len, raster_at}
-use Rattle.one_tile.specs.declared.scratch_view.ScratchView.{ScratchView}
+use Rattle.one_tile.specs.declared.scratch_view.StepScratchView.{StepScratchView}
 use Rattle.tile_sources.specs.KnownTiles.{KnownTiles}
 use Rattle.one_tile.specs.Local.{local_value}
 use Rattle.one_tile.specs.Prepared.{IsInnerStep, IsBoxed, IsPreparedOn}
@@ -28,9 +28,9 @@ use Rattle.one_tile.specs.inside.Steps.{AreComputed, AreLent, IsPreparedBeside}
 use Rattle.one_tile.proofs.LayoutsPrepare.{own_layout, inner_function, inner_is_area, inner_prepared, layout_ready}
 use Rattle.one_tile.proofs.StepsRun.{HasRange, steps_long, step_at, range_at, lies_off, finds, computed_next}
 
-module _ (job : Pipeline) (l : Layout) (given : KnownTiles) (some : IsSomeLayout job l) (steps : List Step)
+module _ (job : Pipeline) (l : Layout) (given : KnownTiles) (some : IsSomeLayout job l) (steps : List TileStep)
     (steps_are : map step_view steps ≡ l.steps) (ranges : List (ℕ × ℕ)) (ranges_are : ranges ≡ l.ranges) (place : ℕ)
-    (there : suc place < length l.steps) (step : Step) (step_is : step ≡ slice_index_or steps place step) where
+    (there : suc place < length l.steps) (step : TileStep) (step_is : step ≡ slice_index_or steps place step) where
   own : IsTileLayout job l.inlining some.stage some.row some.col l
   own = own_layout job some.inlining given l some.stage some.row some.col some.layout
 
@@ -72,7 +72,7 @@ module _ (job : Pipeline) (l : Layout) (given : KnownTiles) (some : IsSomeLayout
     pub step_area : IsArea step.area
     step_area = inner_is_area job l.inlining given l some.stage some.row some.col own place step.stage step.area here good needs
 
-    pub step_function : is_function job step.stage ≡ true
+    pub step_function : is_function_stage job step.stage ≡ true
     step_function = inner_function job l.inlining given l some.stage some.row some.col own place step.stage step.area here good needs
 
     module _ (memory : List ℤ) (size : l.scratch ≤ length memory) (done : AreComputed job l given memory place) where
@@ -115,7 +115,7 @@ module _ (job : Pipeline) (l : Layout) (given : KnownTiles) (some : IsSomeLayout
 -- ---- after all steps
 
 module _ (job : Pipeline) (l : Layout) (given : KnownTiles) (g i j : ℕ) (at_tile : IsTileLayout job l.inlining g i j l) (good : IsJob job)
-    (needs : NeedsGiven given l.needs) (memory : List ℤ) (size : l.scratch ≤ length memory) (boxes : ScratchView)
+    (needs : NeedsGiven given l.needs) (memory : List ℤ) (size : l.scratch ≤ length memory) (boxes : StepScratchView)
     (before : boxes.before.now ≡ memory) (behind : length boxes.behind.now ≡ 0) (end : boxes.end ≡ length memory)
     (done : (last : ℕ) → suc last ≡ length l.steps → AreComputed job l given memory last) where
   abbrev of_tile : Target

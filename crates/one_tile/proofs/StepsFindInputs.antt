@@ -17,8 +17,8 @@ use Rattle.job.specs.Pipeline.{Body, plane, function, accumulator, Stage, Pipeli
 use Rattle.job.specs.Answers.{grid_of, has_tiles}
 use Rattle.job.specs.Readers.{stage_grid, grid_at}
 use Rattle.job.specs.WellFormed.{IsValued, IsReadable, IsJob}
-use Rattle.tile_boxes.specs.Schedules.{is_inlined, is_function, is_function_body}
-use Rattle.tile_boxes.specs.Targets.{Target, IsTarget, is_boxed, boxes}
+use Rattle.tile_boxes.specs.Schedules.{is_inlined, is_function_stage, is_function_body}
+use Rattle.tile_boxes.specs.Targets.{Target, IsTarget, can_have_box, boxes}
 use Rattle.tile_boxes.specs.Costs.{inner_steps, steps}
 use Rattle.overlap_tiles.specs.Available.{IsPlaneAt, IsInNeededTile, IsAvailable}
 use Rattle.overlap_tiles.specs.Needs.{needs}
@@ -43,7 +43,7 @@ pub record IsFunctionStage (job : Pipeline) (g : ℕ) : Type 0 where
   pub there : slice_get job.stages g ≡ Some stage
   pub function : is_function_body stage.body ≡ true
 
-pub function_stage : (job : Pipeline) (g : ℕ) → is_function job g ≡ true → IsFunctionStage job g
+pub function_stage : (job : Pipeline) (g : ℕ) → is_function_stage job g ≡ true → IsFunctionStage job g
 function_stage job g is = by (slice_get job.stages g) refl is
   where
     by : (o : Option Stage) → slice_get job.stages g ≡ o → option_map_or (λ s. is_function_body s.body) o false ≡ true
@@ -52,10 +52,10 @@ function_stage job g is = by (slice_get job.stages g) refl is
     by (Some s) there e = record { stage = s; there = there; function = e }
 
 inner_function : (t : Target) (s : ℕ × Area) → Contains (inner_steps t) s
-    → (is_function t.job s.0 ≡ true) × (is_inlined t.inlining s.0 ≡ true)
+    → (is_function_stage t.job s.0 ≡ true) × (is_inlined t.inlining s.0 ≡ true)
 inner_function t s k =
     let inner = Contains-from_filter (λ x. is_inlined t.inlining x.0) (boxes t) s k in
-    ((and_parts (is_function t.job s.0) (not (eqb s.0 t.stage)) (box_listed t s inner.0).boxed).0, inner.1)
+    ((and_parts (is_function_stage t.job s.0) (not (eqb s.0 t.stage)) (box_listed t s inner.0).boxed).0, inner.1)
 
 -- a step before another is inlined
 step_inlined : (t : Target) (p k g h : ℕ) (a b : Area) → p < k → slice_get (steps t) k ≡ Some (g, a) → slice_get (steps t) p ≡ Some (h, b)
@@ -74,7 +74,7 @@ module _ (t : Target) (job : IsJob t.job) (given : KnownTiles) (are_given : Need
   needed_stored : (h : ℕ) (r c : ℤ) → IsInNeededTile t h r c → is_inlined t.inlining h ≡ false
   needed_stored h r c n =
       let needed = from_needs t (record { stage = h; row = n.row; col = n.col }) job n.needed in
-      not-true (is_inlined t.inlining h) (and_parts (is_boxed t h) (not (is_inlined t.inlining h)) needed.stored).1
+      not-true (is_inlined t.inlining h) (and_parts (can_have_box t h) (not (is_inlined t.inlining h)) needed.stored).1
 
   module _ (h : ℕ) (r c : ℤ) (s : Stage) (there : slice_get t.job.stages h ≡ Some s) where
     no_plane : is_function_body s.body ≡ true → IsPlaneAt t.job h → ⊥
@@ -140,7 +140,7 @@ module _ (t : Target) (job : IsJob t.job) (given : KnownTiles) (are_given : Need
     among : slice_get (steps t) k ≡ Some (g, a)
     among = to_longer (inner_steps t) ((t.stage, t.region) ∷ []) k (g, a) here
 
-    pub inner_is_function : is_function t.job g ≡ true
+    pub inner_is_function : is_function_stage t.job g ≡ true
     inner_is_function = (inner_function t (g, a) (
       k,
       slice_get_within (inner_steps t) k (g, a) here,

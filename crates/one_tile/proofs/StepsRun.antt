@@ -13,16 +13,16 @@ use Rattle.job.specs.Pipeline.{Body, plane, Stage, Pipeline}
 use Rattle.job.specs.WellFormed.{picture_area, IsBody, IsJob}
 use Rattle.tile_boxes.specs.Costs.{inner_steps, steps}
 use Rattle.tile_boxes.specs.Targets.{Target}
-use Rattle.overlap_tiles.specs.declared.steps.Step.{Step}
+use Rattle.overlap_tiles.specs.declared.steps.TileStep.{TileStep}
 use Rattle.overlap_tiles.specs.Lives.{IsReadAt}
 use Rattle.overlap_tiles.specs.Plans.{Layout, IsLayout}
 use Rattle.overlap_tiles.specs.Views.{step_view}
 use Rattle.overlap_tiles.proofs.StepsHaveWhatTheyRead.{lives_last}
 use Rattle.overlap_tiles.proofs.StepsRise.{one_place}
 use Rattle.row_kernels.proofs.Places.{place_below}
-use Rattle.tile_eval.specs.Buffer.{place_of}
+use Rattle.tile_eval.specs.Raster.{place_of}
 use Rattle.tile_eval.specs.Rows.{at}
-use Rattle.one_tile.specs.declared.scratch_view.ScratchView.{ScratchView}
+use Rattle.one_tile.specs.declared.scratch_view.StepScratchView.{StepScratchView}
 use Rattle.tile_sources.specs.KnownTiles.{KnownTiles}
 use Rattle.one_tile.specs.Local.{local_value}
 use Rattle.one_tile.specs.Prepared.{IsLent, IsInnerStep, HasBox, IsBoxed}
@@ -50,7 +50,7 @@ module _ (job : Pipeline) (is : IsJob job) where
       (body.0, λ r c holds. subst (λ (a : Area). HoldsPoint a r c) body.1 holds)
 
 -- the step at a place of a list
-pub step_at : (steps : List Step) (k : ℕ) (s : Step) → k < length steps → s ≡ slice_index_or steps k s
+pub step_at : (steps : List TileStep) (k : ℕ) (s : TileStep) → k < length steps → s ≡ slice_index_or steps k s
     → slice_get (map step_view steps) k ≡ Some (step_view s)
 step_at steps k s there is =
     slice_get-map step_view steps k ∙ ap (option_map step_view) (slice_get_read steps (length steps) k s refl there is)
@@ -128,7 +128,7 @@ module _ (t : Target) (l : Layout) (given : KnownTiles) (is : IsLayout t l) wher
 
   -- ---- what a step finds
 
-  module _ (memory : List ℤ) (boxes : ScratchView) (start m : ℕ) (lent' : AreLent memory boxes start) (size : l.scratch ≤ length memory)
+  module _ (memory : List ℤ) (boxes : StepScratchView) (start m : ℕ) (lent' : AreLent memory boxes start) (size : l.scratch ≤ length memory)
       (few : m < length l.steps) (done : AreComputed t.job l given memory m)
       (off : (p : ℕ) (range : ℕ × ℕ) → p < m → IsReadAt t.job l.steps p m → slice_get l.ranges p ≡ Some range
       → LiesOff range start boxes.end) where

@@ -11,7 +11,7 @@ use Rattle.overlap_tiles.specs.Needs.{IsNeeded}
 use Rattle.overlap_tiles.specs.Plans.{Layout, IsTileLayout}
 use Rattle.overlap_tiles.proofs.NeedsAreExact.{to_needs}
 use Rattle.overlap_tiles.proofs.TilesAreTargets.{tile_is_target}
-use Rattle.tile_eval.specs.Buffer.{raster}
+use Rattle.tile_eval.specs.Raster.{raster}
 use Rattle.tile_sources.specs.KnownTiles.{KnownTiles, AreTrue}
 use Rattle.one_tile.specs.Runs.{NeedsGiven, AreLocalOn, AreValuesOn}
 use Rattle.one_tile.proofs.NeedsCloseTargets.{values_over}

@@ -11,7 +11,7 @@ use Rattle.job.specs.Reads.{BodyReads, formulas_of}
 use Rattle.job.specs.Values.{Valuation, body_value}
 use Rattle.job.specs.WellFormed.{IsFormula, IsTest, InDomainRange, IsBody, IsStage, IsJob}
 use Rattle.tile_eval.specs.Cases.{AreBoxedAround, function_value}
-use Rattle.tile_eval.specs.Buffer.{raster}
+use Rattle.tile_eval.specs.Raster.{raster}
 use Rattle.tile_eval.proofs.Rasters.{raster_same}
 use Rattle.tile_eval.proofs.NearAreas.{near_inside}
 use Rattle.tile_sources.specs.KnownTiles.{KnownTiles}

@@ -1,7 +1,7 @@
 -- Layouts of tiles of functions.
 use Rattle.std.specs.Prelude.{ℕ, ◌≡◌, Bool, true, List}
 use Rattle.job.specs.Pipeline.{Pipeline}
-use Rattle.tile_boxes.specs.Schedules.{is_function}
+use Rattle.tile_boxes.specs.Schedules.{is_function_stage}
 use Rattle.overlap_tiles.specs.Plans.{Layout, IsTileLayout}
 
 -- the layout is that of a tile of a function
@@ -11,4 +11,4 @@ pub record IsFunctionLayout (job : Pipeline) (l : Layout) : Type 0 where
   pub row : ℕ
   pub col : ℕ
   pub layout : IsTileLayout job inlining stage row col l
-  pub function : is_function job stage ≡ true
+  pub function : is_function_stage job stage ≡ true

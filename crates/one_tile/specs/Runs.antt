@@ -6,9 +6,9 @@ use Rattle.identity.specs.declared.key.Key.{Key}
 use Rattle.job.specs.Answers.{Tile}
 use Rattle.job.specs.Pipeline.{Pipeline}
 use Rattle.job.specs.Values.{value}
-use Rattle.tile_boxes.specs.Schedules.{is_function}
+use Rattle.tile_boxes.specs.Schedules.{is_function_stage}
 use Rattle.overlap_tiles.specs.Plans.{Plan, Layout, IsTileAt, IsTilePlan, IsTileLayout}
-use Rattle.tile_eval.specs.Buffer.{raster}
+use Rattle.tile_eval.specs.Raster.{raster}
 use Rattle.one_tile.specs.declared.tile_fault.EvalFault.{EvalFault}
 use Rattle.one_tile.specs.declared.tile_fault.EvalFault.TheVariants.{Missing, Memory}
 use Rattle.tile_sources.specs.KnownTiles.{KnownTiles}
@@ -37,7 +37,7 @@ pub record IsFunctionPlan (program : List ℕ) (job : Pipeline) (p : Plan) : Typ
   pub row : ℕ
   pub col : ℕ
   pub plan : IsTilePlan program job inlining stage row col p
-  pub function : is_function job stage ≡ true
+  pub function : is_function_stage job stage ≡ true
 
 -- why a tile with these needs is not computed. Memory may be refused wherever no need is missing
 abbrev pub IsEvalFault : KnownTiles → List Key → EvalFault → Type 0

@@ -13,8 +13,8 @@ mod tile_job;
 mod tile_rows;
 
 pub use memory::TileScratch;
-pub use run::{find_first_missing_key, run_tile};
-pub use scratch_view::ScratchView;
+pub use run::{find_first_unsupplied_tile, run_tile};
+pub use scratch_view::StepScratchView;
 pub use tile_fault::EvalFault;
 pub use tile_inputs::TileInputs;
 pub use tile_job::TileJob;

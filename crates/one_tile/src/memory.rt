@@ -25,7 +25,7 @@ pub struct TileScratch {
 /// # Errors
 ///
 /// Fails only where memory is refused.
-pub(crate) fn detach_grown_vector(
+pub(crate) fn detach_tile_operands(
     alloc: Global,
     kept: &mut Vec<i32>,
     size: usize,
@@ -68,7 +68,11 @@ impl TileScratch {
     /// # Errors
     ///
     /// Fails only where memory is refused.
-    pub fn reuse_row_vectors(&mut self, alloc: Global, count: u32) -> Result<TileRow, AllocError> {
+    pub fn reuse_tile_row_vectors(
+        &mut self,
+        alloc: Global,
+        count: u32,
+    ) -> Result<TileRow, AllocError> {
         let mut tiles = Vec::new(alloc);
         for _ in 0..count {
             tiles.push(self.reuse_tile_vector(alloc))?;
@@ -84,14 +88,14 @@ impl TileScratch {
     }
 
     /// Recycles those of one more row of tiles, as far as there is memory to list them.
-    pub fn recycle_row(&mut self, row: TileRow) {
+    pub fn recycle_tile_row(&mut self, row: TileRow) {
         let mut vectors = row.tiles;
         // (where they can't be listed, they are freed)
         let _ = self.tiles.append(&mut vectors);
     }
 
     /// Recycles those of all tiles of a stage as well, as far as there is memory to list them.
-    pub fn recycle_stage(&mut self, tiles: StageTiles) {
+    pub fn recycle_stage_tiles(&mut self, tiles: StageTiles) {
         let mut rows = tiles.rows;
         while let Some(row) = rows.pop() {
             let mut vectors = row.tiles;

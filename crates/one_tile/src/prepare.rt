@@ -8,13 +8,13 @@ ghost use Rattle.one_tile.specs.Prepared.{IsPreparedOn};
 ghost use Rattle.one_tile.specs.Runs.{NeedsGiven, IsSomeLayout};
 ghost use Rattle.tile_sources.specs.Wide.{AreWide};
 
-use crate::memory::{TileScratch, detach_grown_vector};
-use crate::operands::count_operands_of_steps;
-use crate::scratch_view::ScratchView;
+use crate::memory::{TileScratch, detach_tile_operands};
+use crate::operands::find_operand_capacity_of_steps;
+use crate::scratch_view::StepScratchView;
 use crate::tile_job::TileJob;
 use std::alloc::{AllocError, Global};
 use std::mem;
-use tile_sources::{PlaneBuffers, TileSource, find_plane_areas};
+use tile_sources::{PlaneBuffers, TileSource, find_plane_areas_to_convert};
 
 impl<K: TileSource> TileJob<'_, K> {
     /// Computes the boxes of the inlined functions that the tile's layout names, so that all reads of the tile are available.
@@ -27,7 +27,7 @@ impl<K: TileSource> TileJob<'_, K> {
         &self,
         alloc: Global,
         scratch: &'s mut TileScratch,
-    ) -> Result<ScratchView<'s>, AllocError>
+    ) -> Result<StepScratchView<'s>, AllocError>
         requires layout { IsSomeLayout (pipeline_in self.now.job.now) self.now.layout.now }
         requires needs { NeedsGiven (K.given self.now.known.now) self.now.layout.now.needs }
         ensures prepared { IfOk result (λ boxes. (g i j : ℕ)
@@ -38,17 +38,17 @@ impl<K: TileSource> TileJob<'_, K> {
         ensures wide { IfOk result
             (λ boxes. AreWide (pipeline_in self.now.job.now).picture boxes.planes.now) }
     {
-        let room = count_operands_of_steps(self.job, self.layout.steps()).ok_or(AllocError)?;
-        let areas = find_plane_areas(self.job, self.layout.steps());
-        let mut operands = detach_grown_vector(alloc, &mut scratch.operands_of_steps, room)?;
+        let room = find_operand_capacity_of_steps(self.job, self.layout.steps()).ok_or(AllocError)?;
+        let areas = find_plane_areas_to_convert(self.job, self.layout.steps());
+        let mut operands = detach_tile_operands(alloc, &mut scratch.operands_of_steps, room)?;
         scratch.boxes.grow(self.layout.scratch())?;
         scratch.planes.grow(&areas)?;
         scratch.planes.convert_planes(self.job.picture(), &areas);
         // the converted planes are read while the memory of the boxes is written
         let planes = mem::replace(&mut scratch.planes, PlaneBuffers::new(alloc));
-        self.run_inner_steps(&planes, &mut scratch.boxes, &mut operands[..room]);
+        self.compute_inlined_steps(&planes, &mut scratch.boxes, &mut operands[..room]);
         scratch.planes = planes;
         scratch.operands_of_steps = operands;
-        Ok(ScratchView::from_numbers(scratch.boxes.whole(), &scratch.planes))
+        Ok(StepScratchView::from_numbers(scratch.boxes.as_slice(), &scratch.planes))
     }
 }

@@ -8,26 +8,26 @@ ghost use Rattle.job.specs.Kept.{pipeline_in, program_id_in};
 ghost use Rattle.job.specs.Views.{case_view, formula_view};
 ghost use Rattle.overlap_tiles.specs.Plans.{IsTilePlan, IsTileLayout};
 ghost use Rattle.overlap_tiles.specs.Views.{step_view};
-ghost use Rattle.tile_eval.specs.Buffer.{raster};
+ghost use Rattle.tile_eval.specs.Raster.{raster};
 ghost use Rattle.tile_sources.specs.KnownTiles.{AreTrue, AreWhole};
 ghost use Rattle.one_tile.specs.Local.{local_value};
 ghost use Rattle.one_tile.specs.Runs.{is_missing, first_missing, AreLocalOn, AreValuesOn, NeedsGiven, IsFunctionPlan, IsEvalFault};
 ghost use Rattle.one_tile.specs.Layouts.{IsFunctionLayout};
 ghost use Rattle.one_tile.specs.inside.Steps.{IsFunctionAt};
 
-use crate::memory::{TileScratch, detach_grown_vector};
-use crate::steps::find_function;
+use crate::memory::{TileScratch, detach_tile_operands};
+use crate::steps::find_step_function;
 use crate::tile_fault::EvalFault;
 use crate::tile_inputs::TileInputs;
 use crate::tile_job::TileJob;
 use identity::Key;
 use job::{Function, Job};
-use overlap_tiles::{Step, TilePlan};
+use overlap_tiles::{TilePlan, TileStep};
 use std::alloc::{AllocError, Global};
-use tile_eval::function_room;
+use tile_eval::compute_function_capacity;
 use tile_sources::TileSource;
 
-fn is_missing<K: TileSource>(known: &K, key: &Key) -> bool
+fn is_tile_unsupplied<K: TileSource>(known: &K, key: &Key) -> bool
     ensures { result ≡ is_missing (K.given known.now) key.now }
 {
     known
@@ -36,14 +36,17 @@ fn is_missing<K: TileSource>(known: &K, key: &Key) -> bool
 }
 
 /// The first of these keys whose tile is not supplied.
-pub fn find_first_missing_key<K: TileSource>(needs: &[Key], known: &K) -> Option<Key>
+pub fn find_first_unsupplied_tile<K: TileSource>(needs: &[Key], known: &K) -> Option<Key>
     ensures { result ≡ first_missing (K.given known.now) needs.now }
 {
-    needs.iter().copied().find(|key| is_missing(known, key))
+    needs
+        .iter()
+        .copied()
+        .find(|key| is_tile_unsupplied(known, key))
 }
 
 // The last step.
-fn find_last_step(steps: &[Step]) -> Option<&Step>
+fn find_last_tile_step(steps: &[TileStep]) -> Option<&TileStep>
     ensures some { IfSome result (λ step. (inner : List (ℕ × Area)) (last : ℕ × Area)
         → map step_view steps.now ≡ inner ++ last ∷ [] → step_view step.now ≡ last) }
     ensures none { IfNone result (steps.now ≡ []) }
@@ -59,7 +62,7 @@ impl<K: TileSource> TileJob<'_, K> {
     fn compute_function_values(
         &self,
         alloc: Global,
-        step: &Step,
+        step: &TileStep,
         function: &Function,
         scratch: &mut TileScratch,
     ) -> Result<Vec<i32>, AllocError>
@@ -75,8 +78,8 @@ impl<K: TileSource> TileJob<'_, K> {
             self.now.layout.now.inlining (K.given self.now.known.now) step.now.stage)) }
     {
         let area = &step.area;
-        let room = function_room(function, area.cols.len() as usize).ok_or(AllocError)?;
-        let mut operands = detach_grown_vector(alloc, &mut scratch.operands, room)?;
+        let room = compute_function_capacity(function, area.cols.len() as usize).ok_or(AllocError)?;
+        let mut operands = detach_tile_operands(alloc, &mut scratch.operands, room)?;
         let mut values = scratch.reuse_tile_vector(alloc);
         values.resize(area.points() as usize, 0)?;
         let boxes = self.compute_inlined_boxes(alloc, scratch)?;
@@ -110,10 +113,10 @@ impl<K: TileSource> TileJob<'_, K> {
             → AreLocalOn (pipeline_in self.now.job.now) inlining (K.given self.now.known.now) g i j
             values.items) }
     {
-        let Some(last) = find_last_step(self.layout.steps()) else {
+        let Some(last) = find_last_tile_step(self.layout.steps()) else {
             return Ok(Vec::new(alloc));
         };
-        match find_function(self.job, last.stage) {
+        match find_step_function(self.job, last.stage) {
             Some(function) => self.compute_function_values(alloc, last, function, scratch),
             None => Ok(Vec::new(alloc)),
         }
@@ -147,7 +150,7 @@ pub fn run_tile<K: TileSource>(
         (λ values. first_missing (K.given known.now) plan.now.needs ≡ None) }
     ensures fault { IfErr result (IsEvalFault (K.given known.now) plan.now.needs) }
 {
-    if let Some(key) = find_first_missing_key(plan.needs(), known) {
+    if let Some(key) = find_first_unsupplied_tile(plan.needs(), known) {
         return Err(EvalFault::Missing(key));
     }
     let tile = TileJob {

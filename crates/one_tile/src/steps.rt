@@ -5,31 +5,31 @@ ghost use Rattle.std.specs.Prelude.{◌≡◌, ◌≤◌, ◌<◌, ◌+◌, ℕ,
 ghost use Rattle.std.specs.Option.{option_map};
 ghost use Rattle.domains.specs.Area.{IsArea, point_count};
 ghost use Rattle.domains.specs.Span.{len_of};
-ghost use Rattle.tile_boxes.specs.Schedules.{is_function};
+ghost use Rattle.tile_boxes.specs.Schedules.{is_function_stage};
 ghost use Rattle.job.specs.Kept.{pipeline_in};
 ghost use Rattle.job.specs.Views.{case_view, formula_view};
 ghost use Rattle.scratch.specs.Lending.{numbers_of};
 ghost use Rattle.scratch.specs.Parts.{with_part};
-ghost use Rattle.tile_eval.specs.Buffer.{raster};
+ghost use Rattle.tile_eval.specs.Raster.{raster};
 ghost use Rattle.tile_eval.specs.Reading.{HasFunctionRoom};
 ghost use Rattle.one_tile.specs.Local.{local_value};
 ghost use Rattle.one_tile.specs.Runs.{NeedsGiven, IsSomeLayout};
 ghost use Rattle.tile_sources.specs.Wide.{AreWide};
 ghost use Rattle.one_tile.specs.inside.Steps.{IsFunctionAt, AreComputed, HasStepsRoom, IsPreparedBeside};
 
-use crate::scratch_view::ScratchView;
+use crate::scratch_view::StepScratchView;
 use crate::tile_inputs::TileInputs;
 use crate::tile_job::TileJob;
 use job::{Body, Function, Job};
-use overlap_tiles::Step;
+use overlap_tiles::TileStep;
 use scratch::Scratch;
 use tile_sources::{PlaneBuffers, TileSource};
 
 /// The function of this number.
-pub(crate) fn find_function(job: &Job, number: usize) -> Option<&Function>
+pub(crate) fn find_step_function(job: &Job, number: usize) -> Option<&Function>
     ensures some { IfSome result (λ function. IsFunctionAt (pipeline_in job.now) number
         (map case_view function.now.cases.items) (option_map formula_view function.now.otherwise)) }
-    ensures none { IfNone result (is_function (pipeline_in job.now) number ≡ false) }
+    ensures none { IfNone result (is_function_stage (pipeline_in job.now) number ≡ false) }
 {
     match job.stage(number)?.body() {
         Body::Function(function) => Some(function),
@@ -40,10 +40,10 @@ pub(crate) fn find_function(job: &Job, number: usize) -> Option<&Function>
 impl<K: TileSource> TileJob<'_, K> {
     // Writes the values of a function over its box into the box's range, which starts at `start`. The memory before and after the
     // range is borrowed meanwhile.
-    fn write_box(
+    fn compute_box(
         &self,
         planes: &PlaneBuffers,
-        step: &Step,
+        step: &TileStep,
         function: &Function,
         start: usize,
         scratch: &mut Scratch,
@@ -67,7 +67,7 @@ impl<K: TileSource> TileJob<'_, K> {
     {
         let end = start + step.area.points() as usize;
         let (before, part, behind) = scratch.parts(start..end);
-        let boxes = ScratchView {
+        let boxes = StepScratchView {
             before,
             behind,
             end,
@@ -79,7 +79,7 @@ impl<K: TileSource> TileJob<'_, K> {
     }
 
     // Computes the step at this place into its range. Those steps before it that are still read are already computed.
-    fn run_step(
+    fn compute_step(
         &self,
         place: usize,
         planes: &PlaneBuffers,
@@ -101,13 +101,13 @@ impl<K: TileSource> TileJob<'_, K> {
     {
         let step = self.layout.steps()[place];
         let (start, _) = self.layout.ranges()[place];
-        if let Some(function) = find_function(self.job, step.stage) {
-            self.write_box(planes, &step, function, start, scratch, temps);
+        if let Some(function) = find_step_function(self.job, step.stage) {
+            self.compute_box(planes, &step, function, start, scratch, temps);
         }
     }
 
     /// Computes each step before the last.
-    pub(crate) fn run_inner_steps(
+    pub(crate) fn compute_inlined_steps(
         &self,
         planes: &PlaneBuffers,
         scratch: &mut Scratch,
@@ -125,7 +125,7 @@ impl<K: TileSource> TileJob<'_, K> {
             (K.given self.now.known.now) (numbers_of scratch.new) last }
     {
         for place in 1..self.layout.steps().len() {
-            self.run_step(place - 1, planes, scratch, temps);
+            self.compute_step(place - 1, planes, scratch, temps);
         }
     }
 }

@@ -8,31 +8,33 @@ ghost use Rattle.overlap_tiles.specs.Views.{step_view};
 ghost use Rattle.one_tile.specs.Prepared.{IsInputAt, input_at};
 ghost use Rattle.tile_sources.specs.Wide.{AreWide};
 
-use crate::scratch_view::ScratchView;
+use crate::scratch_view::StepScratchView;
 use crate::tile_job::TileJob;
 use domains::{Area, Index};
 use job::{Body, Function};
-use overlap_tiles::Step;
-use tile_eval::{BufferView, RowSource, RowSpan, area_onto};
-use tile_sources::{TileSource, gather_plane_row, read_plane_row, read_plane_sample};
+use overlap_tiles::TileStep;
+use tile_eval::{BufferView, RowSource, RowSpan, evaluate_function_area};
+use tile_sources::{
+    TileSource, gather_plane_row_for_tile, read_plane_row_for_tile, read_sample_for_tile,
+};
 
 /// What a tile reads: planes of its job, supplied tiles of stored functions, and boxes of inlined functions.
 #[derive(Drop)]
 pub struct TileInputs<'a, 'b, K: TileSource> {
     pub tile: TileJob<'a, K>,
-    pub boxes: ScratchView<'b>,
+    pub boxes: StepScratchView<'b>,
     ghost wide: { AreWide (pipeline_in tile.job.now).picture boxes.planes.now },
 }
 
 // The area of the step at a place.
-fn find_step_area(steps: &[Step], place: usize) -> Option<Area>
+fn find_step_area(steps: &[TileStep], place: usize) -> Option<Area>
     ensures { result ≡ option_map (λ s. s.1) (slice_get (map step_view steps.now) place) }
 {
     Some(steps.get(place)?.area)
 }
 
 // Where the range at a place starts.
-fn find_range_start(ranges: &[(usize, usize)], place: usize) -> Option<usize>
+fn find_step_range_start(ranges: &[(usize, usize)], place: usize) -> Option<usize>
     ensures { result ≡ option_map (λ r. r.0) (slice_get ranges.now place) }
 {
     Some(ranges.get(place)?.0)
@@ -45,7 +47,7 @@ impl<K: TileSource> TileInputs<'_, '_, K> {
     ghost use Rattle.job.specs.Values.{sample_at};
     ghost use Rattle.job.specs.Views.{case_view, formula_view};
     ghost use Rattle.job.specs.WellFormed.{picture_area};
-    ghost use Rattle.tile_eval.specs.Buffer.{place_of, raster};
+    ghost use Rattle.tile_eval.specs.Raster.{place_of, raster};
     ghost use Rattle.tile_eval.specs.Reading.{HasFunctionRoom};
     ghost use Rattle.tile_eval.specs.Rows.{EachPlace, at};
     ghost use Rattle.one_tile.specs.Local.{local_value};
@@ -65,9 +67,9 @@ impl<K: TileSource> TileInputs<'_, '_, K> {
             (K.given self.now.tile.known.now) self.now.boxes stage r c)) }
     {
         let layout = self.tile.layout;
-        let place = layout.place(stage)?;
+        let place = layout.find_step_place(stage)?;
         let area = find_step_area(layout.steps(), place)?;
-        let start = find_range_start(layout.ranges(), place)?;
+        let start = find_step_range_start(layout.ranges(), place)?;
         let numbers = self.boxes.borrow_range(start, area.points() as usize)?;
         Some(BufferView::new(area, numbers))
     }
@@ -87,7 +89,7 @@ impl<K: TileSource> TileInputs<'_, '_, K> {
             .borrow_plane_row(plane, row, first, out.len())
         {
             Some(line) => out.copy_from_slice(line),
-            None => read_plane_row(self.tile.job.picture(), plane, row, first, out),
+            None => read_plane_row_for_tile(self.tile.job.picture(), plane, row, first, out),
         }
     }
 
@@ -115,7 +117,7 @@ impl<K: TileSource> TileInputs<'_, '_, K> {
         ensures { out.new ≡ raster area.now (local_value (pipeline_in self.now.tile.job.now)
             self.now.tile.layout.now.inlining (K.given self.now.tile.known.now) number) }
     {
-        area_onto(self, function, area, out, temps)
+        evaluate_function_area(self, function, area, out, temps)
     }
 }
 
@@ -150,7 +152,7 @@ impl<K: TileSource> RowSource for TileInputs<'_, '_, K> {
         match found.body() {
             Body::Function(_) if self.tile.layout.inlined(stage) => {
                 match self.view_box(stage) {
-                    Some(view) => Some(view.slice(row, first, count)),
+                    Some(view) => Some(view.slice_row(row, first, count)),
                     None => None,
                 }
             }
@@ -166,12 +168,12 @@ impl<K: TileSource> RowSource for TileInputs<'_, '_, K> {
         }
     }
 
-    fn gather(&self, stage: usize, row: i32, col: &Index, points: &RowSpan, out: &mut [i32]) {
+    fn gather_row(&self, stage: usize, row: i32, col: &Index, points: &RowSpan, out: &mut [i32]) {
         let Some(found) = self.tile.job.stage(stage) else {
             return;
         };
         match found.body() {
-            Body::Plane(plane) => gather_plane_row(
+            Body::Plane(plane) => gather_plane_row_for_tile(
                 self.tile.job.picture(),
                 *plane,
                 row,
@@ -181,25 +183,25 @@ impl<K: TileSource> RowSource for TileInputs<'_, '_, K> {
             ),
             Body::Function(_) if self.tile.layout.inlined(stage) => {
                 if let Some(view) = self.view_box(stage) {
-                    view.gather(row, col, points, out);
+                    view.gather_row(row, col, points, out);
                 }
             }
             Body::Function(_) => self
                 .tile
                 .view_supplied_tiles(stage, found)
-                .gather(row, col, points, out),
+                .gather_row(row, col, points, out),
             Body::Accumulator(_) => {}
         }
     }
 
-    fn sample(&self, stage: usize, row: i32, col: i32) -> i32 {
+    fn read_sample(&self, stage: usize, row: i32, col: i32) -> i32 {
         let Some(found) = self.tile.job.stage(stage) else {
             return 0;
         };
         match found.body() {
-            Body::Plane(plane) => read_plane_sample(self.tile.job.picture(), *plane, row, col),
+            Body::Plane(plane) => read_sample_for_tile(self.tile.job.picture(), *plane, row, col),
             Body::Function(_) if self.tile.layout.inlined(stage) => match self.view_box(stage) {
-                Some(view) => view.sample(row, col),
+                Some(view) => view.read_sample(row, col),
                 None => 0,
             },
             Body::Function(_) => self

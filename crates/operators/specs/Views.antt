@@ -1,8 +1,8 @@
 -- What contracts see of tests in memory.
 use Rattle.operators.specs.declared.point_test.Axis.{Axis as KeptAxis}
 use Rattle.operators.specs.declared.point_test.Axis.TheVariants.{Row, Column}
-use Rattle.operators.specs.declared.point_test.Test.{Test as KeptTest}
-use Rattle.operators.specs.declared.point_test.Test.TheVariants.{Compare, Remainder}
+use Rattle.operators.specs.declared.point_test.PointTest.{PointTest as KeptTest}
+use Rattle.operators.specs.declared.point_test.PointTest.TheVariants.{Compare, Remainder}
 use Rattle.operators.specs.Tests.{Axis, row, column, Test, compare, remainder}
 
 abbrev pub axis_view : KeptAxis → Axis

@@ -7,13 +7,13 @@ use sequences::Sequence;
 use std::alloc::AllocError;
 
 /// The factors of a stencil: its rows from the top.
-pub type Kernel = Sequence<Factors>;
+pub type Kernel = Sequence<KernelFactors>;
 
 /// One row of a kernel: its factors from the left.
-pub type Factors = Sequence<i32>;
+pub type KernelFactors = Sequence<i32>;
 
 /// A copy of the kernel.
-pub fn copied_kernel(kernel: &Kernel) -> Result<Kernel, AllocError>
+pub fn copy_kernel(kernel: &Kernel) -> Result<Kernel, AllocError>
     ensures { IfOk result (λ copy. copy ≡ kernel.now) }
 {
     Ok(kernel.clone()?)

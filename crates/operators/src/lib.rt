@@ -6,6 +6,6 @@ mod kernel;
 mod operator;
 mod point_test;
 
-pub use kernel::{Factors, Kernel, copied_kernel};
-pub use operator::{BinaryOp, Fold, LiteralOp, Relation, TernaryOp, UnaryOp};
-pub use point_test::{Axis, Test};
+pub use kernel::{Kernel, KernelFactors, copy_kernel};
+pub use operator::{BinaryOp, LiteralOp, ReductionOp, Relation, TernaryOp, UnaryOp};
+pub use point_test::{Axis, PointTest};

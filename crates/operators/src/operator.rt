@@ -58,7 +58,7 @@ pub enum Relation {
 
 /// How an accumulator combines two numbers of one bin.
 #[derive(Clone, Copy, Debug, PartialEq, Eq)]
-pub enum Fold {
+pub enum ReductionOp {
     Sum,
     Min,
     Max,

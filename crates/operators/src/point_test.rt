@@ -11,7 +11,7 @@ pub enum Axis {
 
 /// A test of one coordinate.
 #[derive(Clone, Copy, Debug)]
-pub enum Test {
+pub enum PointTest {
     /// The coordinate is compared with a number.
     Compare(Axis, Relation, i128),
     /// The coordinate has this remainder by a modulus: the modulus comes first.

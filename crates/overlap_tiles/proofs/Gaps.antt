@@ -7,56 +7,56 @@ use Rattle.std.proofs.lemmas.List.Kept.{AllPairs-cons}
 use Rattle.domains.proofs.PairLists.{Contains-here, Contains-cases}
 use Rattle.tile_boxes.proofs.Lists.{AllPairs-head, AllPairs-tail}
 use Rattle.overlap_tiles.specs.Ranges.{LieApart}
-use Rattle.overlap_tiles.specs.inside.Made.{first_gap, with_held, range_of}
-use Rattle.overlap_tiles.specs.declared.ranges.Held.{Held}
+use Rattle.overlap_tiles.specs.inside.Made.{find_first_gap, with_held, range_of}
+use Rattle.overlap_tiles.specs.declared.ranges.HeldRange.{HeldRange}
 
-abbrev pub StartsBefore : Held → Held → Type 0
+abbrev pub StartsBefore : HeldRange → HeldRange → Type 0
 StartsBefore a b = a.start ≤ b.start
 
-abbrev pub EndBy : ℕ → List Held → Type 0
+abbrev pub EndBy : ℕ → List HeldRange → Type 0
 EndBy n hs = All (λ h. h.start + h.len ≤ n) hs
 
 -- ---- the gap
 
 -- it is not below the start from which it is looked for
-gap_from : (len start : ℕ) (hs : List Held) → start ≤ first_gap len start hs
+gap_from : (len start : ℕ) (hs : List HeldRange) → start ≤ find_first_gap len start hs
 gap_from len start [] = omega arith
 gap_from len start (h ∷ hs) = by (nat_le (start + len) h.start) (gap_from len (max start (h.start + h.len)) hs)
   where
-    by : (b : Bool) → max start (h.start + h.len) ≤ first_gap len (max start (h.start + h.len)) hs
-        → start ≤ (if b then start else first_gap len (max start (h.start + h.len)) hs)
+    by : (b : Bool) → max start (h.start + h.len) ≤ find_first_gap len (max start (h.start + h.len)) hs
+        → start ≤ (if b then start else find_first_gap len (max start (h.start + h.len)) hs)
     by true rest = omega arith
     by false rest = omega arith
 
 -- what lies there meets no held range
-pub gap_apart : (len start : ℕ) (hs : List Held) → AllPairs StartsBefore hs → (h : Held) → Contains hs h
-    → LieApart (range_of h) (first_gap len start hs, len)
+pub gap_apart : (len start : ℕ) (hs : List HeldRange) → AllPairs StartsBefore hs → (h : HeldRange) → Contains hs h
+    → LieApart (range_of h) (find_first_gap len start hs, len)
 gap_apart len start [] rise h there = absurd (omega (arith, there.1))
 gap_apart len start (g ∷ gs) rise h there =
     by (nat_le (start + len) g.start) refl (Contains-cases g gs h there) (gap_from len (max start (g.start + g.len)) gs)
     (gap_apart len (max start (g.start + g.len)) gs (AllPairs-tail StartsBefore g gs rise) h)
   where
     by : (b : Bool) → nat_le (start + len) g.start ≡ b → (g ≡ h) ⊎ Contains gs h
-        → max start (g.start + g.len) ≤ first_gap len (max start (g.start + g.len)) gs
-        → (Contains gs h → LieApart (range_of h) (first_gap len (max start (g.start + g.len)) gs, len))
-        → LieApart (range_of h) ((if b then start else first_gap len (max start (g.start + g.len)) gs), len)
+        → max start (g.start + g.len) ≤ find_first_gap len (max start (g.start + g.len)) gs
+        → (Contains gs h → LieApart (range_of h) (find_first_gap len (max start (g.start + g.len)) gs, len))
+        → LieApart (range_of h) ((if b then start else find_first_gap len (max start (g.start + g.len)) gs), len)
     by true fits (inl e) from rest =
         let before = leb-true (start + len) g.start fits in
-        let same = ap (λ (x : Held). x.start) e in
+        let same = ap (λ (x : HeldRange). x.start) e in
         inr (omega arith)
     by true fits (inr k) from rest =
         let before = leb-true (start + len) g.start fits in
         let above = All-contains (StartsBefore g) gs h (AllPairs-head StartsBefore g gs rise) k in
         inr (omega arith)
     by false short (inl e) from rest =
-        let same = ap (λ (x : Held). x.start) e in
-        let length = ap (λ (x : Held). x.len) e in
+        let same = ap (λ (x : HeldRange). x.start) e in
+        let length = ap (λ (x : HeldRange). x.len) e in
         inl (omega arith)
     by false short (inr k) from rest = rest k
 
 -- no lower start has that
-pub gap_least : (len start other : ℕ) (hs : List Held) → start ≤ other
-    → ((h : Held) → Contains hs h → LieApart (range_of h) (other, len)) → first_gap len start hs ≤ other
+pub gap_least : (len start other : ℕ) (hs : List HeldRange) → start ≤ other
+    → ((h : HeldRange) → Contains hs h → LieApart (range_of h) (other, len)) → find_first_gap len start hs ≤ other
 gap_least len start other [] low free = low
 gap_least len start other (g ∷ gs) low free =
     by (nat_le (start + len) g.start) refl
@@ -67,27 +67,27 @@ gap_least len start other (g ∷ gs) low free =
     past short (inr before) = absurd (omega arith)
 
     by : (b : Bool) → nat_le (start + len) g.start ≡ b
-        → (max start (g.start + g.len) ≤ other → first_gap len (max start (g.start + g.len)) gs ≤ other)
-        → (if b then start else first_gap len (max start (g.start + g.len)) gs) ≤ other
+        → (max start (g.start + g.len) ≤ other → find_first_gap len (max start (g.start + g.len)) gs ≤ other)
+        → (if b then start else find_first_gap len (max start (g.start + g.len)) gs) ≤ other
     by true fits rest = low
     by false short rest = rest (past (leb-false (start + len) g.start short) (free g (Contains-here g gs)))
 
 -- it is no later than the last end
-pub gap_within : (len start n : ℕ) (hs : List Held) → start ≤ n → EndBy n hs → first_gap len start hs ≤ n
+pub gap_within : (len start n : ℕ) (hs : List HeldRange) → start ≤ n → EndBy n hs → find_first_gap len start hs ≤ n
 gap_within len start n [] low ends = low
 gap_within len start n (g ∷ gs) low ends =
     let first = All-head (λ h. h.start + h.len ≤ n) g gs ends in
     by (nat_le (start + len) g.start)
     (gap_within len (max start (g.start + g.len)) n gs (omega arith) (All-tail (λ h. h.start + h.len ≤ n) g gs ends))
   where
-    by : (b : Bool) → first_gap len (max start (g.start + g.len)) gs ≤ n
-        → (if b then start else first_gap len (max start (g.start + g.len)) gs) ≤ n
+    by : (b : Bool) → find_first_gap len (max start (g.start + g.len)) gs ≤ n
+        → (if b then start else find_first_gap len (max start (g.start + g.len)) gs) ≤ n
     by true rest = low
     by false rest = rest
 
 -- ---- one more range
 
-pub with_held-All : (P : Held → Type 0) (new : Held) (hs : List Held) → P new → All P hs → All P (with_held new hs)
+pub with_held-All : (P : HeldRange → Type 0) (new : HeldRange) (hs : List HeldRange) → P new → All P hs → All P (with_held new hs)
 with_held-All P new [] here rest = All-cons P new [] here rest
 with_held-All P new (h ∷ hs) here rest =
     by (nat_lt new.start h.start) (with_held-All P new hs here (All-tail P h hs rest))
@@ -96,7 +96,7 @@ with_held-All P new (h ∷ hs) here rest =
     by true later = All-cons P new (h ∷ hs) here rest
     by false later = All-cons P h (with_held new hs) (All-head P h hs rest) later
 
-pub with_held-has : (new : Held) (hs : List Held) (h : Held) → (new ≡ h) ⊎ Contains hs h → Contains (with_held new hs) h
+pub with_held-has : (new : HeldRange) (hs : List HeldRange) (h : HeldRange) → (new ≡ h) ⊎ Contains hs h → Contains (with_held new hs) h
 with_held-has new [] h (inl e) = subst (Contains (new ∷ [])) e (Contains-here new [])
 with_held-has new [] h (inr k) = absurd (omega (arith, k.1))
 with_held-has new (g ∷ gs) h which = by (nat_lt new.start g.start) which (with_held-has new gs h)
@@ -114,7 +114,7 @@ with_held-has new (g ∷ gs) h which = by (nat_lt new.start g.start) which (with
       | inr m ↦ behind (rest (inr m))
     ]
 
-pub with_held-rises : (new : Held) (hs : List Held) → AllPairs StartsBefore hs → AllPairs StartsBefore (with_held new hs)
+pub with_held-rises : (new : HeldRange) (hs : List HeldRange) → AllPairs StartsBefore hs → AllPairs StartsBefore (with_held new hs)
 with_held-rises new [] rise = AllPairs-cons StartsBefore new [] (All-nil (StartsBefore new)) rise
 with_held-rises new (h ∷ hs) rise =
     by (nat_lt new.start h.start) refl (with_held-rises new hs (AllPairs-tail StartsBefore h hs rise))

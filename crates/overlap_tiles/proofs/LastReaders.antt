@@ -11,15 +11,15 @@ use Rattle.std.proofs.lemmas.Option.{same_Some}
 use Rattle.domains.specs.declared.area.Area.{Area}
 use Rattle.job.specs.Pipeline.{Stage, Pipeline}
 use Rattle.job.specs.Reads.{Read, stage_read, reads_of}
-use Rattle.grouping.specs.Greedy.{reads_at, does_read}
+use Rattle.grouping.specs.Greedy.{reads_at, is_reader_of_stage}
 use Rattle.tile_boxes.proofs.Lists.{Contains-map}
 use Rattle.overlap_tiles.specs.Lives.{DoesRead, IsReadAt, LivesMeet}
-use Rattle.overlap_tiles.specs.inside.Made.{marked, marked_by, unread, last_readers}
+use Rattle.overlap_tiles.specs.inside.Made.{marked, marked_by, unread, find_last_readers}
 use Rattle.overlap_tiles.proofs.Lists.{Contains-from_map}
 
 -- ---- what a stage reads
 
-pub to_read : (job : Pipeline) (g h : ℕ) → does_read job h g ≡ true → DoesRead job g h
+pub to_read : (job : Pipeline) (g h : ℕ) → is_reader_of_stage job h g ≡ true → DoesRead job g h
 to_read job g h is = by (slice_get job.stages g) refl is
   where
     by : (o : Option Stage) → slice_get job.stages g ≡ o
@@ -35,7 +35,7 @@ to_read job g h is = by (slice_get job.stages g) refl is
               (Contains-map stage_read (reads_of s.body) any.1 read);
         }
 
-pub from_read : (job : Pipeline) (g h : ℕ) → DoesRead job g h → does_read job h g ≡ true
+pub from_read : (job : Pipeline) (g h : ℕ) → DoesRead job g h → is_reader_of_stage job h g ≡ true
 from_read job g h does =
     let read = Contains-from_map stage_read (reads_of does.stage.body) h does.reads in
     ap (λ (o : Option Stage). list_any (λ x. eqb (stage_read x) h) (option_map_or (λ s. reads_of s.body) o [])) does.there
@@ -67,7 +67,7 @@ marked_at n lasts (r ∷ rs) h there =
 module _ (job : Pipeline) (h : ℕ) where
   -- one more step
   next_at : (n : ℕ) (lasts : List ℕ) (s : ℕ × Area) → h < length lasts
-      → get_or (marked n lasts (reads_at job s.0)) h 0 ≡ (if does_read job h s.0 then n else get_or lasts h 0)
+      → get_or (marked n lasts (reads_at job s.0)) h 0 ≡ (if is_reader_of_stage job h s.0 then n else get_or lasts h 0)
   next_at n lasts s there = marked_at n lasts (reads_at job s.0) h there
 
   next_there : (n : ℕ) (lasts : List ℕ) (s : ℕ × Area) → h < length lasts → h < length (marked n lasts (reads_at job s.0))
@@ -76,7 +76,7 @@ module _ (job : Pipeline) (h : ℕ) where
   next_low : (n : ℕ) (lasts : List ℕ) (s : ℕ × Area) → h < length lasts → get_or lasts h 0 ≤ n
       → (get_or lasts h 0 ≤ get_or (marked n lasts (reads_at job s.0)) h 0) × (get_or (marked n lasts (reads_at job s.0)) h 0 ≤ suc n)
   next_low n lasts s there low =
-      subst (λ (m : ℕ). (get_or lasts h 0 ≤ m) × (m ≤ suc n)) (sym (next_at n lasts s there)) (by (does_read job h s.0))
+      subst (λ (m : ℕ). (get_or lasts h 0 ≤ m) × (m ≤ suc n)) (sym (next_at n lasts s there)) (by (is_reader_of_stage job h s.0))
     where
       by : (b : Bool) → (get_or lasts h 0 ≤ (if b then n else get_or lasts h 0)) × ((if b then n else get_or lasts h 0) ≤ suc n)
       by true = (omega arith, omega arith)
@@ -94,10 +94,10 @@ module _ (job : Pipeline) (h : ℕ) where
 
   -- no reader stands behind
   pub readers_before : (n : ℕ) (lasts : List ℕ) (ss : List (ℕ × Area)) → h < length lasts → get_or lasts h 0 ≤ n
-      → (m : ℕ) (r : ℕ × Area) → slice_get ss m ≡ Some r → does_read job h r.0 ≡ true → n + m ≤ get_or (marked_by job n lasts ss) h 0
+      → (m : ℕ) (r : ℕ × Area) → slice_get ss m ≡ Some r → is_reader_of_stage job h r.0 ≡ true → n + m ≤ get_or (marked_by job n lasts ss) h 0
   readers_before n lasts [] there low m r at does = absurd (cc)
   readers_before n lasts (s ∷ ss) there low zero r at does =
-      let here : does_read job h s.0 ≡ true = ap (λ (x : ℕ × Area). does_read job h x.0) (same_Some s r at) ∙ does in
+      let here : is_reader_of_stage job h s.0 ≡ true = ap (λ (x : ℕ × Area). is_reader_of_stage job h x.0) (same_Some s r at) ∙ does in
       let own : get_or (marked n lasts (reads_at job s.0)) h 0 ≡ n =
       next_at n lasts s there ∙ ap (λ (b : Bool). if b then n else get_or lasts h 0) here in
       let rest = later (suc n) (marked n lasts (reads_at job s.0)) ss (next_there n lasts s there) (omega arith) in
@@ -112,16 +112,16 @@ module _ (job : Pipeline) (h : ℕ) where
     pub place : ℕ
     pub step : ℕ × Area
     pub there : slice_get ss place ≡ Some step
-    pub does : does_read job h step.0 ≡ true
+    pub does : is_reader_of_stage job h step.0 ≡ true
     pub is : last ≡ n + place
 
   pub reader_found : (n : ℕ) (lasts : List ℕ) (ss : List (ℕ × Area)) → h < length lasts
       → (get_or (marked_by job n lasts ss) h 0 ≡ get_or lasts h 0) ⊎ ReaderAt n ss (get_or (marked_by job n lasts ss) h 0)
   reader_found n lasts [] there = inl refl
   reader_found n lasts (s ∷ ss) there =
-      by (does_read job h s.0) refl (reader_found (suc n) (marked n lasts (reads_at job s.0)) ss (next_there n lasts s there))
+      by (is_reader_of_stage job h s.0) refl (reader_found (suc n) (marked n lasts (reads_at job s.0)) ss (next_there n lasts s there))
     where
-      by : (b : Bool) → does_read job h s.0 ≡ b
+      by : (b : Bool) → is_reader_of_stage job h s.0 ≡ b
           → (get_or (marked_by job (suc n) (marked n lasts (reads_at job s.0)) ss) h 0 ≡ get_or (marked n lasts (reads_at job s.0)) h 0)
           ⊎ ReaderAt (suc n) ss (get_or (marked_by job (suc n) (marked n lasts (reads_at job s.0)) ss) h 0)
           → (get_or (marked_by job n lasts (s ∷ ss)) h 0 ≡ get_or lasts h 0)
@@ -144,10 +144,10 @@ marked_by_push job n lasts (x ∷ ss) s =
     ∙ ap (λ (m : ℕ). marked m (marked_by job n lasts (x ∷ ss)) (reads_at job s.0)) more
 
 pub last_readers_push : (job : Pipeline) (ss : List (ℕ × Area)) (s : ℕ × Area) (n : ℕ) → n ≡ length ss
-    → marked n (last_readers job ss) (reads_at job s.0) ≡ last_readers job (ss ++ s ∷ [])
+    → marked n (find_last_readers job ss) (reads_at job s.0) ≡ find_last_readers job (ss ++ s ∷ [])
 last_readers_push job ss s n e =
     let from : n ≡ 0 + length ss = omega arith in
-    ap (λ (m : ℕ). marked m (last_readers job ss) (reads_at job s.0)) from ∙ sym (marked_by_push job 0 (unread job) ss s)
+    ap (λ (m : ℕ). marked m (find_last_readers job ss) (reads_at job s.0)) from ∙ sym (marked_by_push job 0 (unread job) ss s)
 
 -- ---- lives
 
@@ -159,7 +159,7 @@ module _ (job : Pipeline) (steps : List (ℕ × Area)) (k : ℕ) (s : ℕ × Are
   first : get_or (unread job) s.0 0 ≡ 0
   first = get_or-replicate (length job.stages) s.0 0 0 within
 
-  pub meet_last : (l : ℕ) → k < l → LivesMeet job steps k l → l ≤ get_or (last_readers job steps) s.0 0
+  pub meet_last : (l : ℕ) → k < l → LivesMeet job steps k l → l ≤ get_or (find_last_readers job steps) s.0 0
   meet_last l less meet = elim meet.1.1 [
     | inl own ↦ absurd (let low = meet.2.0 in omega arith)
     | inr at ↦ (let read = at.2 in
@@ -173,7 +173,7 @@ module _ (job : Pipeline) (steps : List (ℕ × Area)) (k : ℕ) (s : ℕ × Are
         omega arith)
   ]
 
-  pub last_meets : (l : ℕ) → k < l → l ≤ get_or (last_readers job steps) s.0 0 → LivesMeet job steps k l
+  pub last_meets : (l : ℕ) → k < l → l ≤ get_or (find_last_readers job steps) s.0 0 → LivesMeet job steps k l
   last_meets l less most = elim (reader_found job s.0 0 (unread job) steps in_table) [
     | inl none ↦ absurd (omega (arith, first))
     | inr found ↦ (let at = found.is in

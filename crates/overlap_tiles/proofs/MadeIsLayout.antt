@@ -13,8 +13,8 @@ use Rattle.job.specs.WellFormed.{IsJob}
 use Rattle.tile_boxes.specs.Schedules.{is_inlined}
 use Rattle.tile_boxes.specs.Targets.{Target, boxes, target_over}
 use Rattle.tile_boxes.specs.Costs.{points_in, inner_steps}
-use Rattle.overlap_tiles.specs.inside.Made.{stage_needs, last_readers, ranges_by, ranges_for, size_of}
-use Rattle.overlap_tiles.specs.declared.needs.Need.{Need}
+use Rattle.overlap_tiles.specs.inside.Made.{stage_needs, find_last_readers, ranges_by, ranges_for, size_of}
+use Rattle.overlap_tiles.specs.declared.needs.NeededTile.{NeededTile}
 use Rattle.overlap_tiles.specs.Needs.{needs, key_of, key_tile}
 use Rattle.overlap_tiles.specs.Plans.{Layout, IsLayout, IsTileLayout, Plan, IsTilePlan, layout_of}
 use Rattle.overlap_tiles.specs.Ranges.{HaveRoom}
@@ -38,7 +38,7 @@ pub record IsMade (t : Target) (p : Layout) : Type 0 where
   pub needs : p.needs ≡ flat_map (stage_needs t.job t.inlining (boxes t)) (range_with_len 0 (length t.job.stages))
   pub steps : p.steps ≡ inner ++ (t.stage, t.region) ∷ []
   pub points : p.points ≡ points_in inner + point_count t.region
-  pub ranges : p.ranges ≡ ranges_by (last_readers t.job (inner ++ (t.stage, t.region) ∷ [])) inner
+  pub ranges : p.ranges ≡ ranges_by (find_last_readers t.job (inner ++ (t.stage, t.region) ∷ [])) inner
   pub scratch : p.scratch ≡ size_of p.ranges
   pub inlining : p.inlining ≡ t.inlining
 
@@ -46,7 +46,7 @@ pub is_layout : (t : Target) (p : Layout) → IsMade t p → IsLayout t p
 is_layout t p made =
     let kept : made.inner ≡ inner_steps t = made.kept in
     let ranges : p.ranges ≡ ranges_for t = made.ranges
-    ∙ ap (λ (ss : List (ℕ × Area)). ranges_by (last_readers t.job (ss ++ (t.stage, t.region) ∷ [])) ss) kept in
+    ∙ ap (λ (ss : List (ℕ × Area)). ranges_by (find_last_readers t.job (ss ++ (t.stage, t.region) ∷ [])) ss) kept in
     let size : p.scratch ≡ size_of (ranges_for t) = made.scratch ∙ ap size_of ranges in
     record {
       needs = made.needs ∙ needs_made t;
@@ -89,7 +89,7 @@ layout_in program job inlining g i j p is =
     }
 
 -- the numbers of stages have 16 bits
-pub numbers_fit : (t : Target) (ns : List Need) → IsJob t.job → map need_view ns ≡ needs t → All (λ n. n.stage < 65536) ns
+pub numbers_fit : (t : Target) (ns : List NeededTile) → IsJob t.job → map need_view ns ≡ needs t → All (λ n. n.stage < 65536) ns
 numbers_fit t ns good same = All-from_contains (λ n. n.stage < 65536) ns (λ n h.
     let is = from_needs t (need_view n) good (subst (λ (ms : List Tile). Contains ms (need_view n)) same (Contains-map need_view ns n h)) in
     let at = gridded t.job n.stage is.grid is.there in

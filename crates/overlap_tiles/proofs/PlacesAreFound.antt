@@ -9,7 +9,7 @@ use Rattle.std.proofs.lemmas.Option.{same_Some, none-some}
 use Rattle.domains.specs.declared.area.Area.{Area}
 use Rattle.overlap_tiles.specs.Places.{IsPlaceOf, HasNoPlace}
 use Rattle.overlap_tiles.specs.Views.{step_view}
-use Rattle.overlap_tiles.specs.declared.steps.Step.{Step}
+use Rattle.overlap_tiles.specs.declared.steps.TileStep.{TileStep}
 use Rattle.overlap_tiles.specs.inside.Placed.{stage_at, ArePlaces}
 
 -- ---- the stages of steps
@@ -99,14 +99,14 @@ module _ (xs : List (ℕ × Area)) (s target : ℕ × Area) (ps : List (Option �
   }
 
 -- one step more of a list
-pub next_places : (steps : List Step) (i : ℕ) (step : Step) (ps : List (Option ℕ)) → i < length steps → step ≡ get_or steps i step
+pub next_places : (steps : List TileStep) (i : ℕ) (step : TileStep) (ps : List (Option ℕ)) → i < length steps → step ≡ get_or steps i step
     → step.stage < length ps → ((target : ℕ × Area) → ArePlaces (map step_view (take i steps) ++ target ∷ []) ps)
     → (target : ℕ × Area) → ArePlaces (map step_view (take (i + 1) steps) ++ target ∷ []) (set ps step.stage (Some i))
 next_places steps i step ps less is within are target =
     let front : List (ℕ × Area) = map step_view (take i steps) in
     let count : length front ≡ i = omega (arith, length-map (take i steps) step_view, length-take i steps) in
     let more : front ++ step_view step ∷ [] ≡ map step_view (take (i + 1) steps) =
-    ap (λ (s : Step). front ++ step_view s ∷ []) is ∙ sym (map_more step_view steps i step less) in
+    ap (λ (s : TileStep). front ++ step_view s ∷ []) is ∙ sym (map_more step_view steps i step less) in
     subst (λ (ss : List (ℕ × Area)). ArePlaces (ss ++ target ∷ []) (set ps step.stage (Some i))) more
     (subst (λ (n : ℕ). ArePlaces ((front ++ step_view step ∷ []) ++ target ∷ []) (set ps step.stage (Some n))) count
     (places_more front (step_view step) target ps within (are target)))

@@ -12,12 +12,12 @@ use Rattle.domains.proofs.PairLists.{Contains-from_filter}
 use Rattle.domains.specs.Area.{point_count}
 use Rattle.domains.specs.declared.area.Area.{Area}
 use Rattle.job.specs.Pipeline.{Stage, Pipeline}
-use Rattle.tile_boxes.specs.Schedules.{is_inlined, is_function, is_function_body}
+use Rattle.tile_boxes.specs.Schedules.{is_inlined, is_function_stage, is_function_body}
 use Rattle.tile_boxes.specs.Targets.{Target, boxes}
 use Rattle.tile_boxes.specs.Costs.{points_in, inner_steps, steps, scratch}
 use Rattle.overlap_tiles.specs.Ranges.{LieApart, LieWithin, HaveRoom}
-use Rattle.overlap_tiles.specs.inside.Made.{last_readers, laid, laid_of, range_of, ranges_by, ranges_for, size_of, held_after}
-use Rattle.overlap_tiles.specs.declared.ranges.Held.{Held}
+use Rattle.overlap_tiles.specs.inside.Made.{find_last_readers, laid, laid_of, range_of, ranges_by, ranges_for, size_of, held_after}
+use Rattle.overlap_tiles.specs.declared.ranges.HeldRange.{HeldRange}
 use Rattle.overlap_tiles.proofs.LaidApart.{IsLaid, nothing_held, laid_at, laid_from, laid_within}
 use Rattle.overlap_tiles.proofs.LastReaders.{meet_last, last_meets}
 use Rattle.overlap_tiles.proofs.StepsRise.{box_listed}
@@ -74,13 +74,13 @@ ranges_within lasts inner =
     (All-weaker (λ h. h.start + h.len ≤ 0 + sum (map (λ s. s.0) ps)) (λ h. h.start + h.len ≤ points_in inner) (λ h low. omega arith)
     (laid 0 [] ps) (laid_within 0 0 [] ps (All-nil (λ h. h.start + h.len ≤ 0))))
 
-lengths_of : (k : ℕ) (held : List Held) (ss : List (ℕ × ℕ)) → map (λ r. r.1) (map range_of (laid k held ss)) ≡ map (λ s. s.0) ss
+lengths_of : (k : ℕ) (held : List HeldRange) (ss : List (ℕ × ℕ)) → map (λ r. r.1) (map range_of (laid k held ss)) ≡ map (λ s. s.0) ss
 lengths_of k held [] = refl
 lengths_of k held (s ∷ ss) = ap (λ (ns : List ℕ). s.0 ∷ ns) (lengths_of (suc k) (held_after k held s) ss)
 
 -- ---- the inner steps of a target
 
-function_there : (job : Pipeline) (g : ℕ) → is_function job g ≡ true → g < length job.stages
+function_there : (job : Pipeline) (g : ℕ) → is_function_stage job g ≡ true → g < length job.stages
 function_there job g is = by (slice_get job.stages g) refl is
   where
     by : (o : Option Stage) → slice_get job.stages g ≡ o → option_map_or (λ s. is_function_body s.body) o false ≡ true
@@ -92,29 +92,29 @@ function_there job g is = by (slice_get job.stages g) refl is
 pub inner_there : (t : Target) (s : ℕ × Area) → Contains (inner_steps t) s → s.0 < length t.job.stages
 inner_there t s h =
     let listed = box_listed t s (Contains-from_filter (λ x. is_inlined t.inlining x.0) (boxes t) s h).0 in
-    function_there t.job s.0 (and_parts (is_function t.job s.0) (not (eqb s.0 t.stage)) listed.boxed).0
+    function_there t.job s.0 (and_parts (is_function_stage t.job s.0) (not (eqb s.0 t.stage)) listed.boxed).0
 
 module _ (t : Target) where
   abbrev lasts : List ℕ
-  lasts = last_readers t.job (steps t)
+  lasts = find_last_readers t.job (steps t)
 
-  abbrev held : List Held
+  abbrev held : List HeldRange
   held = laid 0 [] (map (laid_of lasts) (inner_steps t))
 
   -- the step of a range
-  record StepAt (k : ℕ) (h : Held) : Type 0 where
+  record StepAt (k : ℕ) (h : HeldRange) : Type 0 where
     step : ℕ × Area
     there : slice_get (steps t) k ≡ Some step
     within : step.0 < length t.job.stages
     last : h.last ≡ get_or lasts step.0 0
 
-  step_at : (k : ℕ) (h : Held) → slice_get held k ≡ Some h → StepAt k h
+  step_at : (k : ℕ) (h : HeldRange) → slice_get held k ≡ Some h → StepAt k h
   step_at k h there =
       let ps : List (ℕ × ℕ) = map (laid_of lasts) (inner_steps t) in
       let own : slice_get ps k ≡ Some (h.len, h.last) =
       ap (λ (xs : List (ℕ × ℕ)). slice_get xs k) (sym (laid_from 0 [] ps))
-      ∙ slice_get-map (λ (x : Held). (x.len, x.last)) held k
-      ∙ ap (option_map (λ (x : Held). (x.len, x.last))) there in
+      ∙ slice_get-map (λ (x : HeldRange). (x.len, x.last)) held k
+      ∙ ap (option_map (λ (x : HeldRange). (x.len, x.last))) there in
       let from = from_map_at (laid_of lasts) (inner_steps t) k (h.len, h.last) own in
       record {
         step = from.0;
@@ -124,7 +124,7 @@ module _ (t : Target) where
         last = sym (ap (λ (p : ℕ × ℕ). p.1) from.2);
       }
 
-  laid_is : (k : ℕ) (h : Held) → slice_get held k ≡ Some h → IsLaid (take k held) k h
+  laid_is : (k : ℕ) (h : HeldRange) → slice_get held k ≡ Some h → IsLaid (take k held) k h
   laid_is k h there =
       let same : 0 + k ≡ k = omega arith in
       subst (λ (n : ℕ). IsLaid (take k held) n h) same (laid_at [] 0 [] (map (laid_of lasts) (inner_steps t)) nothing_held k h there)

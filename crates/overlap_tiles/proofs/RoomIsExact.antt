@@ -14,7 +14,7 @@ use Rattle.tile_boxes.specs.Costs.{scratch, most_scratch}
 use Rattle.tile_boxes.specs.Targets.{target_over}
 use Rattle.overlap_tiles.specs.Plans.{IsPlanFault}
 use Rattle.overlap_tiles.specs.declared.fault.PlanFault.TheVariants.{ScratchTooBig}
-use Rattle.overlap_tiles.specs.Work.{has_tile, lacks_room_in, lacks_room}
+use Rattle.overlap_tiles.specs.Work.{has_tile, lacks_room_in, is_tile_over_scratch_limit}
 
 -- more than so many are not at most so many
 pub more_is : (n m : ℕ) → nat_lt m n ≡ not (nat_le n m)
@@ -38,15 +38,15 @@ past_is grid t past = by (cases_lt t.row (tile_rows grid)) (cases_lt t.col (tile
     by (inr row) other = ap (λ b. b && nat_lt t.col (tile_cols grid)) (le-ltb t.row (tile_rows grid) row)
 
 module _ (job : Pipeline) (inlining : List Bool) (t : Tile) where
-  by_grid : (o : Option Grid) → grid_at job t.stage ≡ o → lacks_room job inlining t ≡ option_map_or (lacks_room_in job inlining t) o false
+  by_grid : (o : Option Grid) → grid_at job t.stage ≡ o → is_tile_over_scratch_limit job inlining t ≡ option_map_or (lacks_room_in job inlining t) o false
   by_grid o there = ap (λ (x : Option Grid). option_map_or (lacks_room_in job inlining t) x false) there
 
   -- no stage has tiles there
-  pub none_lacks : grid_at job t.stage ≡ None → lacks_room job inlining t ≡ false
+  pub none_lacks : grid_at job t.stage ≡ None → is_tile_over_scratch_limit job inlining t ≡ false
   none_lacks there = by_grid None there
 
   -- its grid has no such tile
-  pub past_lacks : (grid : Grid) → grid_at job t.stage ≡ Some grid → (HasTile grid t.row t.col → ⊥) → lacks_room job inlining t ≡ false
+  pub past_lacks : (grid : Grid) → grid_at job t.stage ≡ Some grid → (HasTile grid t.row t.col → ⊥) → is_tile_over_scratch_limit job inlining t ≡ false
   past_lacks grid there past =
       by_grid (Some grid) there
       ∙ ap (λ b. b && not (nat_le (scratch (target_over job inlining t.stage (tile_area grid t.row t.col))) most_scratch))
@@ -55,7 +55,7 @@ module _ (job : Pipeline) (inlining : List Bool) (t : Tile) where
   -- the tile is there, with this area
   pub tile_lacks : (grid : Grid) (area : Area) → grid_at job t.stage ≡ Some grid → HasTile grid t.row t.col
       → area ≡ tile_area grid t.row t.col
-      → lacks_room job inlining t ≡ nat_lt most_scratch (scratch (target_over job inlining t.stage area))
+      → is_tile_over_scratch_limit job inlining t ≡ nat_lt most_scratch (scratch (target_over job inlining t.stage area))
   tile_lacks grid area there tile is =
       by_grid (Some grid) there
       ∙ ap (λ b. b && not (nat_le (scratch (target_over job inlining t.stage (tile_area grid t.row t.col))) most_scratch))
@@ -63,7 +63,7 @@ module _ (job : Pipeline) (inlining : List Bool) (t : Tile) where
       ∙ sym (more_is (scratch (target_over job inlining t.stage (tile_area grid t.row t.col))) most_scratch)
       ∙ ap (λ (a : Area). nat_lt most_scratch (scratch (target_over job inlining t.stage a))) (sym is)
 
-  from_bool : lacks_room job inlining t ≡ true → (o : Option Grid) → grid_at job t.stage ≡ o
+  from_bool : is_tile_over_scratch_limit job inlining t ≡ true → (o : Option Grid) → grid_at job t.stage ≡ o
       → IsPlanFault job inlining t.stage t.row t.col ScratchTooBig
   from_bool is None there = absurd (false≢true (sym (none_lacks there) ∙ is))
   from_bool is (Some grid) there = by (cases_lt t.row (tile_rows grid)) (cases_lt t.col (tile_cols grid))
@@ -84,7 +84,7 @@ module _ (job : Pipeline) (inlining : List Bool) (t : Tile) where
       by (inl row) (inr col) = past (λ h. let low = h.1 in omega arith)
       by (inr row) other = past (λ h. let low = h.0 in omega arith)
 
-  pub room_is : (lacks_room job inlining t ≡ true) ↔ IsPlanFault job inlining t.stage t.row t.col ScratchTooBig
+  pub room_is : (is_tile_over_scratch_limit job inlining t ≡ true) ↔ IsPlanFault job inlining t.stage t.row t.col ScratchTooBig
   room_is = (
     (λ is. from_bool is (grid_at job t.stage) refl),
     (λ h. tile_lacks h.tile.grid h.area h.tile.there h.tile.tile h.tile.is

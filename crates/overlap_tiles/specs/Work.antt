@@ -11,8 +11,8 @@ use Rattle.job.specs.Identity.{HasTileAt}
 use Rattle.job.specs.Pipeline.{Pipeline}
 use Rattle.job.specs.Readers.{grid_at}
 use Rattle.tile_boxes.specs.Costs.{has_scratch}
-use Rattle.tile_boxes.specs.Order.{ComesBefore, in_order}
-use Rattle.tile_boxes.specs.Schedules.{is_inlined, is_function}
+use Rattle.tile_boxes.specs.Order.{ComesBefore, order_stages_by_rank}
+use Rattle.tile_boxes.specs.Schedules.{is_inlined, is_function_stage}
 use Rattle.tile_boxes.specs.Targets.{target_over}
 use Rattle.overlap_tiles.specs.Needs.{key_of, key_tile}
 
@@ -20,20 +20,20 @@ use Rattle.overlap_tiles.specs.Needs.{key_of, key_tile}
 
 -- a function that is not inlined
 abbrev pub is_stored_function : Pipeline → List Bool → ℕ → Bool
-is_stored_function job inlining g = is_function job g && not (is_inlined inlining g)
+is_stored_function job inlining g = is_function_stage job g && not (is_inlined inlining g)
 
-abbrev pub is_made : Pipeline → List Bool → ℕ → Bool
-is_made job inlining g = is_stored_function job inlining g || is_accumulator_at job g
+abbrev pub is_work_stage : Pipeline → List Bool → ℕ → Bool
+is_work_stage job inlining g = is_stored_function job inlining g || is_accumulator_at job g
 
 -- ---- their tiles
 
 -- the tiles of the stages that are wanted: stage by stage in dependence order, and row by row
 abbrev pub tiles_in_order : Pipeline → (ℕ → Bool) → List Tile
-tiles_in_order job wants = flat_map (tiles job) (filter wants (in_order job.stages))
+tiles_in_order job wants = flat_map (tiles job) (filter wants (order_stages_by_rank job.stages))
 
 -- those of stored functions and accumulators
 abbrev pub work_tiles : Pipeline → List Bool → List Tile
-work_tiles job inlining = tiles_in_order job (is_made job inlining)
+work_tiles job inlining = tiles_in_order job (is_work_stage job inlining)
 
 -- their keys, by the identity of the program
 abbrev pub work_keys : List ℕ → Pipeline → List Bool → List Key
@@ -48,7 +48,7 @@ wanted_keys program job = map (key_of program job) (wanted job)
 -- there is this tile, and it is one of a stored function or of an accumulator
 pub record IsWork (job : Pipeline) (inlining : List Bool) (t : Tile) : Type 0 where
   pub tile : HasTileAt job t.stage t.row t.col
-  pub made : is_made job inlining t.stage ≡ true
+  pub made : is_work_stage job inlining t.stage ≡ true
 
 -- in dependence order of stages, then of rows, then of columns
 abbrev pub IsWorkedBefore : Pipeline → Tile → Tile → Type 0
@@ -66,9 +66,9 @@ abbrev pub lacks_room_in : Pipeline → List Bool → Tile → Grid → Bool
 lacks_room_in job inlining t grid =
     has_tile grid t && not (has_scratch (target_over job inlining t.stage (tile_area grid t.row t.col)))
 
-abbrev pub lacks_room : Pipeline → List Bool → Tile → Bool
-lacks_room job inlining t = option_map_or (lacks_room_in job inlining t) (grid_at job t.stage) false
+abbrev pub is_tile_over_scratch_limit : Pipeline → List Bool → Tile → Bool
+is_tile_over_scratch_limit job inlining t = option_map_or (lacks_room_in job inlining t) (grid_at job t.stage) false
 
 -- the first of these keys whose tile exceeds scratch memory
-abbrev pub first_without_room : Pipeline → List Bool → List Key → Option Key
-first_without_room job inlining keys = find (λ k. lacks_room job inlining (key_tile k)) keys
+abbrev pub find_key_over_scratch_limit : Pipeline → List Bool → List Key → Option Key
+find_key_over_scratch_limit job inlining keys = find (λ k. is_tile_over_scratch_limit job inlining (key_tile k)) keys

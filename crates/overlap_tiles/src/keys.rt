@@ -6,13 +6,17 @@ ghost use Rattle.job.specs.Kept.{pipeline_in, program_id_in};
 ghost use Rattle.overlap_tiles.specs.Needs.{key_of};
 ghost use Rattle.overlap_tiles.specs.Views.{need_view};
 
-use crate::needs::Need;
+use crate::needs::NeededTile;
 use identity::Key;
 use job::Job;
 use std::alloc::{AllocError, Global};
 
 /// The keys of these tiles. The job's input is hashed at most once.
-pub(crate) fn keys(alloc: Global, job: &Job, needs: &[Need]) -> Result<Vec<Key>, AllocError>
+pub(crate) fn list_needed_keys(
+    alloc: Global,
+    job: &Job,
+    needs: &[NeededTile],
+) -> Result<Vec<Key>, AllocError>
     requires { All (λ n. n.stage < 65536) needs.now }
     ensures { IfOk result (λ keys. keys.items
         ≡ map (key_of (program_id_in job.now) (pipeline_in job.now))

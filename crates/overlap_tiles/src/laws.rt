@@ -9,7 +9,7 @@ ghost use Rattle.job.specs.WellFormed.{IsJob};
 ghost use Rattle.tile_boxes.specs.Costs.{steps};
 ghost use Rattle.tile_boxes.specs.Targets.{Target, IsTarget};
 ghost use Rattle.overlap_tiles.specs.Needs.{needs, needed_keys, IsNeeded, IsTileBefore, IsKeyBefore};
-ghost use Rattle.overlap_tiles.specs.Work.{work_tiles, lacks_room, IsWork, IsWorkedBefore};
+ghost use Rattle.overlap_tiles.specs.Work.{work_tiles, is_tile_over_scratch_limit, IsWork, IsWorkedBefore};
 ghost use Rattle.overlap_tiles.specs.Plans.{IsPlanFault};
 ghost use Rattle.overlap_tiles.specs.declared.fault.PlanFault.TheVariants.{ScratchTooBig};
 ghost use Rattle.overlap_tiles.specs.Lives.{IsReadAt, LivesMeet};
@@ -60,7 +60,7 @@ pub fn ranges_are_determined()
 
 /// The list of all work tiles has exactly the tiles of stored functions and of accumulators, each once, in dependence order of
 /// their stages, then of rows, then of columns.
-pub fn work_is_exact()
+pub fn work_tiles_are_listed_in_order()
     ensures all { (job : Pipeline) (inlining : List Bool) (t : Tile)
         → Contains (work_tiles job inlining) t ↔ IsWork job inlining t }
     ensures order { (job : Pipeline) (inlining : List Bool)
@@ -70,6 +70,6 @@ pub fn work_is_exact()
 /// A tile exceeds scratch memory exactly where its plan has the fault `ScratchTooBig`.
 pub fn room_is_exact()
     ensures { (job : Pipeline) (inlining : List Bool) (t : Tile)
-        → (lacks_room job inlining t ≡ true)
+        → (is_tile_over_scratch_limit job inlining t ≡ true)
         ↔ IsPlanFault job inlining t.stage t.row t.col ScratchTooBig }
 {}

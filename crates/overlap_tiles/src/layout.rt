@@ -12,15 +12,17 @@ ghost use Rattle.overlap_tiles.specs.Plans.{IsTileAt, IsTileLayout, IsFittingLay
 ghost use Rattle.overlap_tiles.specs.Places.{IsPlaceOf, HasNoPlace};
 ghost use Rattle.overlap_tiles.specs.Ranges.{LieWithin};
 ghost use Rattle.overlap_tiles.specs.Views.{step_view, need_view};
-ghost use Rattle.overlap_tiles.specs.inside.Made.{last_readers, ranges_by};
+ghost use Rattle.overlap_tiles.specs.inside.Made.{find_last_readers, ranges_by};
 ghost use Rattle.overlap_tiles.specs.inside.Placed.{ArePlaces};
 
 use crate::fault::PlanFault;
-use crate::lives::{last_readers, mark};
-use crate::needs::{Need, needs};
-use crate::places::{place_in, places};
-use crate::ranges::{ranges, size};
-use crate::steps::{Step, inner_steps, points, scratch_points, with_target};
+use crate::lives::{find_last_readers, record_last_reads_of_stage};
+use crate::needs::{NeededTile, list_needed_tiles};
+use crate::places::{index_steps_by_stage, look_up_step_place};
+use crate::ranges::{assign_ranges, find_scratch_size};
+use crate::steps::{
+    TileStep, append_target_step, count_area_points, list_inner_steps, sum_points_within_scratch,
+};
 use domains::Area;
 use grouping::Schedule;
 use job::Job;
@@ -28,12 +30,12 @@ use std::alloc::{AllocError, Global};
 use std::marker::Model;
 
 /// How one tile is computed, without identities: the stored tiles that it needs, what is computed in which order, and where each
-/// step but the last lies in scratch memory. It is made by one schedule. Nothing is hashed for it. Only `of` makes one.
+/// step but the last lies in scratch memory. It is made by one schedule. Nothing is hashed for it. Only `new` makes one.
 #[derive(Debug, Drop)]
 pub struct Layout<'a> {
     schedule: &'a Schedule,
-    needs: Vec<Need>,
-    steps: Vec<Step>,
+    needs: Vec<NeededTile>,
+    steps: Vec<TileStep>,
     points: u64,
     ranges: Vec<(usize, usize)>,
     scratch: usize,
@@ -63,7 +65,7 @@ impl<'a> Model for Layout<'a> {
 }
 
 // The area of a tile of a function or accumulator.
-fn tile_area(job: &Job, stage: usize, row: u32, col: u32) -> Option<Area>
+fn find_tile_area(job: &Job, stage: usize, row: u32, col: u32) -> Option<Area>
     ensures some { IfSome result (IsTileAt (pipeline_in job.now) stage row col) }
     ensures within { IfSome result IsArea }
     ensures none { IfNone result (¬ (HasTileAt (pipeline_in job.now) stage row col)) }
@@ -72,15 +74,15 @@ fn tile_area(job: &Job, stage: usize, row: u32, col: u32) -> Option<Area>
 }
 
 // The ranges of the steps before the target.
-fn inner_ranges(
+fn assign_inner_ranges(
     alloc: Global,
     job: &Job,
-    inner: &[Step],
-    target: Step,
+    inner: &[TileStep],
+    target: TileStep,
 ) -> Result<Vec<(usize, usize)>, AllocError>
     requires { points_in (map step_view inner.now) ≤ most_scratch }
     ensures ranges { IfOk result (λ ranges. ranges.items
-        ≡ ranges_by (last_readers (pipeline_in job.now)
+        ≡ ranges_by (find_last_readers (pipeline_in job.now)
         (map step_view inner.now ++ step_view target ∷ []))
         (map step_view inner.now)) }
     ensures within { IfOk result (λ ranges. LieWithin most_scratch ranges.items) }
@@ -88,9 +90,9 @@ fn inner_ranges(
     if inner.is_empty() {
         return Ok(Vec::new(alloc));
     }
-    let mut lasts = last_readers(alloc, job, inner)?;
-    mark(&mut lasts, job, target.stage, inner.len());
-    ranges(alloc, inner, &lasts)
+    let mut lasts = find_last_readers(alloc, job, inner)?;
+    record_last_reads_of_stage(&mut lasts, job, target.stage, inner.len());
+    assign_ranges(alloc, inner, &lasts)
 }
 
 impl<'a> Layout<'a> {
@@ -100,7 +102,7 @@ impl<'a> Layout<'a> {
     ///
     /// Fails where there is no such tile, where the boxes of what is inlined have more points together than
     /// `grouping::MOST_SCRATCH`, and where memory is refused.
-    pub fn of(
+    pub fn new(
         alloc: Global,
         job: &Job,
         schedule: &'a Schedule,
@@ -113,20 +115,20 @@ impl<'a> Layout<'a> {
         ensures fault { IfErr result
             (IsPlanFault (pipeline_in job.now) schedule.now.inlining stage row col) }
     {
-        let Some(area) = tile_area(job, stage, row, col) else {
+        let Some(area) = find_tile_area(job, stage, row, col) else {
             return Err(PlanFault::NoSuchTile);
         };
-        let target = Step { stage, area };
+        let target = TileStep { stage, area };
         let boxes = schedule.boxes(alloc, job, stage, target.area)?;
-        Layout::over(alloc, job, schedule, target, &boxes)
+        Layout::from_boxes(alloc, job, schedule, target, &boxes)
     }
 
     // The layout of a target that has these boxes.
-    fn over(
+    fn from_boxes(
         alloc: Global,
         job: &Job,
         schedule: &'a Schedule,
-        target: Step,
+        target: TileStep,
         found: &[(usize, Area)],
     ) -> Result<Layout<'a>, PlanFault>
         requires area { IsArea target.area }
@@ -138,20 +140,20 @@ impl<'a> Layout<'a> {
         ensures fault { IfErr result (IsTargetFault
             (target_over (pipeline_in job.now) schedule.now.inlining target.stage target.area)) }
     {
-        let steps = inner_steps(alloc, schedule, found)?;
-        let Some(inner) = scratch_points(&steps) else {
+        let steps = list_inner_steps(alloc, schedule, found)?;
+        let Some(inner) = sum_points_within_scratch(&steps) else {
             return Err(PlanFault::ScratchTooBig);
         };
-        let needs = needs(alloc, job, schedule, found)?;
-        let places = places(alloc, job, &steps)?;
-        let ranges = inner_ranges(alloc, job, &steps, target)?;
-        let scratch = size(&ranges);
-        let all = with_target(steps, target)?;
+        let needs = list_needed_tiles(alloc, job, schedule, found)?;
+        let places = index_steps_by_stage(alloc, job, &steps)?;
+        let ranges = assign_inner_ranges(alloc, job, &steps, target)?;
+        let scratch = find_scratch_size(&ranges);
+        let all = append_target_step(steps, target)?;
         Ok(Layout {
             schedule,
             needs,
             steps: all,
-            points: inner + points(&target.area),
+            points: inner + count_area_points(&target.area),
             ranges,
             scratch,
             places,
@@ -159,14 +161,14 @@ impl<'a> Layout<'a> {
     }
 
     /// The tiles of stored functions that it reads, each once: stage by stage, and those of a stage row by row.
-    pub fn needs(&self) -> &[Need]
+    pub fn needs(&self) -> &[NeededTile]
         ensures { map need_view result.now ≡ self.now.needs }
     {
         &self.needs
     }
 
     /// What is computed, in this order: the inlined stages that it needs, each over its box, and at last the tile.
-    pub fn steps(&self) -> &[Step]
+    pub fn steps(&self) -> &[TileStep]
         ensures { map step_view result.now ≡ self.now.steps }
     {
         &self.steps
@@ -195,11 +197,11 @@ impl<'a> Layout<'a> {
     }
 
     /// The place of this stage among the steps but the last; none if it is not one of them.
-    pub fn place(&self, stage: usize) -> Option<usize>
+    pub fn find_step_place(&self, stage: usize) -> Option<usize>
         ensures some { IfSome result (IsPlaceOf self.now.steps stage) }
         ensures none { IfNone result (HasNoPlace self.now.steps stage) }
     {
-        place_in(&self.places, stage)
+        look_up_step_place(&self.places, stage)
     }
 
     /// Whether the stage of this number is inlined by the schedule of the layout.

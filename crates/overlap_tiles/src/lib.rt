@@ -17,8 +17,8 @@ mod work;
 
 pub use fault::PlanFault;
 pub use layout::Layout;
-pub use needs::Need;
+pub use needs::NeededTile;
 pub use plan::TilePlan;
-pub use room::{first_without_room, lacks_room};
-pub use steps::Step;
-pub use work::{wanted_keys, work_keys};
+pub use room::{find_key_over_scratch_limit, is_tile_over_scratch_limit};
+pub use steps::TileStep;
+pub use work::{list_wanted_keys, list_work_keys};

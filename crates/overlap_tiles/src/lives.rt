@@ -3,27 +3,17 @@
 
 ghost use Rattle.std.specs.Prelude.{◌≡◌, map, slice_set, IfOk};
 ghost use Rattle.job.specs.Kept.{pipeline_in};
-ghost use Rattle.job.specs.Reads.{stage_read};
 ghost use Rattle.job.specs.ReadViews.{read_view};
 ghost use Rattle.grouping.specs.Greedy.{reads_at};
-ghost use Rattle.overlap_tiles.specs.inside.Made.{marked, marked_by, last_readers};
+ghost use Rattle.overlap_tiles.specs.inside.Made.{marked, marked_by, find_last_readers};
 ghost use Rattle.overlap_tiles.specs.Views.{step_view};
 
-use crate::steps::Step;
+use crate::steps::TileStep;
 use job::{Job, Read};
 use std::alloc::{AllocError, Global};
 
-// The stage that is read.
-fn stage_of(read: &Read) -> usize
-    ensures { result ≡ stage_read (read_view read.now) }
-{
-    match read {
-        Read::Point(stage, _, _) | Read::Window(stage, _) => *stage,
-    }
-}
-
 // Records that the stage is read at this place.
-fn put(lasts: &mut [usize], stage: usize, place: usize)
+fn record_last_reader(lasts: &mut [usize], stage: usize, place: usize)
     ensures { lasts.new ≡ slice_set lasts.old stage place }
 {
     if stage < lasts.len() {
@@ -32,35 +22,40 @@ fn put(lasts: &mut [usize], stage: usize, place: usize)
 }
 
 // Records that each of these reads is made at this place.
-fn mark_reads(lasts: &mut [usize], reads: &[Read], place: usize)
+fn record_last_reads(lasts: &mut [usize], reads: &[Read], place: usize)
     ensures { lasts.new ≡ marked place lasts.old (map read_view reads.now) }
 {
     for read in reads {
-        put(lasts, stage_of(read), place);
+        record_last_reader(lasts, read.stage(), place);
     }
 }
 
 /// Records what a stage reads whose step is at this place, after all steps that were recorded before.
-pub(crate) fn mark(lasts: &mut Vec<usize>, job: &Job, stage: usize, place: usize)
+pub(crate) fn record_last_reads_of_stage(
+    lasts: &mut Vec<usize>,
+    job: &Job,
+    stage: usize,
+    place: usize,
+)
     ensures { lasts.new.items ≡ marked place lasts.old.items (reads_at (pipeline_in job.now) stage) }
 {
     if let Some(reads) = job.reads(stage) {
-        mark_reads(lasts, reads, place);
+        record_last_reads(lasts, reads, place);
     }
 }
 
 /// For each stage the last place among the steps at which it is read; 0 where it is not.
-pub(crate) fn last_readers(
+pub(crate) fn find_last_readers(
     alloc: Global,
     job: &Job,
-    steps: &[Step],
+    steps: &[TileStep],
 ) -> Result<Vec<usize>, AllocError>
     ensures { IfOk result (λ lasts. lasts.items
-        ≡ last_readers (pipeline_in job.now) (map step_view steps.now)) }
+        ≡ find_last_readers (pipeline_in job.now) (map step_view steps.now)) }
 {
     let mut lasts = vec![in alloc; 0; job.stages().len()]?;
     for (place, step) in steps.iter().enumerate() {
-        mark(&mut lasts, job, step.stage, place);
+        record_last_reads_of_stage(&mut lasts, job, step.stage, place);
     }
     Ok(lasts)
 }

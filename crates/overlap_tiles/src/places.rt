@@ -7,12 +7,12 @@ ghost use Rattle.job.specs.Kept.{pipeline_in};
 ghost use Rattle.overlap_tiles.specs.inside.Placed.{ArePlaces};
 ghost use Rattle.overlap_tiles.specs.Views.{step_view};
 
-use crate::steps::Step;
+use crate::steps::TileStep;
 use job::Job;
 use std::alloc::{AllocError, Global};
 
 // Records that the stage has this place.
-fn put(places: &mut Vec<Option<usize>>, stage: usize, place: usize)
+fn record_last_reading_step(places: &mut Vec<Option<usize>>, stage: usize, place: usize)
     ensures { places.new.items ≡ slice_set places.old.items stage (Some place) }
 {
     if stage < places.len() {
@@ -21,7 +21,7 @@ fn put(places: &mut Vec<Option<usize>>, stage: usize, place: usize)
 }
 
 /// The place of a stage in a table.
-pub(crate) fn place_in(places: &[Option<usize>], stage: usize) -> Option<usize>
+pub(crate) fn look_up_step_place(places: &[Option<usize>], stage: usize) -> Option<usize>
     ensures { result ≡ slice_index_or places.now stage None }
 {
     match places.get(stage) {
@@ -31,10 +31,10 @@ pub(crate) fn place_in(places: &[Option<usize>], stage: usize) -> Option<usize>
 }
 
 /// A table by the numbers of stages: the place of each among these steps, which exclude the target.
-pub(crate) fn places(
+pub(crate) fn index_steps_by_stage(
     alloc: Global,
     job: &Job,
-    steps: &[Step],
+    steps: &[TileStep],
 ) -> Result<Vec<Option<usize>>, AllocError>
     requires { All (λ s. s.0 < length (pipeline_in job.now).stages) (map step_view steps.now) }
     ensures { IfOk result (λ places. (target : ℕ × Region)
@@ -42,7 +42,7 @@ pub(crate) fn places(
 {
     let mut places = vec![in alloc; None; job.stages().len()]?;
     for (place, step) in steps.iter().enumerate() {
-        put(&mut places, step.stage, place);
+        record_last_reading_step(&mut places, step.stage, place);
     }
     Ok(places)
 }

@@ -9,9 +9,9 @@ ghost use Rattle.overlap_tiles.specs.Plans.{IsTileLayout, IsTilePlan, IsPlanFaul
 ghost use Rattle.overlap_tiles.specs.Views.{step_view};
 
 use crate::fault::PlanFault;
-use crate::keys::keys;
+use crate::keys::list_needed_keys;
 use crate::layout::Layout;
-use crate::steps::Step;
+use crate::steps::TileStep;
 use grouping::Schedule;
 use identity::Key;
 use job::Job;
@@ -37,7 +37,7 @@ impl<'a> Model for TilePlan<'a> {
 
 impl<'a> TilePlan<'a> {
     /// The plan of the tile in this row and this column of a function's or accumulator's grid. Its keys contain the identity of
-    /// the input. If the job does not keep that identity (`Job::keep_input_id`), the picture is hashed for each plan.
+    /// the input. If the job does not keep that identity (`Job::cache_input_id`), the picture is hashed for each plan.
     ///
     /// # Errors
     ///
@@ -57,8 +57,8 @@ impl<'a> TilePlan<'a> {
         ensures fault { IfErr result
             (IsPlanFault (pipeline_in job.now) schedule.now.inlining stage row col) }
     {
-        let layout = Layout::of(alloc, job, schedule, stage, row, col)?;
-        let needs = keys(alloc, job, layout.needs())?;
+        let layout = Layout::new(alloc, job, schedule, stage, row, col)?;
+        let needs = list_needed_keys(alloc, job, layout.needs())?;
         Ok(TilePlan { layout, needs })
     }
 
@@ -80,7 +80,7 @@ impl<'a> TilePlan<'a> {
     }
 
     /// What is computed, in this order: the inlined stages that it needs, each over its box, and at last the tile.
-    pub fn steps(&self) -> &[Step]
+    pub fn steps(&self) -> &[TileStep]
         ensures { map step_view result.now ≡ self.now.steps }
     {
         self.layout.steps()

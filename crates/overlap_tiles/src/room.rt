@@ -4,7 +4,7 @@
 ghost use Rattle.std.specs.Prelude.{◌≡◌, IfOk};
 ghost use Rattle.job.specs.Kept.{pipeline_in};
 ghost use Rattle.overlap_tiles.specs.Needs.{key_tile};
-ghost use Rattle.overlap_tiles.specs.Work.{lacks_room, first_without_room};
+ghost use Rattle.overlap_tiles.specs.Work.{is_tile_over_scratch_limit, find_key_over_scratch_limit};
 
 use grouping::{MOST_SCRATCH, Schedule};
 use identity::Key;
@@ -17,14 +17,14 @@ use std::alloc::{AllocError, Global};
 /// # Errors
 ///
 /// Fails only where memory is refused.
-pub fn lacks_room(
+pub fn is_tile_over_scratch_limit(
     alloc: Global,
     job: &Job,
     schedule: &Schedule,
     key: &Key,
 ) -> Result<bool, AllocError>
     ensures { IfOk result (λ b. b
-        ≡ lacks_room (pipeline_in job.now) schedule.now.inlining (key_tile key.now)) }
+        ≡ is_tile_over_scratch_limit (pipeline_in job.now) schedule.now.inlining (key_tile key.now)) }
 {
     let stage = usize::from(key.stage);
     let Some(grid) = job.grid(stage) else {
@@ -33,7 +33,7 @@ pub fn lacks_room(
     let Some(area) = grid.tile(key.row, key.col) else {
         return Ok(false);
     };
-    let points = schedule.scratch(alloc, job, stage, area)?;
+    let points = schedule.count_scratch_points(alloc, job, stage, area)?;
     Ok(points > MOST_SCRATCH)
 }
 
@@ -42,17 +42,17 @@ pub fn lacks_room(
 /// # Errors
 ///
 /// Fails only where memory is refused.
-pub fn first_without_room(
+pub fn find_key_over_scratch_limit(
     alloc: Global,
     job: &Job,
     schedule: &Schedule,
     keys: &[Key],
 ) -> Result<Option<Key>, AllocError>
     ensures { IfOk result (λ found. found
-        ≡ first_without_room (pipeline_in job.now) schedule.now.inlining keys.now) }
+        ≡ find_key_over_scratch_limit (pipeline_in job.now) schedule.now.inlining keys.now) }
 {
     for key in keys {
-        if lacks_room(alloc, job, schedule, key)? {
+        if is_tile_over_scratch_limit(alloc, job, schedule, key)? {
             return Ok(Some(*key));
         }
     }

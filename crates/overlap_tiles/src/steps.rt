@@ -13,17 +13,17 @@ use std::alloc::{AllocError, Global};
 
 /// A stage, and the area over which it is computed.
 #[derive(Clone, Copy, Debug, PartialEq, Eq)]
-pub struct Step {
+pub struct TileStep {
     pub stage: usize,
     pub area: Area,
 }
 
 /// The steps of those boxes whose stages are inlined.
-pub(crate) fn inner_steps(
+pub(crate) fn list_inner_steps(
     alloc: Global,
     schedule: &Schedule,
     boxes: &[(usize, Area)],
-) -> Result<Vec<Step>, AllocError>
+) -> Result<Vec<TileStep>, AllocError>
     ensures { IfOk result (λ steps. map step_view steps.items
         ≡ filter (λ s. is_inlined schedule.now.inlining s.0) boxes.now) }
 {
@@ -31,14 +31,17 @@ pub(crate) fn inner_steps(
     for found in boxes {
         let (stage, area) = *found;
         if schedule.inlined(stage) {
-            steps.push(Step { stage, area })?;
+            steps.push(TileStep { stage, area })?;
         }
     }
     Ok(steps)
 }
 
 /// These steps, and the target as the last.
-pub(crate) fn with_target(steps: Vec<Step>, target: Step) -> Result<Vec<Step>, AllocError>
+pub(crate) fn append_target_step(
+    steps: Vec<TileStep>,
+    target: TileStep,
+) -> Result<Vec<TileStep>, AllocError>
     ensures { IfOk result (λ all. all.items ≡ steps.items ++ target ∷ []) }
 {
     let mut all = steps;
@@ -48,7 +51,7 @@ pub(crate) fn with_target(steps: Vec<Step>, target: Step) -> Result<Vec<Step>, A
 
 // The points of an area are few enough that those of many areas can be added.
 #[tactic(auto, using(crate::proofs::PointsAreFew::few_points))]
-pub(crate) fn points(area: &Area) -> u64
+pub(crate) fn count_area_points(area: &Area) -> u64
     ensures number { result ≡ point_count area.now }
     ensures few { result < 2 ^ 43 }
 {
@@ -56,14 +59,14 @@ pub(crate) fn points(area: &Area) -> u64
 }
 
 /// The points of the steps' areas together; none if they are more than scratch memory may have.
-pub(crate) fn scratch_points(steps: &[Step]) -> Option<u64>
+pub(crate) fn sum_points_within_scratch(steps: &[TileStep]) -> Option<u64>
     ensures number { IfSome result (λ n. n ≡ points_in (map step_view steps.now)) }
     ensures few { IfSome result (λ n. n ≤ most_scratch) }
     ensures many { IfNone result (most_scratch < points_in (map step_view steps.now)) }
 {
     let mut total = 0;
     for step in steps {
-        total += points(&step.area);
+        total += count_area_points(&step.area);
         if total > MOST_SCRATCH {
             return None;
         }

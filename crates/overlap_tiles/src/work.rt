@@ -6,13 +6,13 @@ ghost use Rattle.std.specs.List.{flat_map, range_with_len};
 ghost use Rattle.domains.specs.Tiles.{tiles_of};
 ghost use Rattle.job.specs.Answers.{tiles, is_result};
 ghost use Rattle.job.specs.Kept.{pipeline_in, program_id_in};
-ghost use Rattle.tile_boxes.specs.Order.{in_order};
+ghost use Rattle.tile_boxes.specs.Order.{order_stages_by_rank};
 ghost use Rattle.overlap_tiles.specs.Needs.{key_of, IsKeyBefore};
-ghost use Rattle.overlap_tiles.specs.Work.{is_made, work_keys, wanted_keys};
+ghost use Rattle.overlap_tiles.specs.Work.{is_work_stage, work_keys, wanted_keys};
 ghost use Rattle.overlap_tiles.specs.inside.Keyed.{key_at, row_keys, Names};
 
 use domains::Grid;
-use grouping::{Schedule, in_order};
+use grouping::{Schedule, order_stages_by_rank};
 use identity::Key;
 use job::{Job, StageKind};
 use std::alloc::{AllocError, Global};
@@ -23,12 +23,12 @@ use std::alloc::{AllocError, Global};
 /// # Errors
 ///
 /// Fails only where memory is refused.
-pub fn work_keys(alloc: Global, job: &Job, schedule: &Schedule) -> Result<Vec<Key>, AllocError>
+pub fn list_work_keys(alloc: Global, job: &Job, schedule: &Schedule) -> Result<Vec<Key>, AllocError>
     ensures { IfOk result (λ keys. keys.items
         ≡ work_keys (program_id_in job.now) (pipeline_in job.now) schedule.now.inlining) }
 {
-    let stages = made_stages(alloc, job, schedule)?;
-    keys_of_stages(alloc, job, &stages)
+    let stages = list_work_stages(alloc, job, schedule)?;
+    list_keys_of_stages(alloc, job, &stages)
 }
 
 /// The keys of the tiles that the answer of a job consists of: those of its outputs and accumulators. They rise. The job's input
@@ -37,19 +37,19 @@ pub fn work_keys(alloc: Global, job: &Job, schedule: &Schedule) -> Result<Vec<Ke
 /// # Errors
 ///
 /// Fails only where memory is refused.
-pub fn wanted_keys(alloc: Global, job: &Job) -> Result<Vec<Key>, AllocError>
+pub fn list_wanted_keys(alloc: Global, job: &Job) -> Result<Vec<Key>, AllocError>
     ensures list { IfOk result (λ keys. keys.items
         ≡ wanted_keys (program_id_in job.now) (pipeline_in job.now)) }
     ensures rising { IfOk result (λ keys. AllPairs IsKeyBefore keys.items) }
 {
-    let stages = result_stages(alloc, job)?;
-    let keys = keys_of_stages(alloc, job, &stages)?;
+    let stages = list_result_stages(alloc, job)?;
+    let keys = list_keys_of_stages(alloc, job, &stages)?;
     Ok(keys)
 }
 
 // Whether the tiles of a stage are computed.
-fn is_made(job: &Job, schedule: &Schedule, stage: usize) -> bool
-    ensures { result ≡ is_made (pipeline_in job.now) schedule.now.inlining stage }
+fn is_work_stage(job: &Job, schedule: &Schedule, stage: usize) -> bool
+    ensures { result ≡ is_work_stage (pipeline_in job.now) schedule.now.inlining stage }
 {
     match job.kind(stage) {
         Some(StageKind::Function) => !schedule.inlined(stage),
@@ -59,15 +59,15 @@ fn is_made(job: &Job, schedule: &Schedule, stage: usize) -> bool
 }
 
 // The stages whose tiles are computed, in dependence order.
-fn made_stages(alloc: Global, job: &Job, schedule: &Schedule) -> Result<Vec<usize>, AllocError>
+fn list_work_stages(alloc: Global, job: &Job, schedule: &Schedule) -> Result<Vec<usize>, AllocError>
     ensures { IfOk result (λ made. made.items
-        ≡ filter (is_made (pipeline_in job.now) schedule.now.inlining)
-        (in_order (pipeline_in job.now).stages)) }
+        ≡ filter (is_work_stage (pipeline_in job.now) schedule.now.inlining)
+        (order_stages_by_rank (pipeline_in job.now).stages)) }
 {
     let mut made = Vec::new(alloc);
-    let order = in_order(alloc, job.stages())?;
+    let order = order_stages_by_rank(alloc, job.stages())?;
     for stage in order.iter() {
-        if is_made(job, schedule, *stage) {
+        if is_work_stage(job, schedule, *stage) {
             made.push(*stage)?;
         }
     }
@@ -76,7 +76,7 @@ fn made_stages(alloc: Global, job: &Job, schedule: &Schedule) -> Result<Vec<usiz
 
 // The stages whose tiles belong to the answer, rising.
 #[tactic(auto, using(tile_boxes::proofs::Lists::passes_more, tile_boxes::proofs::Lists::fails_more))]
-fn result_stages(alloc: Global, job: &Job) -> Result<Vec<usize>, AllocError>
+fn list_result_stages(alloc: Global, job: &Job) -> Result<Vec<usize>, AllocError>
     ensures { IfOk result (λ results. results.items
         ≡ filter (is_result (pipeline_in job.now))
         (range_with_len 0 (length (pipeline_in job.now).stages))) }
@@ -91,7 +91,7 @@ fn result_stages(alloc: Global, job: &Job) -> Result<Vec<usize>, AllocError>
 }
 
 // The keys of the tiles of these stages, stage by stage and row by row.
-fn keys_of_stages(alloc: Global, job: &Job, stages: &[usize]) -> Result<Vec<Key>, AllocError>
+fn list_keys_of_stages(alloc: Global, job: &Job, stages: &[usize]) -> Result<Vec<Key>, AllocError>
     ensures { IfOk result (λ keys. keys.items
         ≡ map (key_of (program_id_in job.now) (pipeline_in job.now))
         (flat_map (tiles (pipeline_in job.now)) stages.now)) }
@@ -105,13 +105,18 @@ fn keys_of_stages(alloc: Global, job: &Job, stages: &[usize]) -> Result<Vec<Key>
         col: 0,
     };
     for stage in stages {
-        add_stage(&mut keys, job, &named, *stage)?;
+        push_stage_keys(&mut keys, job, &named, *stage)?;
     }
     Ok(keys)
 }
 
 // Adds the keys of the tiles of a stage. The key that is passed has the identities of the program and of its input.
-fn add_stage(keys: &mut Vec<Key>, job: &Job, named: &Key, stage: usize) -> Result<(), AllocError>
+fn push_stage_keys(
+    keys: &mut Vec<Key>,
+    job: &Job,
+    named: &Key,
+    stage: usize,
+) -> Result<(), AllocError>
     requires { Names (program_id_in job.now) (pipeline_in job.now) named.now }
     ensures { OnOk result (keys.new.items
         ≡ keys.old.items ++ map (key_of (program_id_in job.now) (pipeline_in job.now))
@@ -125,27 +130,27 @@ fn add_stage(keys: &mut Vec<Key>, job: &Job, named: &Key, stage: usize) -> Resul
             row: 0,
             col: 0,
         };
-        add_tiles(keys, &first, &grid)?;
+        push_grid_keys(keys, &first, &grid)?;
     }
     Ok(())
 }
 
 // Adds the keys of the tiles of a grid, row by row.
 #[tactic(auto, using(tile_boxes::proofs::Lists::flat_map_range_more))]
-fn add_tiles(keys: &mut Vec<Key>, first: &Key, grid: &Grid) -> Result<(), AllocError>
+fn push_grid_keys(keys: &mut Vec<Key>, first: &Key, grid: &Grid) -> Result<(), AllocError>
     ensures { OnOk result (keys.new.items
         ≡ keys.old.items ++ map (key_at first.now) (tiles_of grid.now)) }
 {
     let cols = grid.tile_cols();
     for row in 0..grid.tile_rows() {
-        add_row(keys, first, row, cols)?;
+        push_row_keys(keys, first, row, cols)?;
     }
     Ok(())
 }
 
 // Adds the keys of the first tiles of a row.
 #[tactic(auto, using(tile_boxes::proofs::Lists::map_range_more))]
-fn add_row(keys: &mut Vec<Key>, first: &Key, row: u32, cols: u32) -> Result<(), AllocError>
+fn push_row_keys(keys: &mut Vec<Key>, first: &Key, row: u32, cols: u32) -> Result<(), AllocError>
     ensures { OnOk result (keys.new.items ≡ keys.old.items ++ row_keys first.now cols row) }
 {
     for col in 0..cols {

@@ -8,7 +8,7 @@ use Rattle.domains.specs.Span.{Ends, numbers_of}
 use Rattle.domains.specs.Tiles.{IsGrid, tile_area, tiles_of}
 use Rattle.domains.specs.declared.area.Area.{Area}
 use Rattle.domains.specs.declared.grid.Grid.{Grid}
-use Rattle.operators.specs.declared.operator.Fold.{Fold}
+use Rattle.operators.specs.declared.operator.ReductionOp.{ReductionOp}
 use Rattle.job.specs.Answers.{grid_of}
 use Rattle.job.specs.Formula.{Formula}
 use Rattle.job.specs.Pipeline.{Body, plane, function, accumulator, Stage, Pipeline}
@@ -20,7 +20,7 @@ use Rattle.job.proofs.TotalLaws.{map_same, body_totals-agrees}
 use Rattle.overlap_tiles.specs.Plans.{Layout, IsTileLayout}
 use Rattle.tile_sources.specs.KnownTiles.{KnownTiles, AreTrue}
 use Rattle.one_tile.specs.Local.{read_from, local_value, IsAtHand, IsClosed}
-use Rattle.one_tile.specs.declared.scratch_view.ScratchView.{ScratchView}
+use Rattle.one_tile.specs.declared.scratch_view.StepScratchView.{StepScratchView}
 use Rattle.one_tile.specs.Prepared.{IsInputAt, IsPrepared, IsPreparedOn}
 use Rattle.one_tile.proofs.LayoutsPrepare.{layout_steps, layout_area}
 use Rattle.one_tile.proofs.ValuesAreLocal.{same_stage}
@@ -49,7 +49,7 @@ totals_over_is job area g s there = ap (λ (o : Option Stage). option_map_or (λ
 
 -- ---- where all that is read is at hand, in boxes of local values
 
-module _ (job : Pipeline) (l : Layout) (given : KnownTiles) (boxes : ScratchView) (g : ℕ) (s : Stage)
+module _ (job : Pipeline) (l : Layout) (given : KnownTiles) (boxes : StepScratchView) (g : ℕ) (s : Stage)
     (there : slice_get job.stages g ≡ Some s) (area : Area) (prepared : IsPrepared job l given boxes g area) where
   within : IsSubarea area s.domain
   within r c inside = let p = prepared r c inside in subst (λ (t : Stage). HoldsPoint t.domain r c)
@@ -72,7 +72,7 @@ module _ (job : Pipeline) (l : Layout) (given : KnownTiles) (g i j : ℕ) (own :
   pub step_area : IsJob job → IsArea step.1
   step_area good = subst (λ (s : ℕ × Area). IsArea s.1) (sym step_is) (layout_area job l.inlining given l g i j own good)
 
-module _ (job : Pipeline) (l : Layout) (given : KnownTiles) (boxes : ScratchView) (g i j : ℕ) (own : IsTileLayout job l.inlining g i j l)
+module _ (job : Pipeline) (l : Layout) (given : KnownTiles) (boxes : StepScratchView) (g i j : ℕ) (own : IsTileLayout job l.inlining g i j l)
     (step : ℕ × Area) (last : IsLastStep l.steps step) where
   pub step_prepared : ((k m n : ℕ) → IsTileLayout job l.inlining k m n l → IsPreparedOn job l given boxes k m n)
       → IsPrepared job l given boxes step.0 step.1
@@ -99,7 +99,7 @@ true_totals job inlining given Inner g s area is there within true_tiles closed 
 -- the totals over the tiles, joined in any order, are the totals
 module _ (job : Pipeline) (grid : Grid) (tiles : List (ℕ × ℕ)) (is : IsGrid grid) (moved : IsPermutation (tiles_of grid) tiles) (g : ℕ)
   where
-    bins_join : (way : Fold) (bins : Ends) (v bin : Formula)
+    bins_join : (way : ReductionOp) (bins : Ends) (v bin : Formula)
         → fold (λ xs t. joined_bins way xs (body_totals (value job) (tile_area grid t.0 t.1) (accumulator way bins v bin)))
         (starts way bins)
         tiles ≡ body_totals (value job) grid.area (accumulator way bins v bin)

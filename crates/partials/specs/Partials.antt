@@ -4,7 +4,7 @@ use Rattle.std.specs.Option.{option_map_or}
 use Rattle.domains.specs.Tiles.{tile_area}
 use Rattle.domains.specs.declared.area.Area.{Area}
 use Rattle.domains.specs.declared.grid.Grid.{Grid}
-use Rattle.operators.specs.declared.operator.Fold.{Fold}
+use Rattle.operators.specs.declared.operator.ReductionOp.{ReductionOp}
 use Rattle.job.specs.Pipeline.{Body, plane, function, accumulator, Pipeline}
 use Rattle.job.specs.Totals.{body_totals, totals_over}
 use Rattle.overlap_tiles.specs.Plans.{Plan, IsTileAt, IsTilePlan}
@@ -26,7 +26,7 @@ abbrev pub AreLocalTotals : Pipeline → List Bool → KnownTiles → ℕ → �
 AreLocalTotals job inlining given g i j bins = (area : Area) → IsTileAt job g i j area → bins ≡ local_totals job inlining given area g
 
 -- bins are joined with what accumulator g accumulates over its tile in row i and column j
-abbrev pub TookLocalTotals : Pipeline → List Bool → KnownTiles → ℕ → ℕ → ℕ → Fold → List ℤ → List ℤ → Type 0
+abbrev pub TookLocalTotals : Pipeline → List Bool → KnownTiles → ℕ → ℕ → ℕ → ReductionOp → List ℤ → List ℤ → Type 0
 TookLocalTotals job inlining given g i j way old new =
     (area : Area) → IsTileAt job g i j area → new ≡ joined_bins way old (local_totals job inlining given area g)
 

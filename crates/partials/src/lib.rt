@@ -3,4 +3,4 @@
 
 mod partials;
 
-pub use partials::{accumulate_tile, partial};
+pub use partials::{accumulate_tile_values, partial};

@@ -15,21 +15,21 @@ ghost use Rattle.partials.specs.inside.LastSteps.{IsLastStep};
 ghost use Rattle.partials.specs.Partials.{local_totals, AreLocalTotals, AreTotalsOn, IsAccumulatorPlan};
 
 use job::{Accumulator, Body, Job};
-use one_tile::{EvalFault, TileInputs, TileJob, TileScratch, find_first_missing_key};
-use overlap_tiles::{Step, TilePlan};
-use reductions::{RowBuffers, create_start_bins};
+use one_tile::{EvalFault, TileInputs, TileJob, TileScratch, find_first_unsupplied_tile};
+use overlap_tiles::{TilePlan, TileStep};
+use reductions::{AccumulatorBuffers, create_start_bins};
 use std::alloc::{AllocError, Global};
 use tile_sources::TileSource;
 
 // Joins to each bin what an accumulator accumulates in it over the last step's area. All buffers are grown before the first value
 // is computed.
-fn accumulate_step<K: TileSource>(
+fn accumulate_step_values<K: TileSource>(
     alloc: Global,
     tile: &TileJob<'_, K>,
-    step: &Step,
+    step: &TileStep,
     accumulator: &Accumulator,
     scratch: &mut TileScratch,
-    rows: &mut RowBuffers,
+    rows: &mut AccumulatorBuffers,
     bins: &mut [i64],
 ) -> Result<(), AllocError>
     requires layout { IsSomeLayout (pipeline_in tile.now.job.now) tile.now.layout.now }
@@ -56,12 +56,12 @@ fn accumulate_step<K: TileSource>(
 /// # Errors
 ///
 /// Fails only where memory is refused; then the bins are unchanged.
-pub fn accumulate_tile<K: TileSource>(
+pub fn accumulate_tile_values<K: TileSource>(
     alloc: Global,
     tile: &TileJob<'_, K>,
     accumulator: &Accumulator,
     scratch: &mut TileScratch,
-    rows: &mut RowBuffers,
+    rows: &mut AccumulatorBuffers,
     bins: &mut [i64],
 ) -> Result<(), AllocError>
     requires layout { IsSomeLayout (pipeline_in tile.now.job.now) tile.now.layout.now }
@@ -79,14 +79,14 @@ pub fn accumulate_tile<K: TileSource>(
     let Some(step) = tile.layout.steps().last() else {
         unreachable!()
     };
-    accumulate_step(alloc, tile, step, accumulator, scratch, rows, bins)
+    accumulate_step_values(alloc, tile, step, accumulator, scratch, rows, bins)
 }
 
 // What an accumulator accumulates over the last step's area.
-fn compute_accumulator_totals<K: TileSource>(
+fn compute_accumulator_step_totals<K: TileSource>(
     alloc: Global,
     tile: &TileJob<'_, K>,
-    step: &Step,
+    step: &TileStep,
     accumulator: &Accumulator,
     scratch: &mut TileScratch,
 ) -> Result<Vec<i64>, AllocError>
@@ -100,8 +100,8 @@ fn compute_accumulator_totals<K: TileSource>(
         (K.given tile.now.known.now) step.now.area step.now.stage) }
 {
     let mut bins = create_start_bins(alloc, accumulator.fold(), accumulator.bins())?;
-    let mut rows = RowBuffers::new(alloc);
-    accumulate_step(
+    let mut rows = AccumulatorBuffers::new(alloc);
+    accumulate_step_values(
         alloc,
         tile,
         step,
@@ -117,7 +117,7 @@ fn compute_accumulator_totals<K: TileSource>(
 fn compute_step_totals<K: TileSource>(
     alloc: Global,
     tile: &TileJob<'_, K>,
-    step: &Step,
+    step: &TileStep,
     scratch: &mut TileScratch,
 ) -> Result<Vec<i64>, AllocError>
     requires layout { IsSomeLayout (pipeline_in tile.now.job.now) tile.now.layout.now }
@@ -131,7 +131,7 @@ fn compute_step_totals<K: TileSource>(
         return Ok(Vec::new(alloc));
     };
     match found.body() {
-        Body::Accumulator(accumulator) => compute_accumulator_totals(
+        Body::Accumulator(accumulator) => compute_accumulator_step_totals(
             alloc,
             tile,
             step,
@@ -191,7 +191,7 @@ pub fn partial<K: TileSource>(
     ensures given { IfOk result (λ bins. first_missing (K.given known.now) plan.now.needs ≡ None) }
     ensures fault { IfErr result (IsEvalFault (K.given known.now) plan.now.needs) }
 {
-    if let Some(key) = find_first_missing_key(plan.needs(), known) {
+    if let Some(key) = find_first_unsupplied_tile(plan.needs(), known) {
         return Err(EvalFault::Missing(key));
     }
     let tile = TileJob {

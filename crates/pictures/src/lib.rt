@@ -7,7 +7,7 @@ mod sheet;
 mod streamed;
 mod strip;
 
-pub use parting::is_one_thread_enough;
-pub use picture::{SuppliedJob, assemble_image, build_picture};
-pub use sheet::{OpenPlane, Sheet};
-pub use streamed::{StreamedOutput, compute_row_area};
+pub use parting::is_one_thread_enough_for_rows;
+pub use picture::{SuppliedJob, assemble_image, build_output_picture};
+pub use sheet::{OutputPlane, OutputSheet};
+pub use streamed::{StreamedOutput, compute_output_tile_row_area};

@@ -15,13 +15,13 @@ ghost use Rattle.tile_sources.specs.KnownTiles.{given_at, IsGivenLine};
 ghost use Rattle.pictures.specs.Pictures.{given_image, picture_from, picture_with, samples_from, IsLentStage, GivesOutputs};
 ghost use Rattle.pictures.specs.RowAreas.{IsGivenArea};
 
-use crate::sheet::{OpenPlane, Sheet};
+use crate::sheet::{OutputPlane, OutputSheet};
 use domains::Area;
 use job::{Job, Output};
-use netpbm::{Picture, Plane};
-use row_kernels::number_after;
+use netpbm::{PackedPlane, Picture};
+use row_kernels::offset_coordinate;
 use std::alloc::{AllocError, Global};
-use tile_eval::number_at;
+use tile_eval::find_span_number;
 use tile_run::{TileSource, borrow_supplied_row_part};
 
 // The number of values that are clamped before their samples are added.
@@ -80,7 +80,7 @@ impl<K: TileSource> SuppliedJob<'_, K> {
         ensures image { IfOk result IsImage }
     {
         let planes = self.assemble_planes(alloc, output.stages(), output.max() as u16)?;
-        Ok(build_picture(self.job, output, planes))
+        Ok(build_output_picture(self.job, output, planes))
     }
 
     // The planes of functions.
@@ -89,7 +89,7 @@ impl<K: TileSource> SuppliedJob<'_, K> {
         alloc: Global,
         stages: &[usize],
         max: u16,
-    ) -> Result<Vec<Plane>, AllocError>
+    ) -> Result<Vec<PackedPlane>, AllocError>
         requires stored { All
             (IsLentStage (pipeline_in self.now.job.now) (K.given self.now.known.now)) stages.now }
         ensures { IfOk result (λ planes. made_samples planes.items
@@ -109,7 +109,12 @@ impl<K: TileSource> SuppliedJob<'_, K> {
     /// # Errors
     ///
     /// Fails only where memory is refused.
-    pub fn assemble_plane(&self, alloc: Global, stage: usize, max: u16) -> Result<Plane, AllocError>
+    pub fn assemble_plane(
+        &self,
+        alloc: Global,
+        stage: usize,
+        max: u16,
+    ) -> Result<PackedPlane, AllocError>
         requires stored { IsLentStage (pipeline_in self.now.job.now) (K.given self.now.known.now)
             stage }
         ensures { IfOk result (λ plane. plane
@@ -117,19 +122,19 @@ impl<K: TileSource> SuppliedJob<'_, K> {
             (given_at (pipeline_in self.now.job.now) (K.given self.now.known.now)) max stage)) }
     {
         match self.job.domain(stage) {
-            Some(domain) => self.assemble_plane_over(alloc, stage, &domain, max),
+            Some(domain) => self.assemble_plane_of_domain(alloc, stage, &domain, max),
             None => unreachable!(),
         }
     }
 
     // The plane of a function over its domain.
-    fn assemble_plane_over(
+    fn assemble_plane_of_domain(
         &self,
         alloc: Global,
         stage: usize,
         domain: &Area,
         max: u16,
-    ) -> Result<Plane, AllocError>
+    ) -> Result<PackedPlane, AllocError>
         requires stored { IsLentStage (pipeline_in self.now.job.now) (K.given self.now.known.now)
             stage }
         requires domain { option_map (λ s. s.domain)
@@ -138,8 +143,8 @@ impl<K: TileSource> SuppliedJob<'_, K> {
             ≡ made max (map (λ p. sample_of max (given_at (pipeline_in self.now.job.now)
             (K.given self.now.known.now) stage p.0 p.1)) (points_of domain.now))) }
     {
-        let mut sheet = OpenPlane::with_capacity(alloc, max, domain.points() as usize)?;
-        self.push_area(&mut sheet, stage, domain)?;
+        let mut sheet = OutputPlane::with_capacity(alloc, max, domain.points() as usize)?;
+        self.push_area_samples(&mut sheet, stage, domain)?;
         Ok(sheet.into_plane())
     }
 
@@ -148,7 +153,7 @@ impl<K: TileSource> SuppliedJob<'_, K> {
     /// # Errors
     ///
     /// Fails only where memory is refused.
-    pub fn push_area<S: Sheet>(
+    pub fn push_area_samples<S: OutputSheet>(
         &self,
         sheet: &mut S,
         stage: usize,
@@ -165,15 +170,15 @@ impl<K: TileSource> SuppliedJob<'_, K> {
         let first = area.cols.lo();
         let count = area.cols.len() as usize;
         for place in 0..area.rows.len() {
-            let row = number_at(&area.rows, place);
-            self.push_row(sheet, stage, row, first, count)?;
+            let row = find_span_number(&area.rows, place);
+            self.push_row_samples(sheet, stage, row, first, count)?;
         }
         Ok(())
     }
 
     // Adds the values of a row from a column on, clamped to 0 and the greatest sample: tile by tile, from the numbers of the
     // tiles.
-    fn push_row<S: Sheet>(
+    fn push_row_samples<S: OutputSheet>(
         &self,
         sheet: &mut S,
         stage: usize,
@@ -191,7 +196,7 @@ impl<K: TileSource> SuppliedJob<'_, K> {
     {
         let mut done = 0;
         while done < count {
-            let from = number_after(first, done);
+            let from = offset_coordinate(first, done);
             let part = borrow_supplied_row_part(
                 self.known,
                 self.job,
@@ -200,7 +205,7 @@ impl<K: TileSource> SuppliedJob<'_, K> {
                 from,
                 count - done,
             );
-            push_clamped_values(sheet, part)?;
+            push_clamped_samples(sheet, part)?;
             done += part.len();
         }
         Ok(())
@@ -208,7 +213,7 @@ impl<K: TileSource> SuppliedJob<'_, K> {
 }
 
 /// The picture of an output, with these planes.
-pub fn build_picture(job: &Job, output: &Output, planes: Vec<Plane>) -> Picture
+pub fn build_output_picture(job: &Job, output: &Output, planes: Vec<PackedPlane>) -> Picture
     requires output { IsOutput (pipeline_in job.now) (output_view output.now) }
     requires image { IsImage (picture_with (pipeline_in job.now) (output_view output.now)
         (made_samples planes.items)) }
@@ -217,16 +222,16 @@ pub fn build_picture(job: &Job, output: &Output, planes: Vec<Plane>) -> Picture
     ensures image { IsImage result }
 {
     let first = output.stages()[0];
-    let rows = count_domain_rows(job, first);
-    let cols = count_domain_columns(job, first);
-    match Picture::of_planes(rows, cols, output.max() as u16, planes) {
+    let rows = count_output_plane_rows(job, first);
+    let cols = count_output_plane_columns(job, first);
+    match Picture::from_packed_planes(rows, cols, output.max() as u16, planes) {
         Ok(picture) => picture,
         Err(_) => unreachable!(),
     }
 }
 
 // Adds values to a sheet, clamped to 0 and its greatest sample, `PIECE` of them at a time.
-fn push_clamped_values<S: Sheet>(sheet: &mut S, values: &[i32]) -> Result<(), AllocError>
+fn push_clamped_samples<S: OutputSheet>(sheet: &mut S, values: &[i32]) -> Result<(), AllocError>
     ensures max { S.greatest_of sheet.new ≡ S.greatest_of sheet.old }
     ensures samples { OnOk result (S.samples sheet.new
         ≡ S.samples sheet.old ++ map (sample_of (S.greatest_of sheet.old)) values.now) }
@@ -237,7 +242,7 @@ fn push_clamped_values<S: Sheet>(sheet: &mut S, values: &[i32]) -> Result<(), Al
     while !rest.is_empty() {
         let (piece, behind) = rest.split_at(rest.len().min(PIECE));
         let cuts = &mut room[..piece.len()];
-        clamp_values(cuts, piece, max);
+        clamp_output_values(cuts, piece, max);
         sheet.add_samples(cuts)?;
         rest = behind;
     }
@@ -245,24 +250,24 @@ fn push_clamped_values<S: Sheet>(sheet: &mut S, values: &[i32]) -> Result<(), Al
 }
 
 // Each value, clamped to 0 and the greatest sample.
-fn clamp_values(cuts: &mut [u16], values: &[i32], max: u16)
+fn clamp_output_values(cuts: &mut [u16], values: &[i32], max: u16)
     requires { length cuts.old ≡ length values.now }
     ensures { cuts.new ≡ map (sample_of max) values.now }
 {
     for k in 0..values.len() {
-        cuts[k] = clamp_value(values[k], max);
+        cuts[k] = clamp_output_value(values[k], max);
     }
 }
 
 // The value clamped to 0 and the greatest sample.
-fn clamp_value(value: i32, max: u16) -> u16
+fn clamp_output_value(value: i32, max: u16) -> u16
     ensures { result ≡ sample_of max value }
 {
     value.max(0).min(i32::from(max)) as u16
 }
 
 // The number of rows of the domain of a stage.
-fn count_domain_rows(job: &Job, stage: usize) -> u32
+fn count_output_plane_rows(job: &Job, stage: usize) -> u32
     ensures { result ≡ height_of (pipeline_in job.now) stage }
 {
     match job.domain(stage) {
@@ -272,7 +277,7 @@ fn count_domain_rows(job: &Job, stage: usize) -> u32
 }
 
 // The number of columns of the domain of a stage.
-fn count_domain_columns(job: &Job, stage: usize) -> u32
+fn count_output_plane_columns(job: &Job, stage: usize) -> u32
     ensures { result ≡ width_of (pipeline_in job.now) stage }
 {
     match job.domain(stage) {

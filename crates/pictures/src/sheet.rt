@@ -4,11 +4,11 @@
 ghost use Rattle.std.specs.Prelude.{◌≡◌, ◌≤◌, ◌++◌, [], ℕ, List, All, IfOk, OnOk};
 ghost use Rattle.netpbm.specs.MadePlane.{made};
 
-use netpbm::Plane;
+use netpbm::PackedPlane;
 use std::alloc::{AllocError, Global};
 
 /// Samples in the order in which they were added.
-pub trait Sheet {
+pub trait OutputSheet {
     // The greatest sample that there may be.
     ghost greatest_of: { Self → ℕ };
 
@@ -32,34 +32,34 @@ pub trait Sheet {
 
 /// A plane that samples are added to.
 #[derive(Drop)]
-pub struct OpenPlane {
+pub struct OutputPlane {
     max: u16,
-    plane: Plane,
+    plane: PackedPlane,
     ghost same: { plane.max ≡ max },
 }
 
-impl OpenPlane {
+impl OutputPlane {
     /// No samples yet, and capacity for `count`.
     ///
     /// # Errors
     ///
     /// Fails only where memory is refused.
-    pub fn with_capacity(alloc: Global, max: u16, count: usize) -> Result<OpenPlane, AllocError>
+    pub fn with_capacity(alloc: Global, max: u16, count: usize) -> Result<OutputPlane, AllocError>
         ensures { IfOk result (λ sheet. sheet.plane ≡ made max []) }
     {
-        let plane = Plane::with_capacity(alloc, max, count)?;
-        Ok(OpenPlane { max, plane })
+        let plane = PackedPlane::with_capacity(alloc, max, count)?;
+        Ok(OutputPlane { max, plane })
     }
 
     /// The finished plane.
-    pub fn into_plane(self) -> Plane
+    pub fn into_plane(self) -> PackedPlane
         ensures { result ≡ self.plane }
     {
         self.plane
     }
 }
 
-impl Sheet for OpenPlane {
+impl OutputSheet for OutputPlane {
     ghost greatest_of = { λ sheet. sheet.plane.max };
 
     ghost samples = { λ sheet. sheet.plane.samples };

@@ -12,16 +12,16 @@ ghost use Rattle.tile_run.specs.Stored.{stored_tiles};
 ghost use Rattle.pictures.specs.RowAreas.{row_area};
 ghost use Rattle.pictures.specs.inside.Strips.{IsStripOf};
 
-use crate::parting::is_one_thread_enough;
+use crate::parting::is_one_thread_enough_for_rows;
 use crate::picture::SuppliedJob;
-use crate::sheet::{OpenPlane, Sheet};
-use crate::strip::{PlaneStrip, append_strips};
+use crate::sheet::{OutputPlane, OutputSheet};
+use crate::strip::{PlaneStrip, append_strips_to_plane};
 use domains::{Area, Grid};
-use netpbm::Plane;
+use netpbm::PackedPlane;
 use rayon::prelude::*;
 use std::alloc::{AllocError, Global};
 use std::thread::Threads;
-use tile_run::{StageRun, SuppliedRow, TileScratch, estimate_rows_per_thread};
+use tile_run::{StageRun, SuppliedTileRow, TileScratch, estimate_tile_rows_per_thread};
 
 /// An output of a job. Each thread has one row of its tiles in memory at a time.
 #[derive(Clone, Copy)]
@@ -30,7 +30,7 @@ pub struct StreamedOutput<'a> {
 }
 
 /// The points of a row of tiles.
-pub fn compute_row_area(grid: &Grid, row: u32) -> Area
+pub fn compute_output_tile_row_area(grid: &Grid, row: u32) -> Area
     requires parted { IsGrid grid.now }
     requires row { row < tile_rows grid.now }
     ensures { result ≡ row_area grid.now row }
@@ -55,7 +55,7 @@ impl StreamedOutput<'_> {
         rt: &(impl Threads + Sync),
         alloc: Global,
         max: u16,
-    ) -> Result<Plane, AllocError>
+    ) -> Result<PackedPlane, AllocError>
         requires ready { IsStageReady (pipeline_in self.now.run.job.now)
             self.now.run.schedule.now.inlining (stored_tiles self.now.run.stored.now.stages.items)
             self.now.run.stage self.now.run.grid }
@@ -63,15 +63,15 @@ impl StreamedOutput<'_> {
             ≡ made max (samples (pipeline_in self.now.run.job.now) max self.now.run.stage)) }
     {
         let run = &self.run;
-        let least = estimate_rows_per_thread(run.job, run.schedule, run.stage);
-        if is_one_thread_enough(rt, run.grid.tile_rows(), least) {
+        let least = estimate_tile_rows_per_thread(run.job, run.schedule, run.stage);
+        if is_one_thread_enough_for_rows(rt, run.grid.tile_rows(), least) {
             return self.compute_plane_in_turn(alloc, max);
         }
         self.compute_plane_in_parallel(rt, alloc, max, least)
     }
 
     // The same by this thread alone, one row of tiles after the other.
-    fn compute_plane_in_turn(&self, alloc: Global, max: u16) -> Result<Plane, AllocError>
+    fn compute_plane_in_turn(&self, alloc: Global, max: u16) -> Result<PackedPlane, AllocError>
         requires ready { IsStageReady (pipeline_in self.now.run.job.now)
             self.now.run.schedule.now.inlining (stored_tiles self.now.run.stored.now.stages.items)
             self.now.run.stage self.now.run.grid }
@@ -80,9 +80,9 @@ impl StreamedOutput<'_> {
     {
         let grid = &self.run.grid;
         let mut scratch = TileScratch::new(alloc);
-        let mut sheet = OpenPlane::with_capacity(alloc, max, grid.area.points() as usize)?;
+        let mut sheet = OutputPlane::with_capacity(alloc, max, grid.area.points() as usize)?;
         for row in 0..grid.tile_rows() {
-            self.push_tile_row(alloc, &mut sheet, &mut scratch, row)?;
+            self.compute_tile_row_into_sheet(alloc, &mut sheet, &mut scratch, row)?;
         }
         Ok(sheet.into_plane())
     }
@@ -94,21 +94,25 @@ impl StreamedOutput<'_> {
         alloc: Global,
         max: u16,
         least: usize,
-    ) -> Result<Plane, AllocError>
+    ) -> Result<PackedPlane, AllocError>
         requires ready { IsStageReady (pipeline_in self.now.run.job.now)
             self.now.run.schedule.now.inlining (stored_tiles self.now.run.stored.now.stages.items)
             self.now.run.stage self.now.run.grid }
         ensures { IfOk result (λ plane. plane
             ≡ made max (samples (pipeline_in self.now.run.job.now) max self.now.run.stage)) }
     {
-        let strips = self.compute_strips(rt, alloc, max, least)?;
-        let mut plane = Plane::with_capacity(alloc, max, self.run.grid.area.points() as usize)?;
-        append_strips(&mut plane, &strips)?;
+        let strips = self.compute_plane_strips(rt, alloc, max, least)?;
+        let mut plane = PackedPlane::with_capacity(
+            alloc,
+            max,
+            self.run.grid.area.points() as usize,
+        )?;
+        append_strips_to_plane(&mut plane, &strips)?;
         Ok(plane)
     }
 
     // A strip for each row of tiles. Each thread gets at least `least` rows.
-    fn compute_strips(
+    fn compute_plane_strips(
         &self,
         rt: &(impl Threads + Sync),
         alloc: Global,
@@ -132,13 +136,13 @@ impl StreamedOutput<'_> {
                         self.now.run.schedule.now.inlining (stored_tiles self.now.run.stored.now.stages.items)
                         self.now.run.stage self.now.run.grid × (row < tile_rows self.now.run.grid) }
                     ensures { IfOk result (IsStripOf self.entry.now max row) }
-                { self.compute_strip(alloc, scratch, row, max) },
+                { self.compute_plane_strip(alloc, scratch, row, max) },
             )
             .collect::<Result<Vec<_>, AllocError>>(rt, alloc)?
     }
 
     // The samples of one row of tiles.
-    fn compute_strip(
+    fn compute_plane_strip(
         &self,
         alloc: Global,
         scratch: &mut TileScratch,
@@ -151,14 +155,14 @@ impl StreamedOutput<'_> {
         requires row { row < tile_rows self.now.run.grid }
         ensures { IfOk result (IsStripOf self.now max row) }
     {
-        let area = compute_row_area(&self.run.grid, row);
+        let area = compute_output_tile_row_area(&self.run.grid, row);
         let mut strip = PlaneStrip::with_capacity(alloc, max, area.points() as usize)?;
-        self.push_tile_row(alloc, &mut strip, scratch, row)?;
+        self.compute_tile_row_into_sheet(alloc, &mut strip, scratch, row)?;
         Ok(strip)
     }
 
     // Adds the samples of one row of tiles to a sheet.
-    fn push_tile_row<S: Sheet>(
+    fn compute_tile_row_into_sheet<S: OutputSheet>(
         &self,
         alloc: Global,
         sheet: &mut S,
@@ -175,9 +179,9 @@ impl StreamedOutput<'_> {
             ++ samples_over (pipeline_in self.now.run.job.now) (S.greatest_of sheet.old)
             self.now.run.stage (row_area self.now.run.grid row)) }
     {
-        let area = compute_row_area(&self.run.grid, row);
-        let tiles = self.run.compute_row(alloc, row, scratch)?;
-        let lent = SuppliedRow {
+        let area = compute_output_tile_row_area(&self.run.grid, row);
+        let tiles = self.run.compute_tile_row(alloc, row, scratch)?;
+        let lent = SuppliedTileRow {
             stage: self.run.stage,
             row,
             tiles: &tiles,
@@ -186,7 +190,7 @@ impl StreamedOutput<'_> {
             job: self.run.job,
             known: &lent,
         };
-        known.push_area(sheet, self.run.stage, &area)?;
+        known.push_area_samples(sheet, self.run.stage, &area)?;
         scratch.replace_recycled_vectors(tiles);
         Ok(())
     }

@@ -4,8 +4,8 @@
 ghost use Rattle.std.specs.Prelude.{◌≡◌, ◌≤◌, ◌++◌, [], All, IfOk, OnOk};
 ghost use Rattle.std.specs.List.{flat_map};
 
-use crate::sheet::Sheet;
-use netpbm::Plane;
+use crate::sheet::OutputSheet;
+use netpbm::PackedPlane;
 use std::alloc::{AllocError, Global};
 
 /// The samples of some rows of a plane, which are kept until those of the rows before are available.
@@ -34,7 +34,7 @@ impl PlaneStrip {
     }
 }
 
-impl Sheet for PlaneStrip {
+impl OutputSheet for PlaneStrip {
     ghost greatest_of = { λ strip. strip.max };
 
     ghost samples = { λ strip. strip.samples.items };
@@ -53,7 +53,10 @@ impl Sheet for PlaneStrip {
 /// # Errors
 ///
 /// Fails only where memory is refused.
-pub(crate) fn append_strips(plane: &mut Plane, strips: &[PlaneStrip]) -> Result<(), AllocError>
+pub(crate) fn append_strips_to_plane(
+    plane: &mut PackedPlane,
+    strips: &[PlaneStrip],
+) -> Result<(), AllocError>
     requires { All (λ strip. All (λ sample. sample ≤ plane.old.max) strip.samples.items) strips.now }
     ensures max { plane.new.max ≡ plane.old.max }
     ensures samples { OnOk result (plane.new.samples

@@ -27,7 +27,7 @@ use Rattle.pipe_bounds.specs.Tables.{IsTableSpan, TablesStand, IsFirstFaultyTabl
 use Rattle.pipe_bounds.specs.InBounds.{ReadCase, IsInBox, TakesRow, TakesColumn, Stays, AllStay, StageStays, StaysAt, AreInBounds}
 use Rattle.pipe_bounds.specs.InBounds.{StaysAlong, AreExtremes, Leaves, TellsRead, IsFirstRead, IsFirstCase, IsFirstStage}
 use Rattle.pipe_bounds.specs.InBounds.{IsFirstDeparture, IsBoundFault, IsInBounds, stage_cases, scale_of}
-use Rattle.pipe_bounds.specs.inside.Taken.{TellsDomain, domain_fault, TellsTable, table_fault}
+use Rattle.pipe_bounds.specs.inside.Taken.{TellsDomain, stage_domain_fault, TellsTable, table_span_fault}
 use Rattle.pipe_bounds.proofs.OneDomain.{not_ok_and_err, same_area, same_fault, not_span_and_fault, same_table_fault}
 
 -- ---- lists
@@ -222,7 +222,7 @@ one_faulty ss ds stages f g h e =
     let fault =
     same_fault ss ds h.first.stage h.fault e.fault h.first.faulty
     (subst (λ (s : Symbol). IsStageDomain ss ds s (Err e.fault)) (sym stage) e.first.faulty) in
-    h.told ∙ (λ i. domain_fault (fault i) (number i)) ∙ sym e.told
+    h.told ∙ (λ i. stage_domain_fault (fault i) (number i)) ∙ sym e.told
 
 one_faulty_table : (ss : List Setting) (ds : List Declaration) (tables : List Symbol) (f g : BoundFault) → TellsTable ss ds tables f
     → TellsTable ss ds tables g → f ≡ g
@@ -235,7 +235,7 @@ one_faulty_table ss ds tables f g h e =
     let fault =
     same_table_fault ss ds h.first.declared h.fault e.fault h.first.faulty
     (subst (λ (s : Symbol). IsTableSpan ss ds s (Err e.fault)) (sym table) e.first.faulty) in
-    h.told ∙ (λ i. table_fault (fault i) (number i)) ∙ sym e.told
+    h.told ∙ (λ i. table_span_fault (fault i) (number i)) ∙ sym e.told
 
 -- ---- the whole
 

@@ -5,7 +5,7 @@ use Rattle.domains.specs.Span.{Ends}
 use Rattle.domains.specs.Area.{HoldsPoint}
 use Rattle.domains.specs.declared.area.Area.{Area}
 use Rattle.operators.specs.declared.operator.Relation.{Relation}
-use Rattle.pipe_tree.specs.declared.tree.Term.{Term}
+use Rattle.pipe_tree.specs.declared.tree.AffineTerm.{AffineTerm}
 use Rattle.pipe_tree.specs.declared.tree.Test.{Test}
 use Rattle.pipe_tree.specs.declared.tree.Test.TheVariants.{Compare}
 use Rattle.pipe_bounds.specs.declared.params.Setting.{Setting}
@@ -22,7 +22,7 @@ cut_twice b s m (Some n) first second = λ v. (
   (λ h. (second v).1 ((first v).1 (h.0, h.1.0), h.1.1)),
 )
 
-pub rows_cut : (ss : List Setting) (row x : List ℕ) (rel : Relation) (terms : List Term) (a : Area) (m : Ends) → bytes_eq x row ≡ true
+pub rows_cut : (ss : List Setting) (row x : List ℕ) (rel : Relation) (terms : List AffineTerm) (a : Area) (m : Ends) → bytes_eq x row ≡ true
     → IsCut (λ v. Meets rel v (affine_value ss terms)) a.rows (Some m)
     → IsCutArea (BoundHolds ss row (Compare x rel terms)) a (Some (record { rows = m; cols = a.cols }))
 rows_cut ss row x rel terms a m e cut = λ r c. (
@@ -30,7 +30,7 @@ rows_cut ss row x rel terms a m e cut = λ r c. (
   (λ h. ((cut r).1 (h.0.0, subst (λ b. Meets rel (cond b r c) (affine_value ss terms)) e h.1), h.0.1)),
 )
 
-pub columns_cut : (ss : List Setting) (row x : List ℕ) (rel : Relation) (terms : List Term) (a : Area) (m : Ends) → bytes_eq x row ≡ false
+pub columns_cut : (ss : List Setting) (row x : List ℕ) (rel : Relation) (terms : List AffineTerm) (a : Area) (m : Ends) → bytes_eq x row ≡ false
     → IsCut (λ v. Meets rel v (affine_value ss terms)) a.cols (Some m)
     → IsCutArea (BoundHolds ss row (Compare x rel terms)) a (Some (record { rows = a.rows; cols = m }))
 columns_cut ss row x rel terms a m e cut = λ r c. (

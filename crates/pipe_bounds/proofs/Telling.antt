@@ -13,7 +13,7 @@ use Rattle.pipe_bounds.specs.StageBounds.{StageBounds, domains_in, AreBoundsOf}
 use Rattle.pipe_bounds.specs.Within.{AllSet, IsFirstFaultyDomain}
 use Rattle.pipe_bounds.specs.Tables.{TablesStand, AreSpansOf, IsFirstFaultyTable}
 use Rattle.pipe_bounds.specs.InBounds.{AreInBounds, IsBoundFault, IsFirstStage, IsInBounds}
-use Rattle.pipe_bounds.specs.inside.Taken.{TellsDomain, TellsTable, domain_fault, table_fault}
+use Rattle.pipe_bounds.specs.inside.Taken.{TellsDomain, TellsTable, stage_domain_fault, table_span_fault}
 use Rattle.pipe_bounds.proofs.Stages.{found_domains}
 use Rattle.pipe_bounds.proofs.TableSpans.{spans_stand}
 
@@ -24,12 +24,12 @@ on_program P {xs} {ys} ds items same is p = subst (P ds) is (subst (λ (es : Lis
 -- ---- the first fault of a table, and of a domain
 
 module _ (ss : List Setting) (ds : List Declaration) (set : AllSet ss) where
-  table_is : (fault : IntervalFault) (k : ℕ) → IsFirstFaultyTable ss ds (tables_of ds) fault k → IsBoundFault ss ds (table_fault fault k)
+  table_is : (fault : IntervalFault) (k : ℕ) → IsFirstFaultyTable ss ds (tables_of ds) fault k → IsBoundFault ss ds (table_span_fault fault k)
   table_is Empty k h = (set, h)
   table_is TooWide k h = (set, h)
 
   domain_is : TablesStand ss ds (tables_of ds) → (fault : IntervalFault) (k : ℕ) → IsFirstFaultyDomain ss ds (stages_of ds) fault k
-      → IsBoundFault ss ds (domain_fault fault k)
+      → IsBoundFault ss ds (stage_domain_fault fault k)
   domain_is stand Empty k h = (set, stand, h)
   domain_is stand TooWide k h = (set, stand, h)
 

@@ -2,7 +2,7 @@
 use Rattle.std.specs.Prelude.{ℕ, ℤ, pos, neg_ℤ, ◌+ℤ◌, ◌*ℤ◌, ◌≡◌, if◌then◌else◌, Option, Some, None, unwrap_or, List, [], ◌∷◌}
 use Rattle.std.specs.Prelude.{slice_get, slice_set, position}
 use Rattle.std.specs.Str.{bytes_eq}
-use Rattle.pipe_tree.specs.declared.tree.Term.{Term}
+use Rattle.pipe_tree.specs.declared.tree.AffineTerm.{AffineTerm}
 use Rattle.pipe_bounds.specs.declared.params.Setting.{Setting}
 
 -- the number of the first parameter of this name
@@ -39,16 +39,16 @@ abbrev pub param_value : List Setting → List ℕ → ℤ
 param_value ss name = value_in ss (place_in ss name)
 
 -- what the factor of a term is multiplied by
-abbrev pub named_value : List Setting → Option (List ℕ) → ℤ
-named_value ss None = pos 1
-named_value ss (Some name) = param_value ss name
+abbrev pub param_value_or_one : List Setting → Option (List ℕ) → ℤ
+param_value_or_one ss None = pos 1
+param_value_or_one ss (Some name) = param_value ss name
 
 -- the exact values of a term and of a sum of terms
-abbrev pub term_value : List Setting → Term → ℤ
-term_value ss t =
-    let product = pos t.factor *ℤ named_value ss t.name in
+abbrev pub affine_term_value : List Setting → AffineTerm → ℤ
+affine_term_value ss t =
+    let product = pos t.factor *ℤ param_value_or_one ss t.name in
     if t.negative then neg_ℤ product else product
 
-abbrev pub affine_value : List Setting → List Term → ℤ
+abbrev pub affine_value : List Setting → List AffineTerm → ℤ
 affine_value ss [] = pos 0
-affine_value ss (t ∷ ts) = term_value ss t +ℤ affine_value ss ts
+affine_value ss (t ∷ ts) = affine_term_value ss t +ℤ affine_value ss ts

@@ -2,27 +2,27 @@
 //! The exact value of an affine sum.
 
 ghost use Rattle.std.specs.Prelude.{◌≡◌, pos, negsuc, ◌≤ℤ◌, ◌-◌, ◌^◌};
-ghost use Rattle.pipe_bounds.specs.Settings.{named_value, term_value, affine_value};
+ghost use Rattle.pipe_bounds.specs.Settings.{param_value_or_one, affine_term_value, affine_value};
 
 use crate::params::Params;
 use pipe_tokens::Name;
-use pipe_tree::{Affine, Term};
+use pipe_tree::{Affine, AffineTerm};
 
-fn named_value(params: &Params, name: &Option<Name>) -> i32
-    ensures { result ≡ named_value params.now name.now }
+fn param_value_or_one(params: &Params, name: &Option<Name>) -> i32
+    ensures { result ≡ param_value_or_one params.now name.now }
 {
     match name {
-        Some(name) => params.value_of(name),
+        Some(name) => params.value_or_zero(name),
         None => 1,
     }
 }
 
-fn term_value(params: &Params, term: &Term) -> i128
-    ensures value { result ≡ term_value params.now term.now }
+fn affine_term_value(params: &Params, term: &AffineTerm) -> i128
+    ensures value { result ≡ affine_term_value params.now term.now }
     ensures least { negsuc (2 ^ 63 - 1) ≤ℤ result }
     ensures most { result ≤ℤ pos (2 ^ 63) }
 {
-    let product = i128::from(term.factor) * i128::from(named_value(params, &term.name));
+    let product = i128::from(term.factor) * i128::from(param_value_or_one(params, &term.name));
     if term.negative { -product } else { product }
 }
 
@@ -32,7 +32,7 @@ pub fn affine_value(params: &Params, affine: &Affine) -> i128
 {
     let mut total: i128 = 0;
     for term in affine.terms() {
-        total += term_value(params, term);
+        total += affine_term_value(params, term);
     }
     total
 }

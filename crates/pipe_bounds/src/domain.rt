@@ -29,12 +29,12 @@ pub(crate) enum IntervalFault {
 
 /// The domain of a plane or a function; the reduction domain of an accumulator, and its bins.
 #[derive(Clone, Copy, Debug)]
-pub(crate) struct Place {
+pub(crate) struct StageDomain {
     pub(crate) domain: Area,
     pub(crate) bins: Option<Span>,
 }
 
-fn interval(first: i128, last: i128) -> Result<Span, IntervalFault>
+fn check_interval(first: i128, last: i128) -> Result<Span, IntervalFault>
     ensures { IsInterval first last result }
 {
     if last < first {
@@ -49,17 +49,17 @@ fn interval(first: i128, last: i128) -> Result<Span, IntervalFault>
     }
 }
 
-fn interval_of(params: &Params, span: &AffineSpan) -> Result<Span, IntervalFault>
+fn affine_interval(params: &Params, span: &AffineSpan) -> Result<Span, IntervalFault>
     ensures { IsInterval (affine_value params.now span.now.first)
         (affine_value params.now span.now.last) result }
 {
-    interval(
+    check_interval(
         affine_value(params, &span.first),
         affine_value(params, &span.last),
     )
 }
 
-fn extent(side: i128) -> Result<Span, IntervalFault>
+fn check_extent(side: i128) -> Result<Span, IntervalFault>
     ensures { IsExtent side result }
 {
     if side < 1 {
@@ -68,21 +68,21 @@ fn extent(side: i128) -> Result<Span, IntervalFault>
     if MAX_SIZE < side {
         return Err(IntervalFault::TooWide);
     }
-    interval(0, side - 1)
+    check_interval(0, side - 1)
 }
 
-fn extent_of(params: &Params, side: &Affine) -> Result<Span, IntervalFault>
+fn affine_extent(params: &Params, side: &Affine) -> Result<Span, IntervalFault>
     ensures { IsExtent (affine_value params.now side.now) result }
 {
-    extent(affine_value(params, side))
+    check_extent(affine_value(params, side))
 }
 
 // The bins of an accumulator, or the span of a table.
-fn bins_of(params: &Params, span: &AffineSpan) -> Result<Span, IntervalFault>
+fn affine_bins(params: &Params, span: &AffineSpan) -> Result<Span, IntervalFault>
     ensures { IsBins (affine_value params.now span.now.first)
         (affine_value params.now span.now.last) result }
 {
-    let bins = interval_of(params, span)?;
+    let bins = affine_interval(params, span)?;
     if i128::from(bins.len()) <= MAX_SIZE {
         Ok(bins)
     } else {
@@ -94,8 +94,8 @@ fn image_domain(params: &Params, image: &Image) -> Result<Area, IntervalFault>
     ensures { IsArea (IsExtent (affine_value params.now image.now.rows))
         (IsExtent (affine_value params.now image.now.columns)) result }
 {
-    let rows = extent_of(params, &image.rows)?;
-    let cols = extent_of(params, &image.columns)?;
+    let rows = affine_extent(params, &image.rows)?;
+    let cols = affine_extent(params, &image.columns)?;
     Ok(Area { rows, cols })
 }
 
@@ -103,37 +103,37 @@ fn func_domain(params: &Params, func: &Func) -> Result<Area, IntervalFault>
     ensures { IsArea (IsSpanOf params.now func.now.row.span)
         (IsSpanOf params.now func.now.column.span) result }
 {
-    let rows = interval_of(params, &func.row.span)?;
-    let cols = interval_of(params, &func.column.span)?;
+    let rows = affine_interval(params, &func.row.span)?;
+    let cols = affine_interval(params, &func.column.span)?;
     Ok(Area { rows, cols })
 }
 
-fn accum_place(params: &Params, accum: &Accum) -> Result<Place, IntervalFault>
+fn accum_domain(params: &Params, accum: &Accum) -> Result<StageDomain, IntervalFault>
     ensures { IsPlaced params.now (accumulator (accumulator_of accum.now)) result }
 {
-    let bins = bins_of(params, &accum.bins)?;
-    let rows = interval_of(params, &accum.row.span)?;
-    let cols = interval_of(params, &accum.column.span)?;
-    Ok(Place {
+    let bins = affine_bins(params, &accum.bins)?;
+    let rows = affine_interval(params, &accum.row.span)?;
+    let cols = affine_interval(params, &accum.column.span)?;
+    Ok(StageDomain {
         domain: Area { rows, cols },
         bins: Some(bins),
     })
 }
 
-fn without_bins(domain: Area) -> Place
+fn domain_without_bins(domain: Area) -> StageDomain
     ensures { result ≡ record { domain = domain; bins = None } }
 {
-    Place { domain, bins: None }
+    StageDomain { domain, bins: None }
 }
 
 /// The domain, and the bins if any, of the stages that an item declares.
-pub(crate) fn place_of(params: &Params, item: &Item) -> Result<Place, IntervalFault>
+pub(crate) fn item_domain(params: &Params, item: &Item) -> Result<StageDomain, IntervalFault>
     ensures { IsPlaced params.now (declaration item.now) result }
 {
     match item {
-        Item::Image(image) => Ok(without_bins(image_domain(params, image)?)),
-        Item::Func(func) => Ok(without_bins(func_domain(params, func)?)),
-        Item::Accum(accum) => accum_place(params, accum),
+        Item::Image(image) => Ok(domain_without_bins(image_domain(params, image)?)),
+        Item::Func(func) => Ok(domain_without_bins(func_domain(params, func)?)),
+        Item::Accum(accum) => accum_domain(params, accum),
         Item::Param(_) | Item::Table(_) | Item::Output(_) => Err(IntervalFault::Empty),
     }
 }
@@ -143,7 +143,7 @@ pub(crate) fn table_span(params: &Params, item: &Item) -> Result<Span, IntervalF
     ensures { IsItemSpan params.now (declaration item.now) result }
 {
     match item {
-        Item::Table(table) => bins_of(params, &table.span),
+        Item::Table(table) => affine_bins(params, &table.span),
         Item::Param(_) | Item::Image(_) | Item::Func(_) | Item::Accum(_) | Item::Output(_) => Err(
             IntervalFault::Empty,
         ),

@@ -4,10 +4,10 @@
 ghost use Rattle.std.specs.Prelude.{◌≡◌, ◌<◌, IfOk, length};
 ghost use Rattle.pipe_tree.specs.Tree.{declaration, declarations};
 ghost use Rattle.pipe_bounds.specs.StageBounds.{HasBoxes, IsBoundsOf, AreBoundsOf};
-ghost use Rattle.pipe_bounds.specs.inside.Taken.{AreDeclared, IsAnswer, IsPlace, TellsDomain, domain_fault};
+ghost use Rattle.pipe_bounds.specs.inside.Taken.{AreDeclared, IsAnswer, IsPlace, TellsDomain, stage_domain_fault};
 
 use crate::boxes::case_boxes;
-use crate::domain::{IntervalFault, Place, place_of};
+use crate::domain::{IntervalFault, StageDomain, item_domain};
 use crate::fault::BoundFault;
 use crate::params::Params;
 use crate::stage_bounds::StageBounds;
@@ -16,8 +16,8 @@ use pipe_checks::Symbol;
 use pipe_tree::Item;
 use std::alloc::{AllocError, Global};
 
-fn domain_fault(fault: IntervalFault, stage: usize) -> BoundFault
-    ensures { result ≡ domain_fault fault stage }
+fn stage_domain_fault(fault: IntervalFault, stage: usize) -> BoundFault
+    ensures { result ≡ stage_domain_fault fault stage }
 {
     match fault {
         IntervalFault::Empty => BoundFault::EmptyDomain(stage),
@@ -25,7 +25,7 @@ fn domain_fault(fault: IntervalFault, stage: usize) -> BoundFault
     }
 }
 
-fn item_boxes(
+fn item_case_boxes(
     alloc: Global,
     params: &Params,
     domain: &Area,
@@ -34,28 +34,34 @@ fn item_boxes(
     ensures { IfOk result (λ v. HasBoxes params.now (declaration item.now) domain.now v.items) }
 {
     match item {
-        Item::Func(func) => case_boxes(alloc, params, &func.row.name, domain, func.cases.list()),
+        Item::Func(func) => case_boxes(
+            alloc,
+            params,
+            &func.row.name,
+            domain,
+            func.cases.case_list(),
+        ),
         Item::Param(_) | Item::Image(_) | Item::Table(_) | Item::Accum(_) | Item::Output(_) => Ok(
             Vec::new(alloc),
         ),
     }
 }
 
-fn bounds_at(
+fn build_stage_bounds(
     alloc: Global,
     params: &Params,
     item: &Item,
-    place: &Place,
+    place: &StageDomain,
 ) -> Result<StageBounds, AllocError>
     requires { IsPlace params.now (declaration item.now) place.now }
     ensures { IfOk result (IsBoundsOf params.now (declaration item.now)) }
 {
-    let boxes = item_boxes(alloc, params, &place.domain, item)?;
+    let boxes = item_case_boxes(alloc, params, &place.domain, item)?;
     Ok(StageBounds::new(place.domain, place.bins, boxes))
 }
 
 /// The bounds of each stage, or the first fault of a domain.
-pub(crate) fn bounds_of_stages(
+pub(crate) fn collect_stage_bounds(
     alloc: Global,
     params: &Params,
     items: &[Item],
@@ -68,12 +74,12 @@ pub(crate) fn bounds_of_stages(
     let mut found = Vec::new(alloc);
     for (stage, declared) in stages.iter().enumerate() {
         let item = &items[declared.item];
-        match place_of(params, item) {
+        match item_domain(params, item) {
             Ok(place) => {
-                let bounds = bounds_at(alloc, params, item, &place)?;
+                let bounds = build_stage_bounds(alloc, params, item, &place)?;
                 found.push(bounds).map_err(AllocError::from)?;
             }
-            Err(fault) => return Err(domain_fault(fault, stage)),
+            Err(fault) => return Err(stage_domain_fault(fault, stage)),
         }
     }
     Ok(found)

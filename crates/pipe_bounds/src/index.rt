@@ -9,7 +9,7 @@ use domains::Index;
 
 /// The index in the text, without the name of its variable. `check` ensures that its factor and its divisor are from 1 to 16, and
 /// that its addend is from -4096 to 4096.
-pub fn index_of(index: &pipe_tree::Index) -> Index
+pub fn to_domain_index(index: &pipe_tree::Index) -> Index
     requires { IsIndex (scale_of index.now) }
     ensures { result ≡ scale_of index.now }
 {

@@ -40,17 +40,17 @@ impl Params {
     pub fn of(alloc: Global, checked: &Checked) -> Result<Self, AllocError>
         ensures { IfOk result (λ p. p ≡ map unset (params_in checked.now)) }
     {
-        Params::unset(alloc, checked.params())
+        Params::from_symbols(alloc, checked.params())
     }
 
     /// These parameters with these values, in this order. It is not checked that they are those of a program.
-    pub fn of_settings(settings: Vec<Setting>) -> Self
+    pub fn from_settings(settings: Vec<Setting>) -> Self
         ensures { result ≡ settings.items }
     {
         Params { settings }
     }
 
-    fn unset(alloc: Global, params: &[Symbol]) -> Result<Self, AllocError>
+    fn from_symbols(alloc: Global, params: &[Symbol]) -> Result<Self, AllocError>
         ensures { IfOk result (λ p. p ≡ map unset params.now) }
     {
         let mut settings = Vec::new(alloc);
@@ -78,7 +78,7 @@ impl Params {
     }
 
     // The number of the first parameter of this name.
-    fn number_of(&self, name: &[u8]) -> Option<usize>
+    fn find_param_number(&self, name: &[u8]) -> Option<usize>
         ensures { result ≡ place_in self.now name.now }
     {
         self.settings
@@ -94,7 +94,7 @@ impl Params {
         ensures no_such { (result ≡ Err NoSuchParam) ↔ (place_in self.old name.now ≡ None) }
         ensures twice { (result ≡ Err SetTwice) ↔ IsSet self.old name.now }
     {
-        let Some(number) = self.number_of(name.as_bytes()) else {
+        let Some(number) = self.find_param_number(name.as_bytes()) else {
             return Err(ParamFault::NoSuchParam);
         };
         if self.settings[number].value.is_some() {
@@ -105,10 +105,10 @@ impl Params {
     }
 
     /// The value of the parameter of this name; 0 where there is no such parameter, or it has no value.
-    pub fn value_of(&self, name: &Name) -> i32
+    pub fn value_or_zero(&self, name: &Name) -> i32
         ensures { result ≡ param_value self.now name.now }
     {
-        match self.number_of(name.as_bytes()) {
+        match self.find_param_number(name.as_bytes()) {
             Some(number) => self.get(number).unwrap_or(0),
             None => 0,
         }

@@ -13,16 +13,16 @@ ghost use Rattle.pipe_bounds.specs.inside.Taken.{AnswersCases, AnswersReads, Are
 use crate::fault::BoundFault;
 use crate::params::Params;
 use crate::stage_bounds::StageBounds;
-use crate::taken::{departing, taken};
+use crate::taken::{access_footprint, find_domain_departure};
 use domains::Area;
-use pipe_checks::{Access, Symbol, accesses, add_accesses};
+use pipe_checks::{Access, Symbol, collect_expr_accesses, push_expr_accesses};
 use pipe_tokens::Name;
 use pipe_tree::{Accum, Case, Expr, Func, Item};
 use std::alloc::Global;
 
 /// A stage whose reads are checked.
 #[derive(Drop)]
-pub(crate) struct Reader<'a> {
+pub(crate) struct BoundsChecker<'a> {
     pub(crate) alloc: Global,
     pub(crate) params: &'a Params,
     pub(crate) stages: &'a [Symbol],
@@ -32,8 +32,14 @@ pub(crate) struct Reader<'a> {
     pub(crate) boxes: &'a [Option<Area>],
 }
 
-impl Reader<'_> {
-    fn read(&self, case: usize, read: usize, access: &Access, area: &Area) -> Result<(), BoundFault>
+impl BoundsChecker<'_> {
+    fn check_access(
+        &self,
+        case: usize,
+        read: usize,
+        access: &Access,
+        area: &Area,
+    ) -> Result<(), BoundFault>
         requires sound { IsSound (length self.now.found.now) access.now }
         requires near { InDomainRanges area.now }
         ensures { IsAnswer
@@ -41,8 +47,8 @@ impl Reader<'_> {
             (TellsRead (domains_in self.now.found.now) (HoldsPoint area.now) access.now
             self.now.stage case read) result }
     {
-        let taken = taken(access, area);
-        match departing(&taken, self.found[access.stage()].domain()) {
+        let taken = access_footprint(access, area);
+        match find_domain_departure(&taken, self.found[access.stage()].domain()) {
             Some(departure) => Err(BoundFault::OutOfBounds {
                 stage: self.stage,
                 case,
@@ -55,30 +61,35 @@ impl Reader<'_> {
         }
     }
 
-    fn accesses(&self, case: usize, accesses: &[Access], area: &Area) -> Result<(), BoundFault>
+    fn check_accesses(
+        &self,
+        case: usize,
+        accesses: &[Access],
+        area: &Area,
+    ) -> Result<(), BoundFault>
         requires sound { AreSound (length self.now.found.now) accesses.now }
         requires near { InDomainRanges area.now }
         ensures { AnswersReads (domains_in self.now.found.now) (HoldsPoint area.now) accesses.now
             self.now.stage case result }
     {
         for (read, access) in accesses.iter().enumerate() {
-            self.read(case, read, access, area)?;
+            self.check_access(case, read, access, area)?;
         }
         Ok(())
     }
 
-    fn expr(&self, case: usize, value: &Expr, area: &Area) -> Result<(), BoundFault>
+    fn check_expr_reads(&self, case: usize, value: &Expr, area: &Area) -> Result<(), BoundFault>
         requires sound { AreSound (length self.now.found.now)
             (accesses_of self.now.stages.now (view value.now)) }
         requires near { InDomainRanges area.now }
         ensures { AnswersReads (domains_in self.now.found.now) (HoldsPoint area.now)
             (accesses_of self.now.stages.now (view value.now)) self.now.stage case result }
     {
-        let accesses = accesses(self.alloc, self.stages, value)?;
-        self.accesses(case, &accesses, area)
+        let accesses = collect_expr_accesses(self.alloc, self.stages, value)?;
+        self.check_accesses(case, &accesses, area)
     }
 
-    fn branch(
+    fn check_case_reads(
         &self,
         number: usize,
         row: &Name,
@@ -96,12 +107,12 @@ impl Reader<'_> {
             (accesses_of self.now.stages.now (view case.now.value)) self.now.stage number result }
     {
         match area {
-            Some(area) => self.expr(number, &case.value, area),
+            Some(area) => self.check_expr_reads(number, &case.value, area),
             None => Ok(()),
         }
     }
 
-    fn branches(&self, row: &Name, cases: &[Case]) -> Result<(), BoundFault>
+    fn check_cases_reads(&self, row: &Name, cases: &[Case]) -> Result<(), BoundFault>
         requires sound { AreSoundCases (length self.now.found.now)
             (map (branch_case self.now.stages.now row.now) (branches cases.now)) }
         requires near { InDomainRanges self.now.domain.now }
@@ -112,12 +123,12 @@ impl Reader<'_> {
             self.now.stage result }
     {
         for (number, case) in cases.iter().enumerate() {
-            self.branch(number, row, case, &self.boxes[number])?;
+            self.check_case_reads(number, row, case, &self.boxes[number])?;
         }
         Ok(())
     }
 
-    fn func(&self, func: &Func) -> Result<(), BoundFault>
+    fn check_func_reads(&self, func: &Func) -> Result<(), BoundFault>
         requires sound { AreSoundCases (length self.now.found.now)
             (item_cases self.now.stages.now (function (function_of func.now))) }
         requires near { InDomainRanges self.now.domain.now }
@@ -127,15 +138,15 @@ impl Reader<'_> {
             self.now.domain.now (item_cases self.now.stages.now (function (function_of func.now)))
             self.now.stage result }
     {
-        let cases = func.cases.list();
-        self.branches(&func.row.name, cases)?;
+        let cases = func.cases.case_list();
+        self.check_cases_reads(&func.row.name, cases)?;
         match &func.otherwise {
-            Some(value) => self.expr(cases.len(), value, self.domain),
+            Some(value) => self.check_expr_reads(cases.len(), value, self.domain),
             None => Ok(()),
         }
     }
 
-    fn accum(&self, accum: &Accum) -> Result<(), BoundFault>
+    fn check_accum_reads(&self, accum: &Accum) -> Result<(), BoundFault>
         requires sound { AreSoundCases (length self.now.found.now)
             (item_cases self.now.stages.now (accumulator (accumulator_of accum.now))) }
         requires near { InDomainRanges self.now.domain.now }
@@ -145,13 +156,13 @@ impl Reader<'_> {
             result }
     {
         let mut found = Vec::new(self.alloc);
-        add_accesses(&mut found, self.stages, &accum.value)?;
-        add_accesses(&mut found, self.stages, &accum.bin)?;
-        self.accesses(0, &found, self.domain)
+        push_expr_accesses(&mut found, self.stages, &accum.value)?;
+        push_expr_accesses(&mut found, self.stages, &accum.bin)?;
+        self.check_accesses(0, &found, self.domain)
     }
 
     /// Checks the reads of the stage, which the item declares.
-    pub(crate) fn item(&self, item: &Item) -> Result<(), BoundFault>
+    pub(crate) fn check_item_reads(&self, item: &Item) -> Result<(), BoundFault>
         requires sound { AreSoundCases (length self.now.found.now)
             (item_cases self.now.stages.now (declaration item.now)) }
         requires near { InDomainRanges self.now.domain.now }
@@ -162,8 +173,8 @@ impl Reader<'_> {
             self.now.stage result }
     {
         match item {
-            Item::Func(func) => self.func(func),
-            Item::Accum(accum) => self.accum(accum),
+            Item::Func(func) => self.check_func_reads(func),
+            Item::Accum(accum) => self.check_accum_reads(accum),
             Item::Param(_) | Item::Image(_) | Item::Table(_) | Item::Output(_) => Ok(()),
         }
     }

@@ -4,7 +4,7 @@
 ghost use Rattle.std.specs.Prelude.{◌≡◌};
 ghost use Rattle.pipe_tree.specs.Tree.{declarations};
 ghost use Rattle.pipe_bounds.specs.Tables.{AreSpansOf};
-ghost use Rattle.pipe_bounds.specs.inside.Taken.{AreDeclared, AreTables, IsAnswer, TellsTable, table_fault};
+ghost use Rattle.pipe_bounds.specs.inside.Taken.{AreDeclared, AreTables, IsAnswer, TellsTable, table_span_fault};
 
 use crate::domain::{IntervalFault, table_span};
 use crate::fault::BoundFault;
@@ -14,8 +14,8 @@ use pipe_checks::Symbol;
 use pipe_tree::Item;
 use std::alloc::{AllocError, Global};
 
-fn table_fault(fault: IntervalFault, table: usize) -> BoundFault
-    ensures { result ≡ table_fault fault table }
+fn table_span_fault(fault: IntervalFault, table: usize) -> BoundFault
+    ensures { result ≡ table_span_fault fault table }
 {
     match fault {
         IntervalFault::Empty => BoundFault::EmptyTable(table),
@@ -24,7 +24,7 @@ fn table_fault(fault: IntervalFault, table: usize) -> BoundFault
 }
 
 /// The span of each table, or the first fault of one.
-pub(crate) fn spans_of_tables(
+pub(crate) fn collect_table_spans(
     alloc: Global,
     params: &Params,
     items: &[Item],
@@ -39,7 +39,7 @@ pub(crate) fn spans_of_tables(
     for (table, declared) in tables.iter().enumerate() {
         match table_span(params, &items[declared.item]) {
             Ok(span) => spans.push(span).map_err(AllocError::from)?,
-            Err(fault) => return Err(table_fault(fault, table)),
+            Err(fault) => return Err(table_span_fault(fault, table)),
         }
     }
     Ok(spans)

@@ -9,7 +9,7 @@ ghost use Rattle.pipe_bounds.specs.InBounds.{scale_of};
 ghost use Rattle.pipe_bounds.specs.inside.Taken.{IsWidened, IsTaken, IsDeparting, InDomainRange, InDomainRanges, IsSound};
 
 use crate::fault::Axis;
-use crate::index::index_of;
+use crate::index::to_domain_index;
 use domains::{Area, Span};
 use pipe_checks::Access;
 
@@ -25,7 +25,7 @@ pub(crate) struct Departure {
 }
 
 // The numbers that an index takes over a span.
-fn image_of(index: &pipe_tree::Index, span: &Span) -> Span
+fn read_index_image(index: &pipe_tree::Index, span: &Span) -> Span
     requires index { IsIndex (scale_of index.now) }
     requires near { InDomainRange span.now }
     ensures image { IsImage (scale_of index.now) span.now result }
@@ -33,11 +33,11 @@ fn image_of(index: &pipe_tree::Index, span: &Span) -> Span
 {
     let (least, greatest) = (span.lo(), span.hi());
     prove!(-MAX_REACH <= least && greatest <= MAX_REACH);
-    index_of(index).image(span)
+    to_domain_index(index).image(span)
 }
 
 // The numbers that a kernel side of this length takes around those of a span.
-fn widened(span: &Span, side: usize) -> Span
+fn extend_span_by_stencil(span: &Span, side: usize) -> Span
     requires near { InDomainRange span.now }
     requires side { side ≤ 15 }
     ensures widened { IsWidened (side / 2) span.now result }
@@ -53,7 +53,7 @@ fn widened(span: &Span, side: usize) -> Span
 }
 
 /// The rows and columns that a read takes over the points of an area.
-pub(crate) fn taken(access: &Access, area: &Area) -> Area
+pub(crate) fn access_footprint(access: &Access, area: &Area) -> Area
     requires sound { (count : ℕ) × IsSound count access.now }
     requires near { InDomainRanges area.now }
     ensures taken { IsTaken access.now area.now result }
@@ -61,18 +61,18 @@ pub(crate) fn taken(access: &Access, area: &Area) -> Area
 {
     match access {
         Access::Read(_, row, column) => Area {
-            rows: image_of(row, &area.rows),
-            cols: image_of(column, &area.cols),
+            rows: read_index_image(row, &area.rows),
+            cols: read_index_image(column, &area.cols),
         },
         Access::Stencil(_, rows, columns) => Area {
-            rows: widened(&area.rows, *rows),
-            cols: widened(&area.cols, *columns),
+            rows: extend_span_by_stencil(&area.rows, *rows),
+            cols: extend_span_by_stencil(&area.cols, *columns),
         },
     }
 }
 
 /// The first axis along which the taken indices leave the domain.
-pub(crate) fn departing(taken: &Area, domain: &Area) -> Option<Departure>
+pub(crate) fn find_domain_departure(taken: &Area, domain: &Area) -> Option<Departure>
     ensures { IsDeparting taken.now domain.now result }
 {
     if !taken.rows.inside(&domain.rows) {

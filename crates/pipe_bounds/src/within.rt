@@ -14,17 +14,17 @@ ghost use Rattle.pipe_bounds.specs.Tables.{AreSpansOf};
 ghost use Rattle.pipe_checks.specs.Names.{tables_of, stages_of};
 
 use crate::fault::BoundFault;
-use crate::finding::bounds_of_stages;
+use crate::finding::collect_stage_bounds;
 use crate::params::Params;
-use crate::reader::Reader;
+use crate::reader::BoundsChecker;
 use crate::stage_bounds::StageBounds;
-use crate::table_spans::spans_of_tables;
+use crate::table_spans::collect_table_spans;
 use domains::Span;
 use pipe_checks::{Checked, Symbol};
 use pipe_tree::Item;
 use std::alloc::Global;
 
-fn all_set(params: &Params) -> Result<(), BoundFault>
+fn check_params_set(params: &Params) -> Result<(), BoundFault>
     ensures { AreSet params.now result }
 {
     for (number, setting) in params.settings().iter().enumerate() {
@@ -35,7 +35,7 @@ fn all_set(params: &Params) -> Result<(), BoundFault>
     Ok(())
 }
 
-fn judge_reads(
+fn check_all_stage_reads(
     alloc: Global,
     params: &Params,
     items: &[Item],
@@ -52,7 +52,7 @@ fn judge_reads(
 {
     for (stage, declared) in stages.iter().enumerate() {
         let here = &found[stage];
-        let reader = Reader {
+        let reader = BoundsChecker {
             alloc,
             params,
             stages,
@@ -61,7 +61,7 @@ fn judge_reads(
             domain: here.domain(),
             boxes: here.boxes(),
         };
-        reader.item(&items[declared.item])?;
+        reader.check_item_reads(&items[declared.item])?;
     }
     Ok(())
 }
@@ -77,7 +77,7 @@ pub struct ProgramBounds {
 
 /// The bounds of each stage and the span of each table, by their numbers, if the program is in bounds at the values of its
 /// parameters. Else the first fault. Both are as `bounds` defines them.
-pub fn bounds_by_stage(
+pub fn find_program_bounds(
     alloc: Global,
     checked: &Checked,
     params: &Params,
@@ -90,12 +90,12 @@ pub fn bounds_by_stage(
     ensures fault { IfErr result (IsBoundFault params.now (content (tree_in checked.now))) }
     ensures unset { (n : ℕ) → IsFirstUnset params.now n → result ≡ Err (ParamUnset n) }
 {
-    all_set(params)?;
+    check_params_set(params)?;
     let items = checked.tree().items();
-    let tables = spans_of_tables(alloc, params, items, checked.tables())?;
+    let tables = collect_table_spans(alloc, params, items, checked.tables())?;
     let stages = checked.stages();
-    let found = bounds_of_stages(alloc, params, items, stages)?;
-    judge_reads(alloc, params, items, stages, &found)?;
+    let found = collect_stage_bounds(alloc, params, items, stages)?;
+    check_all_stage_reads(alloc, params, items, stages, &found)?;
     Ok(ProgramBounds {
         stages: found,
         tables,
@@ -112,6 +112,6 @@ pub fn bounds(alloc: Global, checked: &Checked, params: &Params) -> Result<(), B
     ensures fault { IfErr result (IsBoundFault params.now (content (tree_in checked.now))) }
     ensures unset { (n : ℕ) → IsFirstUnset params.now n → result ≡ Err (ParamUnset n) }
 {
-    let _ = bounds_by_stage(alloc, checked, params)?;
+    let _ = find_program_bounds(alloc, checked, params)?;
     Ok(())
 }

@@ -23,16 +23,16 @@ use Rattle.pipe_checks.specs.declared.symbol.NameKind.{NameKind}
 use Rattle.pipe_checks.specs.declared.symbol.NameKind.TheVariants.{Param, Table, Plane, Func, Accum}
 use Rattle.pipe_checks.specs.declared.fault.Violation.{Violation}
 use Rattle.pipe_checks.specs.declared.fault.Violation.TheVariants.{Kind, BadKernel, BadLiteral}
-use Rattle.pipe_checks.specs.declared.uses.Locals.{Locals}
+use Rattle.pipe_checks.specs.declared.uses.ItemVariables.{ItemVariables}
 use Rattle.pipe_checks.specs.declared.uses.NameRole.TheVariants as role
-use Rattle.pipe_checks.specs.declared.uses.Expected.{Expected}
-use Rattle.pipe_checks.specs.declared.uses.Expected.TheVariants as expected
+use Rattle.pipe_checks.specs.declared.uses.ExpectedRole.{ExpectedRole}
+use Rattle.pipe_checks.specs.declared.uses.ExpectedRole.TheVariants as expected
 use Rattle.pipe_checks.specs.Names.{declared_at}
 use Rattle.pipe_checks.specs.Accesses.{width_of}
-use Rattle.pipe_checks.specs.Twice.{locals_of}
+use Rattle.pipe_checks.specs.Twice.{item_variables}
 use Rattle.pipe_checks.specs.Checking.{is_good}
-use Rattle.pipe_checks.specs.Uses.{Place, name, ranged, remainder, shift, kernel, is_it, role_of, declared_role, allows}
-use Rattle.pipe_checks.specs.Uses.{wrong_name, greatest_number, wrong_range, wrong_remainder, wrong_shift, is_side, wrong_kernel}
+use Rattle.pipe_checks.specs.Uses.{Place, name, ranged, remainder, shift, kernel, is_variable_named, role_of, declared_role, allows}
+use Rattle.pipe_checks.specs.Uses.{wrong_name, greatest_number, wrong_range, wrong_remainder, wrong_shift, is_stencil_kernel_side, wrong_kernel}
 use Rattle.pipe_checks.specs.Uses.{role_at, wrong_at, is_served, are_served, span_places, index_places, least_literal}
 use Rattle.pipe_checks.specs.Uses.{greatest_literal, read_places, stencil_places, expr_places, test_places, tests_places}
 use Rattle.pipe_checks.specs.Uses.{branch_places, branches_places, otherwise_places, output_places, places_of}
@@ -119,7 +119,7 @@ IsSoundItem names (tree.output o) = AreFuncs names o.names × IsWithin 1 65535 o
 
 -- ---- places that are served
 
-parted : (names : List Symbol) (locals : Locals) (xs ys : List Place) → are_served names locals (xs ++ ys) ≡ true
+parted : (names : List Symbol) (locals : ItemVariables) (xs ys : List Place) → are_served names locals (xs ++ ys) ≡ true
     → (are_served names locals xs ≡ true) × (are_served names locals ys ≡ true)
 parted names locals [] ys h = (refl, h)
 parted names locals (x ∷ xs) ys h =
@@ -127,7 +127,7 @@ parted names locals (x ∷ xs) ys h =
     let rest = parted names locals xs ys both.1 in
     (and_from (is_served names locals x) (are_served names locals xs) both.0 rest.0, rest.1)
 
-first_of : (names : List Symbol) (locals : Locals) (x : Place) (xs : List Place) → are_served names locals (x ∷ xs) ≡ true
+first_of : (names : List Symbol) (locals : ItemVariables) (x : Place) (xs : List Place) → are_served names locals (x ∷ xs) ≡ true
     → (is_served names locals x ≡ true) × (are_served names locals xs ≡ true)
 first_of names locals x xs h = and_parts (is_served names locals x) (are_served names locals xs) h
 
@@ -163,14 +163,14 @@ literal_ok Rem n h = range_ok n 1 greatest_number h
 literal_ok Shl n h = (range_ok n 0 31 h).1
 literal_ok Shr n h = (range_ok n 0 31 h).1
 
-side_ok : (n : ℕ) → is_side n ≡ true → (n % 2 ≡ 1) × (n ≤ 15)
+side_ok : (n : ℕ) → is_stencil_kernel_side n ≡ true → (n % 2 ≡ 1) × (n ≤ 15)
 side_ok n h = let both = and_parts (n % 2 == 1) (nat_le n 15) h in (same_number (n % 2) 1 both.0, at_most n 15 both.1)
 
 kernel_ok : (k : List (List ℤ)) → is_none (wrong_kernel k) ≡ true → IsSoundKernel k
 kernel_ok k h =
     let parts =
-    and_parts (is_side (length k)) (is_side (width_of k) && list_all (λ row. length row == width_of k) k) (if_served _ BadKernel h) in
-    let rest = and_parts (is_side (width_of k)) (list_all (λ row. length row == width_of k) k) parts.1 in
+    and_parts (is_stencil_kernel_side (length k)) (is_stencil_kernel_side (width_of k) && list_all (λ row. length row == width_of k) k) (if_served _ BadKernel h) in
+    let rest = and_parts (is_stencil_kernel_side (width_of k)) (list_all (λ row. length row == width_of k) k) parts.1 in
     record {
       height = side_ok (length k) parts.0;
       width = side_ok (width_of k) rest.0;
@@ -182,10 +182,10 @@ kernel_ok k h =
 -- ---- names
 
 -- what a place allows that takes no variable
-by_kind : (w : Expected) (IsKind : NameKind → Type 0) → ((k : NameKind) → allows w (role_of k) ≡ true → IsKind k)
-    → allows w role.Row ≡ false → allows w role.Column ≡ false → (names : List Symbol) (locals : Locals) (x : List ℕ)
+by_kind : (w : ExpectedRole) (IsKind : NameKind → Type 0) → ((k : NameKind) → allows w (role_of k) ≡ true → IsKind k)
+    → allows w role.Row ≡ false → allows w role.Column ≡ false → (names : List Symbol) (locals : ItemVariables) (x : List ℕ)
     → is_none (wrong_name w (role_at names locals x)) ≡ true → IsNameOf IsKind names x
-by_kind w IsKind kinds no_row no_column names locals x = by (is_it locals.row x) (is_it locals.column x) (declared_at names x) refl
+by_kind w IsKind kinds no_row no_column names locals x = by (is_variable_named locals.row x) (is_variable_named locals.column x) (declared_at names x) refl
   where
     declared_by : (d : Symbol) → declared_at names x ≡ Some d → is_none (wrong_name w (Some (role_of d.kind))) ≡ true
         → IsNameOf IsKind names x
@@ -220,7 +220,7 @@ table_kind Plane h = absurd (false≢true h)
 table_kind Func h = absurd (false≢true h)
 table_kind Accum h = absurd (false≢true h)
 
-module _ (names : List Symbol) (locals : Locals) where
+module _ (names : List Symbol) (locals : ItemVariables) where
   readable_name : (x : List ℕ) → is_served names locals (name x expected.Readable) ≡ true → IsNameOf IsReadableKind names x
   readable_name = by_kind expected.Readable IsReadableKind readable_kind refl refl names locals
 
@@ -230,7 +230,7 @@ module _ (names : List Symbol) (locals : Locals) where
   table_name : (x : List ℕ) → is_served names locals (name x expected.Table) ≡ true → IsNameOf IsTableKind names x
   table_name = by_kind expected.Table IsTableKind table_kind refl refl names locals
 
-  index_ok : (i : Index) (w : Expected) → are_served names locals (index_places i w) ≡ true → IsSoundIndex i
+  index_ok : (i : Index) (w : ExpectedRole) → are_served names locals (index_places i w) ≡ true → IsSoundIndex i
   unfolding index_places
   index_ok i w h =
       let mul = first_of names locals (ranged i.mul 1 16) (name i.name w ∷ shift i.add ∷ ranged i.div 1 16 ∷ []) h in
@@ -321,14 +321,14 @@ sound_item names (tree.param p) h = tt
 sound_item names (tree.image i) h = tt
 sound_item names (tree.table t) h = tt
 sound_item names (tree.function f) h =
-    let locals = locals_of (tree.function f) in
+    let locals = item_variables (tree.function f) in
     let values = branches_places f.cases ++ otherwise_places f.otherwise in
     let first = parted names locals (span_places f.row.span) (span_places f.column.span ++ values) h in
     let second = parted names locals (span_places f.column.span) values first.1 in
     let third = parted names locals (branches_places f.cases) (otherwise_places f.otherwise) second.1 in
     (sound_branches names locals f.cases third.0, sound_otherwise names locals f.otherwise third.1)
 sound_item names (tree.accumulator a) h =
-    let locals = locals_of (tree.accumulator a) in
+    let locals = item_variables (tree.accumulator a) in
     let values = expr_places a.value ++ expr_places a.bin in
     let first = parted names locals (span_places a.bins) (span_places a.row.span ++ (span_places a.column.span ++ values)) h in
     let second = parted names locals (span_places a.row.span) (span_places a.column.span ++ values) first.1 in
@@ -336,6 +336,6 @@ sound_item names (tree.accumulator a) h =
     let last = parted names locals (expr_places a.value) (expr_places a.bin) third.1 in
     (sound names locals a.value last.0, sound names locals a.bin last.1)
 sound_item names (tree.output o) h =
-    let locals = locals_of (tree.output o) in
+    let locals = item_variables (tree.output o) in
     let both = parted names locals (output_places o.names) (ranged o.max 1 65535 ∷ []) h in
     (outputs_ok names locals o.names both.0, range_ok o.max 1 65535 (first_of names locals (ranged o.max 1 65535) [] both.1).0)

@@ -13,12 +13,12 @@ use Rattle.pipe_checks.specs.declared.fault.Violation.{Violation}
 use Rattle.pipe_checks.specs.declared.fault.Violation.TheVariants as violation
 use Rattle.pipe_checks.specs.declared.fault.CheckFault.{CheckFault}
 use Rattle.pipe_checks.specs.declared.fault.CheckFault.TheVariants.{Unknown, Twice, Kind, BadKernel, BadLiteral, NoResult, Cycle, Memory}
-use Rattle.pipe_checks.specs.Links.{Links}
+use Rattle.pipe_checks.specs.StageLinks.{StageLinks}
 use Rattle.pipe_checks.specs.Names.{declared_names}
 use Rattle.pipe_checks.specs.Accesses.{graph_of}
 use Rattle.pipe_checks.specs.Graph.{IsShortestFrom, IsShortestCycle}
 use Rattle.pipe_checks.specs.Uses.{places_of, IsFirstUnserved}
-use Rattle.pipe_checks.specs.Twice.{locals_of}
+use Rattle.pipe_checks.specs.Twice.{item_variables}
 use Rattle.pipe_checks.specs.Checking.{NoneTwice, IsFirstTwice, IsFirstWrong, is_result, IsNamed, IsFault, IsCheckedOf}
 use Rattle.pipe_checks.specs.declared.checked.Checked.{Checked}
 use Rattle.pipe_checks.specs.inside.Search.{fault_of}
@@ -27,7 +27,7 @@ use Rattle.pipe_checks.proofs.Rising.{no_ranked_cycle}
 
 -- ---- each fault by itself
 
-same_from : (g : List Links) (s : ℕ) (c d : List ℕ) → IsShortestFrom g s c → IsShortestFrom g s d → c ≡ d
+same_from : (g : List StageLinks) (s : ℕ) (c d : List ℕ) → IsShortestFrom g s c → IsShortestFrom g s d → c ≡ d
 same_from g s c d h k = same_number_lists c d long (λ i l. agree (length c) i l l)
   where
     long : length c ≡ length d
@@ -41,7 +41,7 @@ same_from g s c d h k = same_number_lists c d long (λ i l. agree (length c) i l
         let high = k.first c h.cycle h.start long i (omega (arith, long)) before in
         omega (arith, low, high)
 
-same_cycle : (g : List Links) (c d : List ℕ) → IsShortestCycle g c → IsShortestCycle g d → c ≡ d
+same_cycle : (g : List StageLinks) (c d : List ℕ) → IsShortestCycle g c → IsShortestCycle g d → c ≡ d
 same_cycle g c d h k =
     let start : slice_index c 0 ≡ slice_index d 0 = omega (arith, h.least d k.from_start.cycle, k.least c h.from_start.cycle) in
     same_from g (slice_index d 0) c d (subst (λ s. IsShortestFrom g s c) start h.from_start) k.from_start
@@ -59,8 +59,8 @@ same_wrong : (names : List Symbol) (ds : List Declaration) (v w : Violation) (m 
 same_wrong names ds v w m n h k = by_order (cases_lt m n) (cases_lt n m)
   where
     by_order : (m < n) ⊎ (n ≤ m) → (n < m) ⊎ (m ≤ n) → (m ≡ n) × (v ≡ w)
-    by_order (inl l) q = absurd (served_or_not names (locals_of h.item) (places_of h.item) v (k.first m h.item l h.there) h.is)
-    by_order (inr l) (inl p) = absurd (served_or_not names (locals_of k.item) (places_of k.item) w (h.first n k.item p k.there) k.is)
+    by_order (inl l) q = absurd (served_or_not names (item_variables h.item) (places_of h.item) v (k.first m h.item l h.there) h.is)
+    by_order (inr l) (inl p) = absurd (served_or_not names (item_variables k.item) (places_of k.item) w (h.first n k.item p k.there) k.is)
     by_order (inr l) (inr p) = (same, both)
       where
         same : m ≡ n
@@ -71,8 +71,8 @@ same_wrong names ds v w m n h k = by_order (cases_lt m n) (cases_lt n m)
 
         both : v ≡ w
         both =
-            let mine = subst (λ d. IsFirstUnserved names (locals_of d) (places_of d) v) item h.is in
-            one_unserved names (locals_of k.item) (places_of k.item) v w mine k.is
+            let mine = subst (λ d. IsFirstUnserved names (item_variables d) (places_of d) v) item h.is in
+            one_unserved names (item_variables k.item) (places_of k.item) v w mine k.is
 
 -- ---- which of them it is
 
@@ -97,7 +97,7 @@ not_twice : (ds : List Declaration) (n : ℕ) → NoneTwice (declared_names ds) 
 not_twice ds n none h = none n h.item h.there h.twice
 
 not_wrong : (ds : List Declaration) (w : Violation) (n : ℕ) → IsNamed ds → IsFirstWrong (declared_names ds) ds w n → ⊥
-not_wrong ds w n named h = served_or_not (declared_names ds) (locals_of h.item) (places_of h.item) w (named.good n h.item h.there) h.is
+not_wrong ds w n named h = served_or_not (declared_names ds) (item_variables h.item) (places_of h.item) w (named.good n h.item h.there) h.is
 
 same_told : (ds : List Declaration) (a b : CheckFault) → Told ds a → Told ds b → a ≡ b
 same_told ds a b (TwiceTold n h e) (TwiceTold m k f) = e ∙ ap Twice (same_twice (declared_names ds) ds n m h k) ∙ sym f

@@ -4,19 +4,19 @@ use Rattle.std.proofs.Common.{slice_get, slice_index, sym, ◌∙◌, ap, refl, 
 use Rattle.std.proofs.lemmas.Bool.{cases_lt}
 use Rattle.std.proofs.lemmas.Option.{same_Some}
 use Rattle.std.proofs.lemmas.List.{get_or_append_left, get_or_push, length_push}
-use Rattle.pipe_checks.specs.Links.{Links}
+use Rattle.pipe_checks.specs.StageLinks.{StageLinks}
 use Rattle.pipe_checks.specs.Graph.{links_at, Reads, Way, IsAcyclic, IsCycle, IsShortestFrom, IsShortestCycle}
 use Rattle.pipe_checks.specs.inside.Search.{SomeAt, AreDistances, IsWayBack}
 use Rattle.pipe_checks.proofs.Distances.{some_at, reads_within}
 
 -- from a place of a list to its end
-way_from : (g : List Links) (c : List ℕ) (n i : ℕ) → i + n + 1 ≡ length c
+way_from : (g : List StageLinks) (c : List ℕ) (n i : ℕ) → i + n + 1 ≡ length c
     → ((i : ℕ) → i + 1 < length c → Reads g (slice_index c i) (slice_index c (i + 1)))
     → Way g n (slice_index c i) (slice_index c (length c - 1))
 way_from g c zero i e reads = ap (slice_index c) (omega arith)
 way_from g c (suc n) i e reads = (slice_index c (i + 1), reads i (omega arith), way_from g c n (i + 1) (omega arith) reads)
 
-pub way_round : (g : List Links) (c : List ℕ) → IsCycle g c
+pub way_round : (g : List StageLinks) (c : List ℕ) → IsCycle g c
     → (k : ℕ) × (length c ≡ k + 2) × Way g (suc k) (slice_index c 0) (slice_index c 0)
 way_round g c h =
     let k = length c - 2 in
@@ -25,7 +25,7 @@ way_round g c h =
     (k, one, subst (Way g (suc k) (slice_index c 0)) (sym h.closed) way)
 
 -- a stage at a distance reads one that is nearer
-pub leads_down : (g : List Links) (goal t d : ℕ) (far : List (Option ℕ)) → AreDistances g goal far → slice_get far t ≡ Some (Some (suc d))
+pub leads_down : (g : List StageLinks) (goal t d : ℕ) (far : List (Option ℕ)) → AreDistances g goal far → slice_get far t ≡ Some (Some (suc d))
     → SomeAt far (links_at g t).reads d
 leads_down g goal t d far h at =
     let w = h.way t (suc d) at in
@@ -41,11 +41,11 @@ leads_down g goal t d far h at =
         some_at far (links_at g t).reads u d r (subst (λ n. slice_get far u ≡ Some (Some n)) same p)
 
 -- what stands ahead: the goal, or one that is nearer
-pub record IsAhead (g : List Links) (goal : ℕ) (far : List (Option ℕ)) (at steps : ℕ) : Type 0 where
+pub record IsAhead (g : List StageLinks) (goal : ℕ) (far : List (Option ℕ)) (at steps : ℕ) : Type 0 where
   pub arrived : steps ≡ 0 → at ≡ goal
   pub on : 0 < steps → SomeAt far (links_at g at).reads (steps - 1)
 
-pub ahead_at : (g : List Links) (goal t d : ℕ) (far : List (Option ℕ)) → AreDistances g goal far → slice_get far t ≡ Some (Some d)
+pub ahead_at : (g : List StageLinks) (goal t d : ℕ) (far : List (Option ℕ)) → AreDistances g goal far → slice_get far t ≡ Some (Some d)
     → IsAhead g goal far t d
 ahead_at g goal t zero far h at = record { arrived = λ e. h.way t zero at; on = λ l. absurd (omega arith) }
 ahead_at g goal t (suc d) far h at =
@@ -59,7 +59,7 @@ ahead_at g goal t (suc d) far h at =
     sub_one = omega arith
 
 -- the way so far
-pub record IsUnderWay (g : List Links) (start : ℕ) (far : List (Option ℕ)) (left : ℕ) (way : List ℕ) (here steps : ℕ) : Type 0 where
+pub record IsUnderWay (g : List StageLinks) (start : ℕ) (far : List (Option ℕ)) (left : ℕ) (way : List ℕ) (here steps : ℕ) : Type 0 where
   pub long : length way + steps ≡ left + 2
   pub some : 0 < length way
   pub first : slice_index way 0 ≡ start
@@ -69,7 +69,7 @@ pub record IsUnderWay (g : List Links) (start : ℕ) (far : List (Option ℕ)) (
   pub least : (i u : ℕ) → i + 1 < length way → Reads g (slice_index way i) u → slice_get far u ≡ Some (Some (left - i))
       → slice_index way (i + 1) ≤ u
 
-pub under_way_first : (g : List Links) (start : ℕ) (far : List (Option ℕ)) (left : ℕ)
+pub under_way_first : (g : List StageLinks) (start : ℕ) (far : List (Option ℕ)) (left : ℕ)
     → IsUnderWay g start far left (start ∷ []) start (left + 1)
 under_way_first g start far left = record {
   long = omega arith;
@@ -82,12 +82,12 @@ under_way_first g start far left = record {
 }
 
 -- the least of what is read at the next distance
-pub record IsNext (g : List Links) (far : List (Option ℕ)) (here steps next : ℕ) : Type 0 where
+pub record IsNext (g : List StageLinks) (far : List (Option ℕ)) (here steps next : ℕ) : Type 0 where
   pub read : Reads g here next
   pub at : slice_get far next ≡ Some (Some steps)
   pub least : (u : ℕ) → Reads g here u → slice_get far u ≡ Some (Some steps) → next ≤ u
 
-pub under_way_more : (g : List Links) (start : ℕ) (far : List (Option ℕ)) (left : ℕ) (way : List ℕ) (here steps next : ℕ)
+pub under_way_more : (g : List StageLinks) (start : ℕ) (far : List (Option ℕ)) (left : ℕ) (way : List ℕ) (here steps next : ℕ)
     → IsUnderWay g start far left way here (steps + 1) → IsNext g far here steps next
     → IsUnderWay g start far left (way ++ next ∷ []) next steps
 under_way_more g start far left way here steps next h n = record {
@@ -143,13 +143,13 @@ under_way_more g start far left way here steps next h n = record {
         omega
         (arith, next_is i (end i l p), n.least u (subst (λ s. Reads g s u) (end_is i (end i l p)) r) (e ∙ sym (steps_is i (end i l p))))
 
-pub way_back_is : (g : List Links) (start : ℕ) (far : List (Option ℕ)) (left here : ℕ) (way : List ℕ) (steps : ℕ)
+pub way_back_is : (g : List StageLinks) (start : ℕ) (far : List (Option ℕ)) (left here : ℕ) (way : List ℕ) (steps : ℕ)
     → IsUnderWay g start far left way here steps → steps ≡ 0 → here ≡ start → IsWayBack g start far left way
 way_back_is g start far left here way steps h e arrived =
     record { long = omega (arith, h.long); first = h.first; last = h.last ∙ arrived; reads = h.reads; at = h.at; least = h.least }
 
 -- the way back is the first of the shortest cycles
-pub shortest_from : (g : List Links) (start left : ℕ) (far : List (Option ℕ)) (c : List ℕ) → AreDistances g start far
+pub shortest_from : (g : List StageLinks) (start left : ℕ) (far : List (Option ℕ)) (c : List ℕ) → AreDistances g start far
     → ((k : ℕ) → SomeAt far (links_at g start).reads k → left ≤ k) → IsWayBack g start far left c → IsShortestFrom g start c
 shortest_from g start left far c h nearest back = record {
   cycle = record { long = omega (arith, back.long); closed = back.first ∙ sym back.last; reads = back.reads };
@@ -193,14 +193,14 @@ shortest_from g start left far c h nearest back = record {
         let least = back.least i u less read (f.1 ∙ ap (λ (n : ℕ). Some (Some n)) far_one) in
         omega (arith, least, ap (slice_index c) one, ap (slice_index d) one)
 
-pub no_cycle_from : (g : List Links) (start : ℕ) (far : List (Option ℕ)) → AreDistances g start far
+pub no_cycle_from : (g : List StageLinks) (start : ℕ) (far : List (Option ℕ)) → AreDistances g start far
     → ((k : ℕ) → SomeAt far (links_at g start).reads k → ⊥) → (k : ℕ) → Way g (suc k) start start → ⊥
 no_cycle_from g start far h none k w =
     let f = h.least w.0 k w.2 in
     none f.0 (some_at far (links_at g start).reads w.0 f.0 w.1 f.1)
 
 -- the first stage with a cycle has the least
-pub shortest_of_all : (g : List Links) (start : ℕ) (c : List ℕ) → IsShortestFrom g start c
+pub shortest_of_all : (g : List StageLinks) (start : ℕ) (c : List ℕ) → IsShortestFrom g start c
     → ((s : ℕ) → s < start → (k : ℕ) → Way g (suc k) s s → ⊥) → IsShortestCycle g c
 shortest_of_all g start c h before = record { from_start = subst (λ s. IsShortestFrom g s c) (sym h.start) h; least = least }
   where
@@ -211,5 +211,5 @@ shortest_of_all g start c h before = record { from_start = subst (λ s. IsShorte
         by_place (inl l) = let round = way_round g d cycle in absurd (before (slice_index d 0) l round.0 round.2)
         by_place (inr l) = omega (arith, h.start)
 
-pub acyclic_of : (g : List Links) (n : ℕ) → length g ≤ n → ((s : ℕ) → s < n → (k : ℕ) → Way g (suc k) s s → ⊥) → IsAcyclic g
+pub acyclic_of : (g : List StageLinks) (n : ℕ) → length g ≤ n → ((s : ℕ) → s < n → (k : ℕ) → Way g (suc k) s s → ⊥) → IsAcyclic g
 acyclic_of g n l before s k w = before s (omega (arith, reads_within g s w.0 w.1)) k w

@@ -7,26 +7,26 @@ use Rattle.std.proofs.lemmas.Option.{slice_get_within, slice_get-get_or, same_So
 use Rattle.std.proofs.lemmas.List.{get_or_past}
 use Rattle.std.proofs.lemmas.List.Sums.{sum_by-cons}
 use Rattle.std.specs.Prelude.{Contains}
-use Rattle.pipe_checks.specs.Links.{Links}
+use Rattle.pipe_checks.specs.StageLinks.{StageLinks}
 use Rattle.pipe_checks.proofs.Unknown.{unknowns-le}
 use Rattle.pipe_checks.specs.Graph.{links_at, Reads, Way}
 use Rattle.pipe_checks.specs.inside.Search.{unknowns, SomeAt, LeadsOn, IsStepAt, IsStepFrom, AreDistances}
 
 -- the distances up to k are known, and no others
-pub record KnownUpTo (g : List Links) (goal k : ℕ) (far : List (Option ℕ)) : Type 0 where
+pub record KnownUpTo (g : List StageLinks) (goal k : ℕ) (far : List (Option ℕ)) : Type 0 where
   pub each : length far ≡ length g
   pub way : (t d : ℕ) → slice_get far t ≡ Some (Some d) → Way g d t goal
   pub most : (t d : ℕ) → slice_get far t ≡ Some (Some d) → d ≤ k
   pub least : (t m : ℕ) → m ≤ k → Way g m t goal → (d : ℕ) × (slice_get far t ≡ Some (Some d)) × (d ≤ m)
 
 -- a stage that reads another has a number
-pub reads_within : (g : List Links) (s t : ℕ) → Reads g s t → s < length g
+pub reads_within : (g : List StageLinks) (s t : ℕ) → Reads g s t → s < length g
 reads_within g s t r = by_place (cases_lt s (length g))
   where
     by_place : (s < length g) ⊎ (length g ≤ s) → s < length g
     by_place (inl h) = h
     by_place (inr h) =
-        let none : length (links_at g s).reads ≡ 0 = ap (λ (l : Links). length l.reads) (get_or_past g s _ h) in
+        let none : length (links_at g s).reads ≡ 0 = ap (λ (l : StageLinks). length l.reads) (get_or_past g s _ h) in
         omega (arith, r.1)
 
 -- a stage is known, or not yet
@@ -43,7 +43,7 @@ pub some_at : (far : List (Option ℕ)) (reads : List ℕ) (t k : ℕ) → Conta
 some_at far reads t k c e = (c.0, t, c.1, c.2, e)
 
 -- where nothing leads on, all is known
-pub all_known : (g : List Links) (goal k : ℕ) (far : List (Option ℕ)) → k < length g → KnownUpTo g goal k far → (LeadsOn g far k → ⊥)
+pub all_known : (g : List StageLinks) (goal k : ℕ) (far : List (Option ℕ)) → k < length g → KnownUpTo g goal k far → (LeadsOn g far k → ⊥)
     → AreDistances g goal far
 all_known g goal k far h known stops =
     record { each = known.each; way = known.way; low = λ t d e. omega (arith, known.most t d e); least = least }
@@ -72,7 +72,7 @@ all_known g goal k far h known stops =
     least t (suc m) w = let f = least w.0 m w.2 in reached t m w.0 f.0 w.1 f.1 f.2
 
 -- what is known stays
-keeps : (g : List Links) (k : ℕ) (far next : List (Option ℕ)) → IsStepFrom g far k next → (t d : ℕ) → slice_get far t ≡ Some (Some d)
+keeps : (g : List StageLinks) (k : ℕ) (far next : List (Option ℕ)) → IsStepFrom g far k next → (t d : ℕ) → slice_get far t ≡ Some (Some d)
     → slice_get next t ≡ Some (Some d)
 keeps g k far next step t d at = by_step (get_or next t None) there (step.step t (get_or next t None) there)
   where
@@ -85,7 +85,7 @@ keeps g k far next step t d at = by_step (get_or next t None) there (step.step t
     by_step o e (inr (inr w)) = absurd (none-some d (same_Some _ _ (sym w.0 ∙ at)))
 
 -- where a stage reads one at the distance k, its own is known
-finds : (g : List Links) (k : ℕ) (far next : List (Option ℕ)) → IsStepFrom g far k next → (t : ℕ) → t < length far
+finds : (g : List StageLinks) (k : ℕ) (far next : List (Option ℕ)) → IsStepFrom g far k next → (t : ℕ) → t < length far
     → SomeAt far (links_at g t).reads k → (d : ℕ) × (slice_get next t ≡ Some (Some d)) × (((slice_get far t ≡ Some (Some d))) ⊎ (d ≡ k + 1))
 finds g k far next step t h reads = by_step (get_or next t None) there (step.step t (get_or next t None) there)
   where
@@ -99,7 +99,7 @@ finds g k far next step t h reads = by_step (get_or next t None) there (step.ste
     by_step o e (inr (inr w)) = absurd (w.1 reads)
 
 -- one level more
-pub one_level : (g : List Links) (goal k : ℕ) (far next : List (Option ℕ)) → KnownUpTo g goal k far → IsStepFrom g far k next
+pub one_level : (g : List StageLinks) (goal k : ℕ) (far next : List (Option ℕ)) → KnownUpTo g goal k far → IsStepFrom g far k next
     → KnownUpTo g goal (k + 1) next
 one_level g goal k far next known step = record { each = step.each ∙ known.each; way = way; most = most; least = least }
   where
@@ -215,14 +215,14 @@ unknowns_fall_at (x ∷ xs) (y ∷ ys) (suc i) d l h none some =
       unknowns_fall_at xs ys i d (omega arith) (λ i e p. h (suc i) e p) none some,
     )
 
-pub fewer_unknown : (g : List Links) (k : ℕ) (far next : List (Option ℕ)) → IsStepFrom g far k next → LeadsOn g far k
+pub fewer_unknown : (g : List StageLinks) (k : ℕ) (far next : List (Option ℕ)) → IsStepFrom g far k next → LeadsOn g far k
     → unknowns next < unknowns far
 fewer_unknown g k far next step more =
     let f = finds g k far next step more.0 (slice_get_within far more.0 None more.1) more.2 in
     unknowns_fall_at far next more.0 f.0 step.each (keeps g k far next step) more.1 f.1
 
 -- the goal alone is known at first
-pub known_at_first : (g : List Links) (goal n : ℕ) (far : List (Option ℕ)) → n ≡ length g → goal < n → length far ≡ n
+pub known_at_first : (g : List StageLinks) (goal n : ℕ) (far : List (Option ℕ)) → n ≡ length g → goal < n → length far ≡ n
     → ((t : ℕ) → t < n → slice_get far t ≡ Some (cond (eqb t goal) (Some 0) None)) → KnownUpTo g goal 0 far
 known_at_first g goal n far e h each only = record { each = each ∙ e; way = way; most = most; least = least }
   where

@@ -4,7 +4,7 @@ use Rattle.std.proofs.Common.{OnOk, IfErr, List, [], ◌∷◌, ◌++◌, refl, 
 use Rattle.std.proofs.lemmas.Bool.{false≢true}
 use Rattle.pipe_checks.specs.declared.symbol.Symbol.{Symbol}
 use Rattle.pipe_checks.specs.declared.fault.Violation.{Violation}
-use Rattle.pipe_checks.specs.declared.uses.Locals.{Locals}
+use Rattle.pipe_checks.specs.declared.uses.ItemVariables.{ItemVariables}
 use Rattle.domains.proofs.Places.{next_of}
 use Rattle.pipe_checks.specs.Uses.{Place, wrong_at, are_served, IsFirstUnserved}
 use Rattle.pipe_checks.specs.inside.Judging.{Verdict, verdict, and_then, judged}
@@ -20,20 +20,20 @@ and_then_last : (v : Verdict) → and_then v (Ok tt) ≡ v
 and_then_last (Ok tt) = refl
 and_then_last (Err e) = refl
 
-pub judged_append : (names : List Symbol) (locals : Locals) (xs ys : List Place)
+pub judged_append : (names : List Symbol) (locals : ItemVariables) (xs ys : List Place)
     → judged names locals (xs ++ ys) ≡ and_then (judged names locals xs) (judged names locals ys)
 judged_append names locals [] ys = refl
 judged_append names locals (x ∷ xs) ys =
     ap (and_then (verdict (wrong_at names locals x))) (judged_append names locals xs ys)
     ∙ sym (and_then_assoc (verdict (wrong_at names locals x)) (judged names locals xs) (judged names locals ys))
 
-pub judged_one : (names : List Symbol) (locals : Locals) (x : Place) → judged names locals (x ∷ []) ≡ verdict (wrong_at names locals x)
+pub judged_one : (names : List Symbol) (locals : ItemVariables) (x : Place) → judged names locals (x ∷ []) ≡ verdict (wrong_at names locals x)
 judged_one names locals x = and_then_last (verdict (wrong_at names locals x))
 
 -- ---- loops
 
 -- one turn of a loop over what has places
-module _ {X : Type 0} (names : List Symbol) (locals : Locals) (places : X → List Place) (all : List X → List Place)
+module _ {X : Type 0} (names : List Symbol) (locals : ItemVariables) (places : X → List Place) (all : List X → List Place)
     (step : (x : X) (xs : List X) → all (x ∷ xs) ≡ places x ++ all xs) (xs : List X) (i : ℕ) (x : X) (h : i < length xs)
     (is : x ≡ get_or xs i x) where
   turn : (v : Verdict) → v ≡ judged names locals (places x)
@@ -55,7 +55,7 @@ module _ {X : Type 0} (names : List Symbol) (locals : Locals) (places : X → Li
 
 -- ---- what a verdict says of the places
 
-module _ (names : List Symbol) (locals : Locals) where
+module _ (names : List Symbol) (locals : ItemVariables) where
   served_judged : (ps : List Place) → are_served names locals ps ≡ true → judged names locals ps ≡ Ok tt
   served_judged [] h = refl
   served_judged (p ∷ ps) h = by_wrong (wrong_at names locals p) h (served_judged ps)

@@ -4,7 +4,7 @@ use Rattle.std.proofs.Common.{map, length, set, get_or, slice_index, sym, ◌∙
 use Rattle.std.proofs.lemmas.Bool.{cases_eq, cases_lt, false≢true}
 use Rattle.std.proofs.lemmas.List.{get_or-set_other, get_or-set_same, get_or_past, length-set}
 use Rattle.std.specs.Prelude.{Contains}
-use Rattle.pipe_checks.specs.Links.{Links}
+use Rattle.pipe_checks.specs.StageLinks.{StageLinks}
 use Rattle.pipe_checks.specs.Graph.{links_at, IsPlane, Reads, IsRanked, IsRanking}
 use Rattle.domains.specs.Greatest.{greatest}
 use Rattle.pipe_checks.specs.inside.Search.{rank_over}
@@ -32,20 +32,20 @@ not_true : (b : Bool) → (b ≡ true → ⊥) → b ≡ false
 not_true true n = absurd (n refl)
 not_true false n = refl
 
-rank_of_plane : (rank : ℕ → ℕ) (l : Links) → l.is_plane ≡ true → rank_over rank l ≡ 0
+rank_of_plane : (rank : ℕ → ℕ) (l : StageLinks) → l.is_plane ≡ true → rank_over rank l ≡ 0
 rank_of_plane rank l e = ap (λ b. cond b 0 (greatest (map rank l.reads) + 1)) e
 
-rank_of_other : (rank : ℕ → ℕ) (l : Links) → (l.is_plane ≡ true → ⊥) → rank_over rank l ≡ greatest (map rank l.reads) + 1
+rank_of_other : (rank : ℕ → ℕ) (l : StageLinks) → (l.is_plane ≡ true → ⊥) → rank_over rank l ≡ greatest (map rank l.reads) + 1
 rank_of_other rank l n = ap (λ b. cond b 0 (greatest (map rank l.reads) + 1)) (not_true l.is_plane n)
 
 -- ---- from the recurrence to the least numbers
 
 -- each stage has its rank by the ranks of those that it reads
-pub record Recurs (g : List Links) (ranks : List ℕ) : Type 0 where
+pub record Recurs (g : List StageLinks) (ranks : List ℕ) : Type 0 where
   pub each : length ranks ≡ length g
   pub rank : (s : ℕ) → s < length g → slice_index ranks s ≡ rank_over (slice_index ranks) (links_at g s)
 
-ranked_of : (g : List Links) (ranks : List ℕ) → Recurs g ranks → IsRanked g ranks
+ranked_of : (g : List StageLinks) (ranks : List ℕ) → Recurs g ranks → IsRanked g ranks
 ranked_of g ranks h = record { each = h.each; plane = λ s p. plane s p (cases_lt s (length g)); other = other; above = above }
   where
     plane : (s : ℕ) → IsPlane g s → (s < length g) ⊎ (length g ≤ s) → slice_index ranks s ≡ 0
@@ -65,7 +65,7 @@ ranked_of g ranks h = record { each = h.each; plane = λ s p. plane s p (cases_l
         )
 
 -- one stage, where all below it have no greater rank than elsewhere
-no_greater : (g : List Links) (ranks others : List ℕ) (s : ℕ) → Recurs g ranks → IsRanked g others
+no_greater : (g : List StageLinks) (ranks others : List ℕ) (s : ℕ) → Recurs g ranks → IsRanked g others
     → ((t : ℕ) → slice_index ranks t < slice_index ranks s → slice_index ranks t ≤ slice_index others t)
     → slice_index ranks s ≤ slice_index others s
 no_greater g ranks others s h o below = by_place (cases_lt s (length g))
@@ -82,12 +82,12 @@ no_greater g ranks others s h o below = by_place (cases_lt s (length g))
     by_place (inl l) = by_kind l (cases_true (links_at g s).is_plane)
     by_place (inr l) = omega (arith, get_or_past ranks s 0 (omega (arith, h.each)))
 
-least_up_to : (g : List Links) (ranks others : List ℕ) → Recurs g ranks → IsRanked g others → (n s : ℕ) → slice_index ranks s < n
+least_up_to : (g : List StageLinks) (ranks others : List ℕ) → Recurs g ranks → IsRanked g others → (n s : ℕ) → slice_index ranks s < n
     → slice_index ranks s ≤ slice_index others s
 least_up_to g ranks others h o zero s l = absurd (omega arith)
 least_up_to g ranks others h o (suc n) s l = no_greater g ranks others s h o (λ t less. least_up_to g ranks others h o n t (omega arith))
 
-pub ranking-from_recurrence : (g : List Links) (ranks : List ℕ) → Recurs g ranks → IsRanking g ranks
+pub ranking-from_recurrence : (g : List StageLinks) (ranks : List ℕ) → Recurs g ranks → IsRanking g ranks
 ranking-from_recurrence g ranks h = record {
   ranked = ranked_of g ranks h;
   least = λ others o s. least_up_to g ranks others h o (slice_index ranks s + 1) s (omega arith);
@@ -96,7 +96,7 @@ ranking-from_recurrence g ranks h = record {
 -- ---- and back
 
 -- a stage may have any lesser number that is above all that it reads
-lowered : (g : List Links) (ranks : List ℕ) (s m : ℕ) → IsRanked g ranks → s < length g → (IsPlane g s → ⊥) → 1 ≤ m
+lowered : (g : List StageLinks) (ranks : List ℕ) (s m : ℕ) → IsRanked g ranks → s < length g → (IsPlane g s → ⊥) → 1 ≤ m
     → m ≤ slice_index ranks s → ((t : ℕ) → Reads g s t → slice_index ranks t < m) → IsRanked g (set ranks s m)
 lowered g ranks s m h within not_plane one less top = record {
   each = length-set ranks s m ∙ h.each;
@@ -128,7 +128,7 @@ lowered g ranks s m h within not_plane one less top = record {
     above u t n r (inl e) = omega (arith, here u e, falls t (cases_eq t s), top t (subst (λ v. Reads g v t) e r))
     above u t n r (inr d) = omega (arith, there u d, falls t (cases_eq t s), h.above u t n r)
 
-pub ranking-recurs : (g : List Links) (ranks : List ℕ) → IsRanking g ranks → (s : ℕ) → s < length g
+pub ranking-recurs : (g : List StageLinks) (ranks : List ℕ) → IsRanking g ranks → (s : ℕ) → s < length g
     → slice_index ranks s ≡ rank_over (slice_index ranks) (links_at g s)
 ranking-recurs g ranks h s within = by_kind (cases_true (links_at g s).is_plane)
   where

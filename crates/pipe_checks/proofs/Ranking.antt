@@ -10,7 +10,7 @@ use Rattle.std.proofs.lemmas.List.{get_or-set_other, get_or_past, get_or_read}
 use Rattle.std.proofs.lemmas.List.{get_or_default, get_or-map, length-set, length-map, length-replicate, at_drop_more}
 use Rattle.std.proofs.lemmas.Map.Keys.{IsDistinct-cons}
 use Rattle.std.proofs.lemmas.Map.Steps.{length-le_from_distinct_below}
-use Rattle.pipe_checks.specs.Links.{Links}
+use Rattle.pipe_checks.specs.StageLinks.{StageLinks}
 use Rattle.pipe_checks.specs.Graph.{links_at, Reads, IsRanking, Way, IsAcyclic}
 use Rattle.domains.specs.Greatest.{greatest}
 use Rattle.pipe_checks.specs.inside.Search.{rank_over, unknowns, known_rank, IsBounded, SomeUnranked, AreRanked}
@@ -76,7 +76,7 @@ known_rank-le ranks n t e b = by_place (slice_get ranks t) refl
     by_place (Some None) p = omega (arith, known_unranked ranks t p, unknowns-le ranks)
     by_place (Some (Some r)) p = omega (arith, known_is ranks t r p, b t r p)
 
-rank_over-le : (rank : ℕ → ℕ) (l : Links) (m : ℕ) → ((t : ℕ) → rank t ≤ m) → rank_over rank l ≤ m + 1
+rank_over-le : (rank : ℕ → ℕ) (l : StageLinks) (m : ℕ) → ((t : ℕ) → rank t ≤ m) → rank_over rank l ≤ m + 1
 rank_over-le rank l m h = by_kind l.is_plane
   where
     by_kind : (b : Bool) → cond b 0 (greatest (map rank l.reads) + 1) ≤ m + 1
@@ -84,7 +84,7 @@ rank_over-le rank l m h = by_kind l.is_plane
     by_kind false = omega (arith, greatest-le rank l.reads m h)
 
 -- the stages whose ranks count keep them where an unknown one becomes known
-reads_same : (ranks : List (Option ℕ)) (l : Links) (s r : ℕ) → slice_get ranks s ≡ Some None → (SomeUnranked ranks l.reads → ⊥)
+reads_same : (ranks : List (Option ℕ)) (l : StageLinks) (s r : ℕ) → slice_get ranks s ≡ Some None → (SomeUnranked ranks l.reads → ⊥)
     → rank_over (known_rank (set ranks s (Some r))) l ≡ rank_over (known_rank ranks) l
 reads_same ranks l s r unknown ranked =
     ap (λ n. cond l.is_plane 0 (n + 1)) (greatest_same (known_rank (set ranks s (Some r))) (known_rank ranks) l.reads same)
@@ -108,7 +108,7 @@ unranked_before ranks reads s r h u = (u.0, u.1, u.2, u.3, before (cases_eq u.1 
         absurd (none-some r (sym (same_Some _ _ both)))
     before (inr n) = sym (slice_get-set_other ranks s u.1 (Some r) n) ∙ u.4
 
-pub ranked_more : (g : List Links) (ranks : List (Option ℕ)) (s r : ℕ) → AreRanked g ranks → slice_get ranks s ≡ Some None
+pub ranked_more : (g : List StageLinks) (ranks : List (Option ℕ)) (s r : ℕ) → AreRanked g ranks → slice_get ranks s ≡ Some None
     → r ≡ rank_over (known_rank ranks) (links_at g s) → (SomeUnranked ranks (links_at g s).reads → ⊥) → AreRanked g (set ranks s (Some r))
 ranked_more g ranks s r h unknown is ready =
     record { each = length-set ranks s (Some r) ∙ h.each; bounded = bounded; rank = rank; ranked = ranked }
@@ -170,7 +170,7 @@ none_known zero t r e = none-some _ e
 none_known (suc n) zero r e = none-some r (same_Some _ _ e)
 none_known (suc n) (suc t) r e = none_known n t r e
 
-pub ranked_start : (g : List Links) (n : ℕ) → n ≡ length g → AreRanked g (replicate n None)
+pub ranked_start : (g : List StageLinks) (n : ℕ) → n ≡ length g → AreRanked g (replicate n None)
 ranked_start g n e = record {
   each = length-replicate n None ∙ e;
   bounded = λ t r p. absurd (none_known n t r p);
@@ -180,7 +180,7 @@ ranked_start g n e = record {
 
 -- ---- all stages have their ranks
 
-pub ranking_of : (g : List Links) (ranks : List (Option ℕ)) (v : List ℕ) → AreRanked g ranks → map Some v ≡ ranks → IsRanking g v
+pub ranking_of : (g : List StageLinks) (ranks : List (Option ℕ)) (v : List ℕ) → AreRanked g ranks → map Some v ≡ ranks → IsRanking g v
 ranking_of g ranks v h e = ranking-from_recurrence g v (record { each = each; rank = rank })
   where
     each : length v ≡ length g
@@ -208,7 +208,7 @@ ranking_of g ranks v h e = ranking-from_recurrence g v (record { each = each; ra
 -- ---- no stage can have its rank
 
 -- one read more
-way_then : (g : List Links) (k s t u : ℕ) → Way g k s t → Reads g t u → Way g (suc k) s u
+way_then : (g : List StageLinks) (k s t u : ℕ) → Way g k s t → Reads g t u → Way g (suc k) s u
 way_then g zero s t u w r = (u, subst (λ x. Reads g x u) (sym w) r, refl)
 way_then g (suc k) s t u w r = (w.0, w.1, way_then g k w.0 t u w.2 r)
 
@@ -216,7 +216,7 @@ way_then g (suc k) s t u w r = (w.0, w.1, way_then g k w.0 t u w.2 r)
 Unranked : List (Option ℕ) → Type 0
 Unranked ranks = (s : ℕ) × (slice_get ranks s ≡ Some None)
 
-pub stuck_is_cyclic : (g : List Links) (ranks : List (Option ℕ)) → length ranks ≡ length g
+pub stuck_is_cyclic : (g : List StageLinks) (ranks : List (Option ℕ)) → length ranks ≡ length g
     → ((s : ℕ) → slice_get ranks s ≡ Some None → SomeUnranked ranks (links_at g s).reads) → (s : ℕ) → slice_get ranks s ≡ Some None
     → IsAcyclic g → ⊥
 stuck_is_cyclic g ranks each stuck start unknown acyclic =
@@ -271,5 +271,5 @@ stuck_is_cyclic g ranks each stuck start unknown acyclic =
         (distinct n (next s u) (next_unknown s u))
 
 -- what `graph[s]` gives
-pub links_read : (g : List Links) (s : ℕ) (l : Links) → s < length g → l ≡ get_or g s l → links_at g s ≡ l
+pub links_read : (g : List StageLinks) (s : ℕ) (l : StageLinks) → s < length g → l ≡ get_or g s l → links_at g s ≡ l
 links_read g s l h e = sym (get_or_read g s l h e _)

@@ -12,7 +12,7 @@ use Rattle.pipe_tree.specs.declared.tree.Names.{Names}
 use Rattle.pipe_tree.specs.declared.tree.Names.TheVariants.{One, Three}
 use Rattle.pipe_tree.specs.Tree.{Declaration, param, image, table, function, accumulator, output}
 use Rattle.pipe_checks.specs.declared.symbol.Symbol.{Symbol}
-use Rattle.pipe_checks.specs.Links.{Links}
+use Rattle.pipe_checks.specs.StageLinks.{StageLinks}
 use Rattle.pipe_checks.specs.Names.{names_of, item_names, names_from, declared_names, stages_of}
 use Rattle.pipe_checks.specs.Accesses.{item_accesses, stage_read, is_plane, reads_of, links_of, graph_of}
 use Rattle.pipe_checks.specs.Graph.{links_at, IsPlane, Reads, IsRanked, IsCycle}
@@ -65,9 +65,9 @@ plane_is_blank ds s x there plane =
     let here : Blank 0 ds x =
     subst (Blank 0 ds) (get_or_from_slice_get (stages_of ds) s x x there) (all s x (slice_get_within (stages_of ds) s x there)) in
     let is = stage_is ds s x there in
-    let b = here (sym (ap (λ (l : Links). l.is_plane) is) ∙ plane) in
+    let b = here (sym (ap (λ (l : StageLinks). l.is_plane) is) ∙ plane) in
     let item : slice_get ds x.item ≡ Some b.2 = ap (slice_get ds) (b.1 ∙ omega arith) ∙ b.3 in
-    ap (λ (l : Links). l.reads) is ∙ ap (reads_of (stages_of ds)) item ∙ ap (map stage_read) (b.4 (stages_of ds))
+    ap (λ (l : StageLinks). l.reads) is ∙ ap (reads_of (stages_of ds)) item ∙ ap (map stage_read) (b.4 (stages_of ds))
 
 -- a plane reads nothing
 pub no_plane_reads : (ds : List Declaration) (s t : ℕ) → Reads (graph_of ds) s t → IsPlane (graph_of ds) s → ⊥
@@ -82,7 +82,7 @@ no_plane_reads ds s t r plane = by_stage (slice_get_cases (stages_of ds) s).1
 
 -- ---- ranks fall along a cycle
 
-falls_along : (g : List Links) (ranks c : List ℕ) → ((s t : ℕ) → Reads g s t → slice_index ranks t < slice_index ranks s) → IsCycle g c
+falls_along : (g : List StageLinks) (ranks c : List ℕ) → ((s t : ℕ) → Reads g s t → slice_index ranks t < slice_index ranks s) → IsCycle g c
     → (i : ℕ) → i < length c → slice_index ranks (slice_index c i) + i ≤ slice_index ranks (slice_index c 0)
 falls_along g ranks c falls cycle zero l = omega arith
 falls_along g ranks c falls cycle (suc i) l =

@@ -8,7 +8,7 @@ use Rattle.pipe_checks.specs.declared.symbol.NameKind.TheVariants.{Param, Table,
 use Rattle.pipe_checks.specs.declared.symbol.Symbol.{Symbol}
 use Rattle.pipe_checks.specs.declared.access.Access.{Access}
 use Rattle.pipe_checks.specs.declared.access.Access.TheVariants.{Read, Stencil}
-use Rattle.pipe_checks.specs.Links.{Links}
+use Rattle.pipe_checks.specs.StageLinks.{StageLinks}
 use Rattle.pipe_checks.specs.Names.{number_of, stages_of}
 
 -- a read of the stage of this number, if there is one
@@ -72,12 +72,12 @@ reads_of names None = []
 reads_of names (Some d) = map stage_read (item_accesses names d)
 
 -- the stages that a stage reads, and whether it is a plane
-abbrev pub links_of : List Declaration → List Symbol → Symbol → Links
+abbrev pub links_of : List Declaration → List Symbol → Symbol → StageLinks
 links_of ds names s = record { is_plane = is_plane s.kind; reads = reads_of names (slice_get ds s.item) }
 
-abbrev pub links_from : List Declaration → List Symbol → List Symbol → List Links
+abbrev pub links_from : List Declaration → List Symbol → List Symbol → List StageLinks
 links_from ds names stages = map (links_of ds names) stages
 
 -- the same for each stage of a program
-abbrev pub graph_of : List Declaration → List Links
+abbrev pub graph_of : List Declaration → List StageLinks
 graph_of ds = links_from ds (stages_of ds) (stages_of ds)

@@ -10,11 +10,11 @@ use Rattle.pipe_checks.specs.declared.fault.Violation.TheVariants as violation
 use Rattle.pipe_checks.specs.declared.fault.CheckFault.{CheckFault}
 use Rattle.pipe_checks.specs.declared.fault.CheckFault.TheVariants.{Unknown, Twice, Kind, BadKernel, BadLiteral, NoResult, Cycle, Memory}
 use Rattle.pipe_checks.specs.declared.checked.Checked.{Checked}
-use Rattle.pipe_checks.specs.Links.{Links}
+use Rattle.pipe_checks.specs.StageLinks.{StageLinks}
 use Rattle.pipe_checks.specs.Graph.{IsRanking, IsShortestCycle}
 use Rattle.pipe_checks.specs.Names.{declared_names, params_of, tables_of, stages_of, number_of}
 use Rattle.pipe_checks.specs.Accesses.{graph_of}
-use Rattle.pipe_checks.specs.Twice.{locals_of, varies_again}
+use Rattle.pipe_checks.specs.Twice.{item_variables, has_reused_variable}
 use Rattle.pipe_checks.specs.Uses.{places_of, are_served, IsFirstUnserved}
 
 -- ---- names that denote two things
@@ -28,7 +28,7 @@ pub record DeclaresAgain (names : List Symbol) (n : ℕ) : Type 0 where
   pub before : IsTrue (is_some (number_of (take place names) again.name))
 
 abbrev pub IsTwice : List Symbol → ℕ → Declaration → Type 0
-IsTwice names n d = DeclaresAgain names n ⊎ IsTrue (varies_again names (locals_of d))
+IsTwice names n d = DeclaresAgain names n ⊎ IsTrue (has_reused_variable names (item_variables d))
 
 abbrev pub NoneTwice : List Symbol → List Declaration → Type 0
 NoneTwice names ds = (k : ℕ) (d : Declaration) → slice_get ds k ≡ Some d → ¬ (IsTwice names k d)
@@ -44,7 +44,7 @@ pub record IsFirstTwice (names : List Symbol) (ds : List Declaration) (n : ℕ) 
 
 -- each place of the item has what it requires
 abbrev pub is_good : List Symbol → Declaration → Bool
-is_good names d = are_served names (locals_of d) (places_of d)
+is_good names d = are_served names (item_variables d) (places_of d)
 
 abbrev pub AllGood : List Symbol → List Declaration → Type 0
 AllGood names ds = (k : ℕ) (d : Declaration) → slice_get ds k ≡ Some d → is_good names d ≡ true
@@ -53,7 +53,7 @@ AllGood names ds = (k : ℕ) (d : Declaration) → slice_get ds k ≡ Some d →
 pub record IsFirstWrong (names : List Symbol) (ds : List Declaration) (wrong : Violation) (n : ℕ) : Type 0 where
   pub item : Declaration
   pub there : slice_get ds n ≡ Some item
-  pub is : IsFirstUnserved names (locals_of item) (places_of item) wrong
+  pub is : IsFirstUnserved names (item_variables item) (places_of item) wrong
   pub first : (k : ℕ) (d : Declaration) → k < n → slice_get ds k ≡ Some d → is_good names d ≡ true
 
 -- ---- the whole program
@@ -83,7 +83,7 @@ IsFault ds (Cycle c) = IsNamed ds × (list_any is_result ds ≡ true) × IsShort
 IsFault ds Memory = Unit {0}
 
 -- what a stage of the graph reads
-abbrev pub reads_at : Option Links → Option (List ℕ)
+abbrev pub reads_at : Option StageLinks → Option (List ℕ)
 reads_at None = None
 reads_at (Some l) = Some l.reads
 
@@ -100,7 +100,7 @@ params_in c = c.params
 abbrev pub tables_in : Checked → List Symbol
 tables_in c = c.tables
 
-abbrev pub graph_in : Checked → List Links
+abbrev pub graph_in : Checked → List StageLinks
 graph_in c = c.graph
 
 abbrev pub ranks_in : Checked → List ℕ

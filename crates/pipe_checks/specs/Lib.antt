@@ -1,5 +1,5 @@
 pub mod FaultTable
-pub mod Links
+pub mod StageLinks
 pub mod CheckedProgram
 pub mod Graph
 pub mod Names

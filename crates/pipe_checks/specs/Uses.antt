@@ -3,7 +3,7 @@ use Rattle.std.specs.Prelude.{ℕ, ◌%◌, ◌≡◌, ℤ, pos, negsuc, int_le,
 use Rattle.std.specs.Prelude.{Option, Some, None, is_none, List, [], ◌∷◌, ◌++◌, length}
 use Rattle.std.specs.List.{list_all}
 use Rattle.std.specs.Str.{bytes_eq}
-use Rattle.pipe_tree.specs.declared.tree.Term.{Term}
+use Rattle.pipe_tree.specs.declared.tree.AffineTerm.{AffineTerm}
 use Rattle.pipe_tree.specs.declared.tree.Index.{Index}
 use Rattle.pipe_tree.specs.declared.tree.AffineSpan.{AffineSpan}
 use Rattle.operators.specs.declared.operator.LiteralOp.{LiteralOp}
@@ -21,9 +21,9 @@ use Rattle.pipe_checks.specs.declared.fault.Violation.{Violation}
 use Rattle.pipe_checks.specs.declared.fault.Violation.TheVariants.{Unknown, Kind, BadKernel, BadLiteral}
 use Rattle.pipe_checks.specs.declared.uses.NameRole.{NameRole}
 use Rattle.pipe_checks.specs.declared.uses.NameRole.TheVariants as role
-use Rattle.pipe_checks.specs.declared.uses.Expected.{Expected}
-use Rattle.pipe_checks.specs.declared.uses.Expected.TheVariants as expected
-use Rattle.pipe_checks.specs.declared.uses.Locals.{Locals}
+use Rattle.pipe_checks.specs.declared.uses.ExpectedRole.{ExpectedRole}
+use Rattle.pipe_checks.specs.declared.uses.ExpectedRole.TheVariants as expected
+use Rattle.pipe_checks.specs.declared.uses.ItemVariables.{ItemVariables}
 use Rattle.pipe_checks.specs.Names.{declared_at}
 use Rattle.pipe_checks.specs.Accesses.{width_of}
 
@@ -32,7 +32,7 @@ use Rattle.pipe_checks.specs.Accesses.{width_of}
 -- a place of an item, and what it requires
 pub data Place : Type 0 where
   -- a name of one of these roles
-  name : (x : List ℕ) (roles : Expected) → Place
+  name : (x : List ℕ) (roles : ExpectedRole) → Place
   -- a number in this range
   ranged : (n least most : ℕ) → Place
   -- the remainder of a test: a number below its modulus
@@ -50,7 +50,7 @@ abbrev pub factor_places : Option (List ℕ) → List Place
 factor_places None = []
 factor_places (Some x) = name x expected.Param ∷ []
 
-abbrev pub affine_places : List Term → List Place
+abbrev pub affine_places : List AffineTerm → List Place
 affine_places [] = []
 affine_places (t ∷ ts) = factor_places t.name ++ affine_places ts
 
@@ -58,7 +58,7 @@ abbrev pub span_places : AffineSpan → List Place
 span_places s = affine_places s.first ++ affine_places s.last
 
 -- `m * x + k` over d: the factor, the variable, the addend, the divisor
-unfoldable pub index_places : Index → Expected → List Place
+unfoldable pub index_places : Index → ExpectedRole → List Place
 index_places i roles = ranged i.mul 1 16 ∷ name i.name roles ∷ shift i.add ∷ ranged i.div 1 16 ∷ []
 
 -- the range of the number after an operator
@@ -133,9 +133,9 @@ places_of (output o) = output_places o.names ++ ranged o.max 1 65535 ∷ []
 
 -- ---- names
 
-abbrev pub is_it : Option (List ℕ) → List ℕ → Bool
-is_it None x = false
-is_it (Some y) x = bytes_eq y x
+abbrev pub is_variable_named : Option (List ℕ) → List ℕ → Bool
+is_variable_named None x = false
+is_variable_named (Some y) x = bytes_eq y x
 
 abbrev pub role_of : NameKind → NameRole
 role_of kind.Param = role.Param
@@ -149,13 +149,13 @@ declared_role None = None
 declared_role (Some d) = Some (role_of d.kind)
 
 -- what a name denotes in an item: a variable of it, or what is declared by this name
-abbrev pub role_at : List Symbol → Locals → List ℕ → Option NameRole
+abbrev pub role_at : List Symbol → ItemVariables → List ℕ → Option NameRole
 role_at names locals x =
-    if is_it locals.row x then Some role.Row
-    else (if is_it locals.column x then Some role.Column else declared_role (declared_at names x))
+    if is_variable_named locals.row x then Some role.Row
+    else (if is_variable_named locals.column x then Some role.Column else declared_role (declared_at names x))
 
 -- which names are of these roles
-abbrev pub allows : Expected → NameRole → Bool
+abbrev pub allows : ExpectedRole → NameRole → Bool
 allows expected.Param role.Param = true
 allows expected.Table role.Table = true
 allows expected.Readable role.Plane = true
@@ -172,7 +172,7 @@ allows w s = false
 
 -- ---- the fault of a place, if any
 
-abbrev pub wrong_name : Expected → Option NameRole → Option Violation
+abbrev pub wrong_name : ExpectedRole → Option NameRole → Option Violation
 wrong_name roles None = Some Unknown
 wrong_name roles (Some r) = if allows roles r then None else Some Kind
 
@@ -186,15 +186,15 @@ abbrev pub wrong_shift : ℤ → Option Violation
 wrong_shift n = if int_le (negsuc 4095) n && int_le n (pos 4096) then None else Some BadLiteral
 
 -- a side of a kernel: odd, at most 15
-abbrev pub is_side : ℕ → Bool
-is_side n = (n % 2 == 1) && nat_le n 15
+abbrev pub is_stencil_kernel_side : ℕ → Bool
+is_stencil_kernel_side n = (n % 2 == 1) && nat_le n 15
 
 abbrev pub wrong_kernel : List (List ℤ) → Option Violation
 wrong_kernel rows =
-    if is_side (length rows) && (is_side (width_of rows) && list_all (λ row. length row == width_of rows) rows) then None
+    if is_stencil_kernel_side (length rows) && (is_stencil_kernel_side (width_of rows) && list_all (λ row. length row == width_of rows) rows) then None
     else Some BadKernel
 
-abbrev pub wrong_at : List Symbol → Locals → Place → Option Violation
+abbrev pub wrong_at : List Symbol → ItemVariables → Place → Option Violation
 wrong_at names locals (name x roles) = wrong_name roles (role_at names locals x)
 wrong_at names locals (ranged n least most) = wrong_range n least most
 wrong_at names locals (remainder n modulus) = wrong_remainder n modulus
@@ -202,14 +202,14 @@ wrong_at names locals (shift n) = wrong_shift n
 wrong_at names locals (kernel rows) = wrong_kernel rows
 
 -- a place is served if it has what it requires
-abbrev pub is_served : List Symbol → Locals → Place → Bool
+abbrev pub is_served : List Symbol → ItemVariables → Place → Bool
 is_served names locals place = is_none (wrong_at names locals place)
 
-abbrev pub are_served : List Symbol → Locals → List Place → Bool
+abbrev pub are_served : List Symbol → ItemVariables → List Place → Bool
 are_served names locals places = list_all (is_served names locals) places
 
 -- the first of the places that is not served, and its fault
-pub record IsFirstUnserved (names : List Symbol) (locals : Locals) (places : List Place) (wrong : Violation) : Type 0 where
+pub record IsFirstUnserved (names : List Symbol) (locals : ItemVariables) (places : List Place) (wrong : Violation) : Type 0 where
   pub before : List Place
   pub place : Place
   pub after : List Place

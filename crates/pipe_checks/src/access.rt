@@ -6,9 +6,9 @@ ghost use Rattle.pipe_tree.specs.Tree.{view};
 ghost use Rattle.pipe_checks.specs.Names.{number_of};
 ghost use Rattle.pipe_checks.specs.Accesses.{read_at, stencil_at, width_of, accesses_of, stage_read};
 
-use crate::symbol::{Symbol, number_of};
+use crate::symbol::{Symbol, find_symbol_number};
 use pipe_tokens::Name;
-use pipe_tree::{Expr, Index, Kernel, Row};
+use pipe_tree::{Expr, Index, Kernel, StencilRow};
 use std::alloc::{AllocError, Global};
 
 /// A read or a stencil in the text, with the number of the stage that is read. The other parts of a job's read, its indices over
@@ -32,7 +32,7 @@ impl Access {
     }
 }
 
-fn add_read(
+fn push_read_access(
     found: &mut Vec<Access>,
     stages: &[Symbol],
     name: &Name,
@@ -42,7 +42,7 @@ fn add_read(
     ensures { OnOk result (found.new.items
         ≡ found.old.items ++ read_at (number_of stages.now name.now) row.now column.now) }
 {
-    match number_of(stages, name) {
+    match find_symbol_number(stages, name) {
         Some(stage) => {
             found.push(Access::Read(stage, *row, *column))?;
             Ok(())
@@ -52,7 +52,7 @@ fn add_read(
 }
 
 /// The length of the first row of a kernel.
-pub(crate) fn width_of(rows: &[Row]) -> usize
+pub(crate) fn stencil_kernel_width(rows: &[StencilRow]) -> usize
     ensures { result ≡ width_of rows.now }
 {
     match rows {
@@ -61,7 +61,7 @@ pub(crate) fn width_of(rows: &[Row]) -> usize
     }
 }
 
-fn add_stencil(
+fn push_stencil_access(
     found: &mut Vec<Access>,
     stages: &[Symbol],
     name: &Name,
@@ -70,9 +70,13 @@ fn add_stencil(
     ensures { OnOk result (found.new.items
         ≡ found.old.items ++ stencil_at (number_of stages.now name.now) kernel.now) }
 {
-    match number_of(stages, name) {
+    match find_symbol_number(stages, name) {
         Some(stage) => {
-            found.push(Access::Stencil(stage, kernel.rows().len(), width_of(kernel.rows())))?;
+            found.push(Access::Stencil(
+                stage,
+                kernel.rows().len(),
+                stencil_kernel_width(kernel.rows()),
+            ))?;
             Ok(())
         }
         None => Ok(()),
@@ -80,7 +84,7 @@ fn add_stencil(
 }
 
 /// Adds the accesses of an expression, in the order of the text, after those that were found.
-pub fn add_accesses(
+pub fn push_expr_accesses(
     found: &mut Vec<Access>,
     stages: &[Symbol],
     expr: &Expr,
@@ -90,36 +94,40 @@ pub fn add_accesses(
 {
     match expr {
         Expr::Number(_) | Expr::Name(_) => Ok(()),
-        Expr::Read(name, row, column) => add_read(found, stages, name, row, column),
-        Expr::Lookup(_, index) => add_accesses(found, stages, index),
+        Expr::Read(name, row, column) => push_read_access(found, stages, name, row, column),
+        Expr::Lookup(_, index) => push_expr_accesses(found, stages, index),
         Expr::Unary(_, operand) | Expr::Literal(_, operand, _) => {
-            add_accesses(found, stages, operand)
+            push_expr_accesses(found, stages, operand)
         }
         Expr::Binary(_, left, right) => {
-            add_accesses(found, stages, left)?;
-            add_accesses(found, stages, right)
+            push_expr_accesses(found, stages, left)?;
+            push_expr_accesses(found, stages, right)
         }
         Expr::Ternary(_, first, second, third) => {
-            add_accesses(found, stages, first)?;
-            add_accesses(found, stages, second)?;
-            add_accesses(found, stages, third)
+            push_expr_accesses(found, stages, first)?;
+            push_expr_accesses(found, stages, second)?;
+            push_expr_accesses(found, stages, third)
         }
         Expr::Select(left, _, right, then, otherwise) => {
-            add_accesses(found, stages, left)?;
-            add_accesses(found, stages, right)?;
-            add_accesses(found, stages, then)?;
-            add_accesses(found, stages, otherwise)
+            push_expr_accesses(found, stages, left)?;
+            push_expr_accesses(found, stages, right)?;
+            push_expr_accesses(found, stages, then)?;
+            push_expr_accesses(found, stages, otherwise)
         }
-        Expr::Stencil(name, _, kernel) => add_stencil(found, stages, name, kernel),
+        Expr::Stencil(name, _, kernel) => push_stencil_access(found, stages, name, kernel),
     }
 }
 
 /// The reads and stencils of an expression in the order of the text. The stages are those of its program. A name of no stage is
 /// skipped; a checked program has no such name. Fails where no memory is left.
-pub fn accesses(alloc: Global, stages: &[Symbol], expr: &Expr) -> Result<Vec<Access>, AllocError>
+pub fn collect_expr_accesses(
+    alloc: Global,
+    stages: &[Symbol],
+    expr: &Expr,
+) -> Result<Vec<Access>, AllocError>
     ensures { IfOk result (λ v. v.items ≡ accesses_of stages.now (view expr.now)) }
 {
     let mut found = Vec::new(alloc);
-    add_accesses(&mut found, stages, expr)?;
+    push_expr_accesses(&mut found, stages, expr)?;
     Ok(found)
 }

@@ -8,21 +8,21 @@ ghost use Rattle.pipe_tree.specs.Tree.{declaration, declarations};
 ghost use Rattle.pipe_tree.specs.Content.{content};
 ghost use Rattle.pipe_checks.specs.Names.{declared_names};
 ghost use Rattle.pipe_checks.specs.Graph.{IsRanking};
-ghost use Rattle.pipe_checks.specs.Twice.{locals_of};
+ghost use Rattle.pipe_checks.specs.Twice.{item_variables};
 ghost use Rattle.pipe_checks.specs.Uses.{places_of, IsFirstUnserved};
 ghost use Rattle.pipe_checks.specs.Checking.{IsNamed, IsFault, IsCheckedOf, tree_in, stages_in, params_in, tables_in, graph_in};
 ghost use Rattle.pipe_checks.specs.Checking.{ranks_in, is_result, is_good, reads_at};
 ghost use Rattle.pipe_checks.specs.inside.Tables.{IsTableOf};
 ghost use Rattle.pipe_checks.specs.inside.Search.{IsCyclic, IsJudged, IsFound, fault_of};
 
-use crate::cycles::shortest_cycle;
+use crate::cycles::find_shortest_cycle;
 use crate::fault::{CheckFault, Cycle, Violation};
-use crate::graph::{Links, graph};
-use crate::ranks::ranks;
-use crate::symbol::{Symbol, params_of, stages_of, tables_of};
-use crate::table::{DeclaredNames, NameTable, declare_all};
-use crate::twice::{first_twice, locals_of};
-use crate::uses::judge_item;
+use crate::graph::{StageLinks, build_read_graph};
+use crate::ranks::compute_read_graph_ranks;
+use crate::symbol::{Symbol, filter_param_symbols, filter_stage_symbols, filter_table_symbols};
+use crate::table::{DeclaredNames, NameTable, declare_all_names};
+use crate::twice::{find_item_with_ambiguous_name, item_variables};
+use crate::uses::check_item_places;
 use pipe_tree::{Item, Tree};
 use std::alloc::Global;
 use std::marker::Model;
@@ -35,7 +35,7 @@ pub struct Checked {
     stages: Vec<Symbol>,
     params: Vec<Symbol>,
     tables: Vec<Symbol>,
-    graph: Vec<Links>,
+    graph: Vec<StageLinks>,
     ranks: Vec<usize>,
 }
 
@@ -106,7 +106,7 @@ impl Checked {
     }
 }
 
-fn fault_at(violation: Violation, item: usize) -> CheckFault
+fn to_check_fault(violation: Violation, item: usize) -> CheckFault
     ensures { result ≡ fault_of violation item }
 {
     match violation {
@@ -118,20 +118,20 @@ fn fault_at(violation: Violation, item: usize) -> CheckFault
 }
 
 #[tactic(auto, using(crate::proofs::Judging::result_served, crate::proofs::Judging::result_unserved))]
-fn judge(names: &NameTable, item: &Item) -> Result<(), Violation>
+fn check_item(names: &NameTable, item: &Item) -> Result<(), Violation>
     ensures good { OnOk result (is_good names.now (declaration item.now) ≡ true) }
-    ensures wrong { IfErr result (IsFirstUnserved names.now (locals_of (declaration item.now))
+    ensures wrong { IfErr result (IsFirstUnserved names.now (item_variables (declaration item.now))
         (places_of (declaration item.now))) }
 {
-    judge_item(names, &locals_of(item), item)
+    check_item_places(names, &item_variables(item), item)
 }
 
-fn judge_all(declared: &NameTable, items: &[Item]) -> Result<(), CheckFault>
+fn check_all_items(declared: &NameTable, items: &[Item]) -> Result<(), CheckFault>
     ensures { IsJudged declared.now (declarations items.now) result }
 {
     for (number, item) in items.iter().enumerate() {
-        if let Err(violation) = judge(declared, item) {
-            return Err(fault_at(violation, number));
+        if let Err(violation) = check_item(declared, item) {
+            return Err(to_check_fault(violation, number));
         }
     }
     Ok(())
@@ -139,19 +139,19 @@ fn judge_all(declared: &NameTable, items: &[Item]) -> Result<(), CheckFault>
 
 // Checks that each name denotes one thing, and then that each place has what it requires.
 #[tactic(auto, using(crate::proofs::Faulting::judged_named, crate::proofs::Faulting::judged_fault))]
-fn judge_names(declared: &DeclaredNames, items: &[Item]) -> Result<(), CheckFault>
+fn check_all_names(declared: &DeclaredNames, items: &[Item]) -> Result<(), CheckFault>
     requires { IsTableOf (declared_names (declarations items.now)) declared.now }
     ensures ok { OnOk result (IsNamed (declarations items.now)) }
     ensures same { OnOk result (declared.now.table ≡ declared_names (declarations items.now)) }
     ensures err { IfErr result (IsFault (declarations items.now)) }
 {
-    match first_twice(declared, items) {
+    match find_item_with_ambiguous_name(declared, items) {
         Some(item) => Err(CheckFault::Twice(item)),
-        None => judge_all(&declared.table, items),
+        None => check_all_items(&declared.table, items),
     }
 }
 
-fn is_result(item: &Item) -> bool
+fn is_result_item(item: &Item) -> bool
     ensures { result ≡ is_result (declaration item.now) }
 {
     match item {
@@ -160,55 +160,55 @@ fn is_result(item: &Item) -> bool
     }
 }
 
-fn has_result(items: &[Item]) -> bool
+fn has_result_item(items: &[Item]) -> bool
     ensures { result ≡ list_any is_result (declarations items.now) }
 {
     for item in items {
-        if is_result(item) {
+        if is_result_item(item) {
             return true;
         }
     }
     false
 }
 
-fn ranks_of(alloc: Global, graph: &[Links]) -> Result<Vec<usize>, CheckFault>
+fn find_ranks_or_cycle(alloc: Global, graph: &[StageLinks]) -> Result<Vec<usize>, CheckFault>
     ensures ok { IfOk result (λ v. IsRanking graph.now v.items) }
     ensures err { IfErr result (IsCyclic graph.now) }
 {
-    match ranks(alloc, graph)? {
+    match compute_read_graph_ranks(alloc, graph)? {
         Some(ranks) => Ok(ranks),
         None => Err(CheckFault::Cycle(Cycle {
-            stages: shortest_cycle(alloc, graph)?,
+            stages: find_shortest_cycle(alloc, graph)?,
         })),
     }
 }
 
 // All results for a program, without its tree.
 #[derive(Drop)]
-struct Found {
+struct CheckedLists {
     stages: Vec<Symbol>,
     params: Vec<Symbol>,
     tables: Vec<Symbol>,
-    graph: Vec<Links>,
+    graph: Vec<StageLinks>,
     ranks: Vec<usize>,
 }
 
-fn findings(alloc: Global, items: &[Item]) -> Result<Found, CheckFault>
+fn check_program_items(alloc: Global, items: &[Item]) -> Result<CheckedLists, CheckFault>
     ensures ok { IfOk result (IsFound (declarations items.now)) }
     ensures err { IfErr result (IsFault (declarations items.now)) }
 {
-    let declared = declare_all(alloc, items)?;
-    judge_names(&declared, items)?;
-    if !has_result(items) {
+    let declared = declare_all_names(alloc, items)?;
+    check_all_names(&declared, items)?;
+    if !has_result_item(items) {
         return Err(CheckFault::NoResult);
     }
     let names = declared.table.symbols();
-    let stages = stages_of(alloc, names)?;
-    let graph = graph(alloc, items, &stages)?;
-    let ranks = ranks_of(alloc, &graph)?;
-    let params = params_of(alloc, names)?;
-    let tables = tables_of(alloc, names)?;
-    Ok(Found {
+    let stages = filter_stage_symbols(alloc, names)?;
+    let graph = build_read_graph(alloc, items, &stages)?;
+    let ranks = find_ranks_or_cycle(alloc, &graph)?;
+    let params = filter_param_symbols(alloc, names)?;
+    let tables = filter_table_symbols(alloc, names)?;
+    Ok(CheckedLists {
         stages,
         params,
         tables,
@@ -224,7 +224,7 @@ pub fn check(alloc: Global, tree: Tree) -> Result<Checked, (Tree, CheckFault)>
     ensures back { IfErr result (λ e. e.0 ≡ tree) }
     ensures fault { IfErr result (λ e. IsFault (content tree) e.1) }
 {
-    match findings(alloc, tree.items()) {
+    match check_program_items(alloc, tree.items()) {
         Ok(found) => Ok(Checked {
             tree,
             stages: found.stages,

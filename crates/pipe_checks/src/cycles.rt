@@ -6,25 +6,25 @@ ghost use Rattle.std.specs.Prelude.{IfNone, IfOk, length, slice_get, Contains};
 ghost use Rattle.pipe_checks.specs.Graph.{links_at, Way, IsAcyclic, IsShortestFrom, IsShortestCycle};
 ghost use Rattle.pipe_checks.specs.inside.Search.{SomeAt, LeadsOn, AreDistances, IsStepAt, IsStepFrom, IsWayBack};
 
-use crate::graph::{Links, known};
+use crate::graph::{StageLinks, get_stage_rank_or_distance};
 use std::alloc::{AllocError, Global};
 
 // Whether a stage is known to be at this distance.
-fn is_at(far: &[Option<usize>], stage: usize, steps: usize) -> bool
+fn is_stage_at_cycle_distance(far: &[Option<usize>], stage: usize, steps: usize) -> bool
     ensures { IsTrue result ↔ (slice_get far.now stage ≡ Some (Some steps)) }
 {
-    match known(far, stage) {
+    match get_stage_rank_or_distance(far, stage) {
         Some(Some(distance)) => distance == steps,
         Some(None) | None => false,
     }
 }
 
 // Whether a stage reads one at this distance.
-fn reads_one_at(links: &Links, far: &[Option<usize>], steps: usize) -> bool
+fn has_read_at_cycle_distance(links: &StageLinks, far: &[Option<usize>], steps: usize) -> bool
     ensures { IsTrue result ↔ SomeAt far.now links.now.reads steps }
 {
     for stage in links.reads() {
-        if is_at(far, *stage, steps) {
+        if is_stage_at_cycle_distance(far, *stage, steps) {
             return true;
         }
     }
@@ -32,12 +32,12 @@ fn reads_one_at(links: &Links, far: &[Option<usize>], steps: usize) -> bool
 }
 
 // Whether a stage whose distance is not known reads one at this distance.
-fn reaches_more(graph: &[Links], far: &[Option<usize>], steps: usize) -> bool
+fn can_extend_cycle_distances(graph: &[StageLinks], far: &[Option<usize>], steps: usize) -> bool
     requires { length far.now ≡ length graph.now }
     ensures { IsTrue result ↔ LeadsOn graph.now far.now steps }
 {
     for (stage, links) in graph.iter().enumerate() {
-        if far[stage].is_none() && reads_one_at(links, far, steps) {
+        if far[stage].is_none() && has_read_at_cycle_distance(links, far, steps) {
             return true;
         }
     }
@@ -45,8 +45,8 @@ fn reaches_more(graph: &[Links], far: &[Option<usize>], steps: usize) -> bool
 }
 
 // The distance of a stage, where the distances up to `steps` are known.
-fn next_distance(
-    graph: &[Links],
+fn next_cycle_distance(
+    graph: &[StageLinks],
     far: &[Option<usize>],
     steps: usize,
     stage: usize,
@@ -58,14 +58,14 @@ fn next_distance(
 {
     match far[stage] {
         Some(distance) => Some(distance),
-        None => reads_one_at(&graph[stage], far, steps).then_some(steps + 1),
+        None => has_read_at_cycle_distance(&graph[stage], far, steps).then_some(steps + 1),
     }
 }
 
 // The distances, with those of `steps` + 1 added.
-fn one_more(
+fn extend_cycle_distances(
     alloc: Global,
-    graph: &[Links],
+    graph: &[StageLinks],
     far: &[Option<usize>],
     steps: usize,
 ) -> Result<Vec<Option<usize>>, AllocError>
@@ -75,13 +75,17 @@ fn one_more(
 {
     let mut next = Vec::new(alloc);
     for stage in 0..graph.len() {
-        next.push(next_distance(graph, far, steps, stage))?;
+        next.push(next_cycle_distance(graph, far, steps, stage))?;
     }
     Ok(next)
 }
 
 // Only the goal is known, at distance 0.
-fn only(alloc: Global, count: usize, goal: usize) -> Result<Vec<Option<usize>>, AllocError>
+fn init_cycle_distances(
+    alloc: Global,
+    count: usize,
+    goal: usize,
+) -> Result<Vec<Option<usize>>, AllocError>
     ensures each { IfOk result (λ v. length v.items ≡ count) }
     ensures only { IfOk result (λ v. (t : ℕ) → t < count
         → slice_get v.items t ≡ Some (if t == goal then Some 0 else None)) }
@@ -94,28 +98,32 @@ fn only(alloc: Global, count: usize, goal: usize) -> Result<Vec<Option<usize>>, 
 }
 
 // The number of reads from each stage to `goal`, where it can be reached.
-fn distances(alloc: Global, graph: &[Links], goal: usize) -> Result<Vec<Option<usize>>, AllocError>
+fn compute_cycle_distances(
+    alloc: Global,
+    graph: &[StageLinks],
+    goal: usize,
+) -> Result<Vec<Option<usize>>, AllocError>
     requires { goal < length graph.now }
     ensures { IfOk result (λ v. AreDistances graph.now goal v.items) }
 {
-    let mut far = only(alloc, graph.len(), goal)?;
+    let mut far = init_cycle_distances(alloc, graph.len(), goal)?;
     let mut steps = 0;
-    while reaches_more(graph, &far, steps) {
-        far = one_more(alloc, graph, &far, steps)?;
+    while can_extend_cycle_distances(graph, &far, steps) {
+        far = extend_cycle_distances(alloc, graph, &far, steps)?;
         steps += 1;
     }
     Ok(far)
 }
 
 // The least known distance of a stage that this one reads.
-fn nearest(links: &Links, far: &[Option<usize>]) -> Option<usize>
+fn find_least_cycle_distance(links: &StageLinks, far: &[Option<usize>]) -> Option<usize>
     ensures some { IfSome result (SomeAt far.now links.now.reads) }
     ensures least { IfSome result (λ d. (k : ℕ) → SomeAt far.now links.now.reads k → d ≤ k) }
     ensures none { IfNone result ((k : ℕ) → ¬ (SomeAt far.now links.now.reads k)) }
 {
     let mut least: Option<usize> = None;
     for stage in links.reads() {
-        if let Some(Some(distance)) = known(far, *stage) {
+        if let Some(Some(distance)) = get_stage_rank_or_distance(far, *stage) {
             least = match least {
                 Some(least) => Some(least.min(distance)),
                 None => Some(distance),
@@ -126,7 +134,7 @@ fn nearest(links: &Links, far: &[Option<usize>]) -> Option<usize>
 }
 
 // The least of the stages read that have this distance.
-fn least_at(links: &Links, far: &[Option<usize>], steps: usize) -> usize
+fn find_read_at_cycle_distance(links: &StageLinks, far: &[Option<usize>], steps: usize) -> usize
     requires { SomeAt far.now links.now.reads steps }
     ensures read { Contains links.now.reads result }
     ensures at { slice_get far.now result ≡ Some (Some steps) }
@@ -135,7 +143,7 @@ fn least_at(links: &Links, far: &[Option<usize>], steps: usize) -> usize
 {
     let mut least: Option<usize> = None;
     for stage in links.reads() {
-        if is_at(far, *stage, steps) {
+        if is_stage_at_cycle_distance(far, *stage, steps) {
             least = match least {
                 Some(least) => Some(least.min(*stage)),
                 None => Some(*stage),
@@ -149,9 +157,9 @@ fn least_at(links: &Links, far: &[Option<usize>], steps: usize) -> usize
 }
 
 // The first of the shortest ways from `start` back to it, where the nearest stage that it reads is at the distance `left`.
-fn way_back(
+fn trace_shortest_cycle(
     alloc: Global,
-    graph: &[Links],
+    graph: &[StageLinks],
     far: &[Option<usize>],
     start: usize,
     left: usize,
@@ -167,36 +175,39 @@ fn way_back(
     let mut steps = left + 1;
     while steps > 0 {
         steps -= 1;
-        at = least_at(&graph[at], far, steps);
+        at = find_read_at_cycle_distance(&graph[at], far, steps);
         way.push(at)?;
     }
     Ok(way)
 }
 
 // The first of the shortest cycles from `start`, if there is one.
-fn cycle_from(
+fn find_cycle_from_stage(
     alloc: Global,
-    graph: &[Links],
+    graph: &[StageLinks],
     start: usize,
 ) -> Result<Option<Vec<usize>>, AllocError>
     requires { start < length graph.now }
     ensures some { IfOk result (λ o. IfSome o (λ v. IsShortestFrom graph.now start v.items)) }
     ensures none { IfOk result (λ o. IfNone o ((k : ℕ) → Way graph.now (suc k) start start → ⊥)) }
 {
-    let far = distances(alloc, graph, start)?;
-    match nearest(&graph[start], &far) {
-        Some(left) => Ok(Some(way_back(alloc, graph, &far, start, left)?)),
+    let far = compute_cycle_distances(alloc, graph, start)?;
+    match find_least_cycle_distance(&graph[start], &far) {
+        Some(left) => Ok(Some(trace_shortest_cycle(alloc, graph, &far, start, left)?)),
         None => Ok(None),
     }
 }
 
 /// The first of the shortest cycles of reads from the least stage that is on one.
-pub(crate) fn shortest_cycle(alloc: Global, graph: &[Links]) -> Result<Vec<usize>, AllocError>
+pub(crate) fn find_shortest_cycle(
+    alloc: Global,
+    graph: &[StageLinks],
+) -> Result<Vec<usize>, AllocError>
     requires { ¬ (IsAcyclic graph.now) }
     ensures { IfOk result (λ v. IsShortestCycle graph.now v.items) }
 {
     for start in 0..graph.len() {
-        if let Some(cycle) = cycle_from(alloc, graph, start)? {
+        if let Some(cycle) = find_cycle_from_stage(alloc, graph, start)? {
             return Ok(cycle);
         }
     }

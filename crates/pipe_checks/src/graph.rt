@@ -6,7 +6,7 @@ ghost use Rattle.std.specs.Option.{option_map};
 ghost use Rattle.pipe_tree.specs.Tree.{view, branches, declaration, declarations};
 ghost use Rattle.pipe_checks.specs.Accesses.{branch_accesses, otherwise_accesses, item_accesses, stage_read, links_of, links_from};
 
-use crate::access::{Access, add_accesses};
+use crate::access::{Access, push_expr_accesses};
 use crate::symbol::Symbol;
 use pipe_tree::{Case, Expr, Item};
 use std::alloc::{AllocError, Global};
@@ -15,20 +15,20 @@ use std::marker::Model;
 /// The numbers of the stages that a stage reads, in the order of the text. Contracts see their list, and whether the stage is a
 /// plane of the picture.
 #[derive(Debug, Drop)]
-pub(crate) struct Links {
+pub(crate) struct StageLinks {
     is_plane: bool,
     reads: Vec<usize>,
 }
 
-impl Model for Links {
-    ghost use Rattle.pipe_checks.specs.Links.{Links as Seen};
+impl Model for StageLinks {
+    ghost use Rattle.pipe_checks.specs.StageLinks.{StageLinks as Seen};
 
     ghost Value = { Seen };
 
     ghost view = { λ l. record { is_plane = l.is_plane; reads = l.reads.items } };
 }
 
-impl Links {
+impl StageLinks {
     pub(crate) fn is_plane(&self) -> bool
         ensures { result ≡ self.now.is_plane }
     {
@@ -44,23 +44,30 @@ impl Links {
 }
 
 /// What is known of a stage, where the list has one of this number.
-pub(crate) fn known(list: &[Option<usize>], stage: usize) -> Option<Option<usize>>
+pub(crate) fn get_stage_rank_or_distance(
+    list: &[Option<usize>],
+    stage: usize,
+) -> Option<Option<usize>>
     ensures { result ≡ slice_get list.now stage }
 {
     list.get(stage).copied()
 }
 
-fn add_cases(found: &mut Vec<Access>, stages: &[Symbol], cases: &[Case]) -> Result<(), AllocError>
+fn push_case_accesses(
+    found: &mut Vec<Access>,
+    stages: &[Symbol],
+    cases: &[Case],
+) -> Result<(), AllocError>
     ensures { OnOk result
         (found.new.items ≡ found.old.items ++ branch_accesses stages.now (branches cases.now)) }
 {
     for case in cases {
-        add_accesses(found, stages, &case.value)?;
+        push_expr_accesses(found, stages, &case.value)?;
     }
     Ok(())
 }
 
-fn add_otherwise(
+fn push_otherwise_accesses(
     found: &mut Vec<Access>,
     stages: &[Symbol],
     otherwise: &Option<Expr>,
@@ -69,13 +76,13 @@ fn add_otherwise(
         ≡ found.old.items ++ otherwise_accesses stages.now (option_map view otherwise.now)) }
 {
     match otherwise {
-        Some(value) => add_accesses(found, stages, value),
+        Some(value) => push_expr_accesses(found, stages, value),
         None => Ok(()),
     }
 }
 
 /// The reads and stencils of all expressions of an item.
-pub(crate) fn item_accesses(
+pub(crate) fn collect_item_accesses(
     alloc: Global,
     stages: &[Symbol],
     item: &Item,
@@ -85,54 +92,54 @@ pub(crate) fn item_accesses(
     let mut found = Vec::new(alloc);
     match item {
         Item::Func(func) => {
-            add_cases(&mut found, stages, func.cases.list())?;
-            add_otherwise(&mut found, stages, &func.otherwise)?;
+            push_case_accesses(&mut found, stages, func.cases.case_list())?;
+            push_otherwise_accesses(&mut found, stages, &func.otherwise)?;
         }
         Item::Accum(accum) => {
-            add_accesses(&mut found, stages, &accum.value)?;
-            add_accesses(&mut found, stages, &accum.bin)?;
+            push_expr_accesses(&mut found, stages, &accum.value)?;
+            push_expr_accesses(&mut found, stages, &accum.bin)?;
         }
         Item::Param(_) | Item::Table(_) | Item::Image(_) | Item::Output(_) => {}
     }
     Ok(found)
 }
 
-fn stages_read(alloc: Global, accesses: &[Access]) -> Result<Vec<usize>, AllocError>
+fn collect_accessed_stages(alloc: Global, accesses: &[Access]) -> Result<Vec<usize>, AllocError>
     ensures { IfOk result (λ v. v.items ≡ map stage_read accesses.now) }
 {
     accesses.iter().map(|access| access.stage()).collect(alloc)
 }
 
-fn links_of(
+fn build_stage_links(
     alloc: Global,
     items: &[Item],
     stages: &[Symbol],
     stage: &Symbol,
-) -> Result<Links, AllocError>
+) -> Result<StageLinks, AllocError>
     ensures { IfOk result (λ l. l ≡ links_of (declarations items.now) stages.now stage.now) }
 {
     let reads = match items.get(stage.item) {
-        Some(item) => stages_read(alloc, &item_accesses(alloc, stages, item)?)?,
+        Some(item) => collect_accessed_stages(alloc, &collect_item_accesses(alloc, stages, item)?)?,
         None => Vec::new(alloc),
     };
-    Ok(Links {
+    Ok(StageLinks {
         is_plane: stage.kind.is_plane(),
         reads,
     })
 }
 
 /// What each stage reads.
-pub(crate) fn graph(
+pub(crate) fn build_read_graph(
     alloc: Global,
     items: &[Item],
     stages: &[Symbol],
-) -> Result<Vec<Links>, AllocError>
+) -> Result<Vec<StageLinks>, AllocError>
     ensures { IfOk result
         (λ v. v.items ≡ links_from (declarations items.now) stages.now stages.now) }
 {
     let mut graph = Vec::new(alloc);
     for stage in stages {
-        graph.push(links_of(alloc, items, stages, stage)?)?;
+        graph.push(build_stage_links(alloc, items, stages, stage)?)?;
     }
     Ok(graph)
 }

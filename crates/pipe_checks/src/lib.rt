@@ -13,8 +13,10 @@ mod twice;
 mod uniqueness;
 mod uses;
 
-pub use access::{Access, accesses, add_accesses};
+pub use access::{Access, collect_expr_accesses, push_expr_accesses};
 pub use checked::{Checked, check};
 pub use fault::{CheckFault, Cycle};
-pub use symbol::{NameKind, Symbol, declared_stages, declared_tables, is_same, number_of};
+pub use symbol::{
+    NameKind, Symbol, declared_stages, declared_tables, find_symbol_number, is_same_name,
+};
 pub use uniqueness::check_faults_are_determined;

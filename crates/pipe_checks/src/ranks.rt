@@ -5,11 +5,11 @@ ghost use Rattle.std.specs.Prelude.{◌≡◌, ℕ, ◌<◌, ◌+◌, Option, So
 ghost use Rattle.pipe_checks.specs.Graph.{links_at, IsRanking, IsAcyclic};
 ghost use Rattle.pipe_checks.specs.inside.Search.{rank_over, known_rank, SomeUnranked, IsBounded};
 
-use crate::graph::{Links, known};
+use crate::graph::{StageLinks, get_stage_rank_or_distance};
 use std::alloc::{AllocError, Global};
 
 // The rank of a stage whose reads all have ranks.
-fn rank_above(ranks: &[Option<usize>], links: &Links) -> Option<usize>
+fn find_rank_above_reads(ranks: &[Option<usize>], links: &StageLinks) -> Option<usize>
     requires { (t r : ℕ) → slice_get ranks.now t ≡ Some (Some r) → r < usize.MAX }
     ensures rank { IfSome result (λ r. r ≡ rank_over (known_rank ranks.now) links.now) }
     ensures ranked { OnSome result (¬ (SomeUnranked ranks.now links.now.reads)) }
@@ -17,7 +17,7 @@ fn rank_above(ranks: &[Option<usize>], links: &Links) -> Option<usize>
 {
     let mut greatest = 0;
     for stage in links.reads() {
-        match known(ranks, *stage) {
+        match get_stage_rank_or_distance(ranks, *stage) {
             Some(Some(rank)) => greatest = greatest.max(rank),
             Some(None) => return None,
             None => {}
@@ -27,7 +27,7 @@ fn rank_above(ranks: &[Option<usize>], links: &Links) -> Option<usize>
 }
 
 // A stage without a rank that can have one, and its rank.
-fn ready(graph: &[Links], ranks: &[Option<usize>]) -> Option<(usize, usize)>
+fn find_rankable_stage(graph: &[StageLinks], ranks: &[Option<usize>]) -> Option<(usize, usize)>
     requires each { length ranks.now ≡ length graph.now }
     requires bounded { IsBounded ranks.now (length graph.now) }
     ensures unknown { IfSome result (λ f. slice_get ranks.now f.0 ≡ Some None) }
@@ -41,7 +41,7 @@ fn ready(graph: &[Links], ranks: &[Option<usize>]) -> Option<(usize, usize)>
 {
     for (stage, links) in graph.iter().enumerate() {
         if ranks[stage].is_none() {
-            if let Some(rank) = rank_above(ranks, links) {
+            if let Some(rank) = find_rank_above_reads(ranks, links) {
                 return Some((stage, rank));
             }
         }
@@ -49,7 +49,7 @@ fn ready(graph: &[Links], ranks: &[Option<usize>]) -> Option<(usize, usize)>
     None
 }
 
-fn nothing(alloc: Global, count: usize) -> Result<Vec<Option<usize>>, AllocError>
+fn init_unknown_ranks(alloc: Global, count: usize) -> Result<Vec<Option<usize>>, AllocError>
     ensures { IfOk result (λ v. v.items ≡ replicate count None) }
 {
     let mut all = Vec::new(alloc);
@@ -59,7 +59,10 @@ fn nothing(alloc: Global, count: usize) -> Result<Vec<Option<usize>>, AllocError
     Ok(all)
 }
 
-fn all_of(alloc: Global, ranks: &[Option<usize>]) -> Result<Option<Vec<usize>>, AllocError>
+fn unwrap_all_ranks(
+    alloc: Global,
+    ranks: &[Option<usize>],
+) -> Result<Option<Vec<usize>>, AllocError>
     ensures all { IfOk result (λ o. IfSome o (λ v. map Some v.items ≡ ranks.now)) }
     ensures none { IfOk result (λ o. IfNone o ((s : ℕ) × (slice_get ranks.now s ≡ Some None))) }
 {
@@ -74,13 +77,16 @@ fn all_of(alloc: Global, ranks: &[Option<usize>]) -> Result<Option<Vec<usize>>, 
 }
 
 /// The rank of each stage. There is none where stages read each other in a cycle.
-pub(crate) fn ranks(alloc: Global, graph: &[Links]) -> Result<Option<Vec<usize>>, AllocError>
+pub(crate) fn compute_read_graph_ranks(
+    alloc: Global,
+    graph: &[StageLinks],
+) -> Result<Option<Vec<usize>>, AllocError>
     ensures some { IfOk result (λ o. IfSome o (λ v. IsRanking graph.now v.items)) }
     ensures none { IfOk result (λ o. IfNone o (¬ (IsAcyclic graph.now))) }
 {
-    let mut ranks = nothing(alloc, graph.len())?;
-    while let Some((stage, rank)) = ready(graph, &ranks) {
+    let mut ranks = init_unknown_ranks(alloc, graph.len())?;
+    while let Some((stage, rank)) = find_rankable_stage(graph, &ranks) {
         ranks[stage] = Some(rank);
     }
-    all_of(alloc, &ranks)
+    unwrap_all_ranks(alloc, &ranks)
 }

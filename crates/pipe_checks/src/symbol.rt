@@ -70,13 +70,13 @@ pub struct Symbol {
 }
 
 /// Whether two names have the same bytes.
-pub fn is_same(left: &Name, right: &Name) -> bool
+pub fn is_same_name(left: &Name, right: &Name) -> bool
     ensures { result ≡ bytes_eq left.now right.now }
 {
     left.as_bytes() == right.as_bytes()
 }
 
-fn declare(
+fn push_declared_symbol(
     names: &mut Vec<Symbol>,
     name: &Name,
     kind: NameKind,
@@ -93,29 +93,33 @@ fn declare(
     Ok(())
 }
 
-fn declare_planes(names: &mut Vec<Symbol>, planes: &Names, item: usize) -> Result<(), AllocError>
+fn push_plane_symbols(
+    names: &mut Vec<Symbol>,
+    planes: &Names,
+    item: usize,
+) -> Result<(), AllocError>
     ensures { OnOk result (names.new.items ≡ names.old.items ++ names_of item planes.now) }
 {
     match planes {
-        Names::One(name) => declare(names, name, NameKind::Plane, item),
+        Names::One(name) => push_declared_symbol(names, name, NameKind::Plane, item),
         Names::Three(red, green, blue) => {
-            declare(names, red, NameKind::Plane, item)?;
-            declare(names, green, NameKind::Plane, item)?;
-            declare(names, blue, NameKind::Plane, item)
+            push_declared_symbol(names, red, NameKind::Plane, item)?;
+            push_declared_symbol(names, green, NameKind::Plane, item)?;
+            push_declared_symbol(names, blue, NameKind::Plane, item)
         }
     }
 }
 
-fn declare_item(names: &mut Vec<Symbol>, item: &Item, number: usize) -> Result<(), AllocError>
+fn push_item_symbols(names: &mut Vec<Symbol>, item: &Item, number: usize) -> Result<(), AllocError>
     ensures { OnOk result
         (names.new.items ≡ names.old.items ++ item_names number (declaration item.now)) }
 {
     match item {
-        Item::Param(param) => declare(names, &param.name, NameKind::Param, number),
-        Item::Table(table) => declare(names, &table.name, NameKind::Table, number),
-        Item::Image(image) => declare_planes(names, &image.names, number),
-        Item::Func(func) => declare(names, &func.name, NameKind::Func, number),
-        Item::Accum(accum) => declare(names, &accum.name, NameKind::Accum, number),
+        Item::Param(param) => push_declared_symbol(names, &param.name, NameKind::Param, number),
+        Item::Table(table) => push_declared_symbol(names, &table.name, NameKind::Table, number),
+        Item::Image(image) => push_plane_symbols(names, &image.names, number),
+        Item::Func(func) => push_declared_symbol(names, &func.name, NameKind::Func, number),
+        Item::Accum(accum) => push_declared_symbol(names, &accum.name, NameKind::Accum, number),
         Item::Output(_) => Ok(()),
     }
 }
@@ -126,13 +130,16 @@ pub(crate) fn declared_names(alloc: Global, items: &[Item]) -> Result<Vec<Symbol
 {
     let mut names = Vec::new(alloc);
     for (number, item) in items.iter().enumerate() {
-        declare_item(&mut names, item, number)?;
+        push_item_symbols(&mut names, item, number)?;
     }
     Ok(names)
 }
 
 /// The parameters among the names.
-pub(crate) fn params_of(alloc: Global, names: &[Symbol]) -> Result<Vec<Symbol>, AllocError>
+pub(crate) fn filter_param_symbols(
+    alloc: Global,
+    names: &[Symbol],
+) -> Result<Vec<Symbol>, AllocError>
     ensures { IfOk result (λ v. v.items ≡ filter (λ d. is_param d.kind) names.now) }
 {
     names
@@ -143,7 +150,10 @@ pub(crate) fn params_of(alloc: Global, names: &[Symbol]) -> Result<Vec<Symbol>, 
 }
 
 /// The tables among the names.
-pub(crate) fn tables_of(alloc: Global, names: &[Symbol]) -> Result<Vec<Symbol>, AllocError>
+pub(crate) fn filter_table_symbols(
+    alloc: Global,
+    names: &[Symbol],
+) -> Result<Vec<Symbol>, AllocError>
     ensures { IfOk result (λ v. v.items ≡ filter (λ d. is_table d.kind) names.now) }
 {
     names
@@ -154,7 +164,10 @@ pub(crate) fn tables_of(alloc: Global, names: &[Symbol]) -> Result<Vec<Symbol>, 
 }
 
 /// The stages among the names.
-pub(crate) fn stages_of(alloc: Global, names: &[Symbol]) -> Result<Vec<Symbol>, AllocError>
+pub(crate) fn filter_stage_symbols(
+    alloc: Global,
+    names: &[Symbol],
+) -> Result<Vec<Symbol>, AllocError>
     ensures { IfOk result (λ v. v.items ≡ filter (λ d. is_stage d.kind) names.now) }
 {
     names
@@ -165,12 +178,12 @@ pub(crate) fn stages_of(alloc: Global, names: &[Symbol]) -> Result<Vec<Symbol>, 
 }
 
 /// The number of the first of the names that equals this one.
-pub fn number_of(names: &[Symbol], name: &Name) -> Option<usize>
+pub fn find_symbol_number(names: &[Symbol], name: &Name) -> Option<usize>
     ensures { result ≡ number_of names.now name.now }
 {
     names
         .iter()
-        .position(|declared| is_same(&declared.name, name))
+        .position(|declared| is_same_name(&declared.name, name))
 }
 
 /// The stages that the items declare, in the order of the text. A stage's number is its place here, also in a fault of a program
@@ -179,7 +192,7 @@ pub fn declared_stages(alloc: Global, items: &[Item]) -> Result<Vec<Symbol>, All
     ensures { IfOk result (λ v. v.items ≡ stages_of (declarations items.now)) }
 {
     let names = declared_names(alloc, items)?;
-    stages_of(alloc, &names)
+    filter_stage_symbols(alloc, &names)
 }
 
 /// The tables that the items declare, in the order of the text. A table's number is its place here, also if `check` rejects the
@@ -188,5 +201,5 @@ pub fn declared_tables(alloc: Global, items: &[Item]) -> Result<Vec<Symbol>, All
     ensures { IfOk result (λ v. v.items ≡ tables_of (declarations items.now)) }
 {
     let names = declared_names(alloc, items)?;
-    tables_of(alloc, &names)
+    filter_table_symbols(alloc, &names)
 }

@@ -53,17 +53,17 @@ impl NameTable {
     }
 
     /// The number of a name in the table.
-    pub(crate) fn number_of(&self, name: &Name) -> Option<usize>
+    pub(crate) fn find_symbol_number(&self, name: &Name) -> Option<usize>
         ensures { result ≡ number_of self.now name.now }
     {
         self.symbols.get_index_of(name)
     }
 
     /// The declaration of a name.
-    pub(crate) fn declared_at(&self, name: &Name) -> Option<Symbol>
+    pub(crate) fn find_symbol(&self, name: &Name) -> Option<Symbol>
         ensures { result ≡ declared_at self.now name.now }
     {
-        match self.number_of(name) {
+        match self.find_symbol_number(name) {
             Some(number) => self.symbols().get(number).copied(),
             None => None,
         }
@@ -84,7 +84,7 @@ pub(crate) struct DeclaredNames {
     pub again: Option<usize>,
 }
 
-fn earlier(again: Option<usize>, item: usize) -> usize
+fn first_redeclaring_item(again: Option<usize>, item: usize) -> usize
     ensures { result ≡ earlier again item }
 {
     match again {
@@ -93,23 +93,23 @@ fn earlier(again: Option<usize>, item: usize) -> usize
     }
 }
 
-fn table_of(alloc: Global, names: &[Symbol]) -> Result<DeclaredNames, AllocError>
+fn build_name_table(alloc: Global, names: &[Symbol]) -> Result<DeclaredNames, AllocError>
     ensures { IfOk result (IsTableOf names.now) }
 {
     let mut table = NameTable::new(alloc);
     let mut again = None;
     for symbol in names {
         if table.declare(*symbol)? {
-            again = Some(earlier(again, symbol.item));
+            again = Some(first_redeclaring_item(again, symbol.item));
         }
     }
     Ok(DeclaredNames { table, again })
 }
 
 /// The names that the items declare, each found in the table or added at its end.
-pub(crate) fn declare_all(alloc: Global, items: &[Item]) -> Result<DeclaredNames, AllocError>
+pub(crate) fn declare_all_names(alloc: Global, items: &[Item]) -> Result<DeclaredNames, AllocError>
     ensures { IfOk result (IsTableOf (declared_names (declarations items.now))) }
 {
     let names = declared_names(alloc, items)?;
-    table_of(alloc, &names)
+    build_name_table(alloc, &names)
 }

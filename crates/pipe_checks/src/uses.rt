@@ -5,21 +5,22 @@ ghost use Rattle.std.specs.Prelude.{◌≡◌, ◌==◌, length};
 ghost use Rattle.std.specs.List.{list_all};
 ghost use Rattle.std.specs.Option.{option_map};
 ghost use Rattle.pipe_tree.specs.Tree.{view, branch, branches, function_of, accumulator_of, declaration};
-ghost use Rattle.pipe_checks.specs.Uses.{is_it, allows, role_of, role_at, wrong_name, wrong_range, wrong_remainder, wrong_shift};
-ghost use Rattle.pipe_checks.specs.Uses.{is_side, wrong_kernel, factor_places, affine_places, span_places, index_places};
+ghost use Rattle.pipe_checks.specs.Uses.{is_variable_named, allows, role_of, role_at, wrong_name, wrong_range, wrong_remainder, wrong_shift};
+ghost use Rattle.pipe_checks.specs.Uses.{is_stencil_kernel_side, wrong_kernel, factor_places, affine_places, span_places, index_places};
 ghost use Rattle.pipe_checks.specs.Uses.{least_literal, greatest_literal, read_places, stencil_places, expr_places, test_places};
 ghost use Rattle.pipe_checks.specs.Uses.{tests_places, branch_places, branches_places, otherwise_places, function_places};
 ghost use Rattle.pipe_checks.specs.Uses.{accumulator_places, output_places, places_of};
 ghost use Rattle.pipe_checks.specs.inside.Judging.{verdict, judged};
 
-use crate::access::width_of;
+use crate::access::stencil_kernel_width;
 use crate::fault::Violation;
-use crate::symbol::{NameKind, is_same};
+use crate::symbol::{NameKind, is_same_name};
 use crate::table::NameTable;
 use operators::LiteralOp;
 use pipe_tokens::Name;
 use pipe_tree::{
-    Accum, Affine, AffineSpan, Case, Expr, Func, Index, Item, Kernel, Names, Output, Row, Test,
+    Accum, Affine, AffineSpan, Case, Expr, Func, Index, Item, Kernel, Names, Output, StencilRow,
+    Test,
 };
 
 /// The greatest number of a text.
@@ -54,7 +55,7 @@ pub(crate) enum NameRole {
 
 /// What a place requires.
 #[derive(Clone, Copy, Debug, PartialEq, Eq)]
-pub(crate) enum Expected {
+pub(crate) enum ExpectedRole {
     /// A parameter.
     Param,
     /// A table.
@@ -73,40 +74,43 @@ pub(crate) enum Expected {
     Variable,
 }
 
-impl Expected {
-    fn allows(self, role: NameRole) -> bool
+impl ExpectedRole {
+    fn is_met_by(self, role: NameRole) -> bool
         ensures { result ≡ allows self role }
     {
         match self {
-            Expected::Param => matches!(role, NameRole::Param),
-            Expected::Table => matches!(role, NameRole::Table),
-            Expected::Readable => matches!(role, NameRole::Plane | NameRole::Func),
-            Expected::Func => matches!(role, NameRole::Func),
-            Expected::Number => matches!(role, NameRole::Row | NameRole::Column | NameRole::Param),
-            Expected::Row => matches!(role, NameRole::Row),
-            Expected::Column => matches!(role, NameRole::Column),
-            Expected::Variable => matches!(role, NameRole::Row | NameRole::Column),
+            ExpectedRole::Param => matches!(role, NameRole::Param),
+            ExpectedRole::Table => matches!(role, NameRole::Table),
+            ExpectedRole::Readable => matches!(role, NameRole::Plane | NameRole::Func),
+            ExpectedRole::Func => matches!(role, NameRole::Func),
+            ExpectedRole::Number => matches!(
+                role,
+                NameRole::Row | NameRole::Column | NameRole::Param
+            ),
+            ExpectedRole::Row => matches!(role, NameRole::Row),
+            ExpectedRole::Column => matches!(role, NameRole::Column),
+            ExpectedRole::Variable => matches!(role, NameRole::Row | NameRole::Column),
         }
     }
 }
 
 /// The variables of an item, if it has them.
 #[derive(Clone, Copy, Debug)]
-pub(crate) struct Locals {
+pub(crate) struct ItemVariables {
     pub row: Option<Name>,
     pub column: Option<Name>,
 }
 
-fn is_it(variable: &Option<Name>, name: &Name) -> bool
-    ensures { result ≡ is_it variable.now name.now }
+fn is_variable_named(variable: &Option<Name>, name: &Name) -> bool
+    ensures { result ≡ is_variable_named variable.now name.now }
 {
     match variable {
-        Some(variable) => is_same(variable, name),
+        Some(variable) => is_same_name(variable, name),
         None => false,
     }
 }
 
-fn role_of(kind: NameKind) -> NameRole
+fn to_name_role(kind: NameKind) -> NameRole
     ensures { result ≡ role_of kind }
 {
     match kind {
@@ -118,7 +122,7 @@ fn role_of(kind: NameKind) -> NameRole
     }
 }
 
-fn judge_range(number: u32, least: u32, most: u32) -> Result<(), Violation>
+fn check_literal_range(number: u32, least: u32, most: u32) -> Result<(), Violation>
     ensures { result ≡ verdict (wrong_range number least most) }
 {
     if least <= number && number <= most {
@@ -128,7 +132,7 @@ fn judge_range(number: u32, least: u32, most: u32) -> Result<(), Violation>
     }
 }
 
-fn judge_below(number: u32, bound: u32) -> Result<(), Violation>
+fn check_test_remainder(number: u32, bound: u32) -> Result<(), Violation>
     ensures { result ≡ verdict (wrong_remainder number bound) }
 {
     if number < bound {
@@ -138,7 +142,7 @@ fn judge_below(number: u32, bound: u32) -> Result<(), Violation>
     }
 }
 
-fn judge_add(number: i32) -> Result<(), Violation>
+fn check_index_addend(number: i32) -> Result<(), Violation>
     ensures { result ≡ verdict (wrong_shift number) }
 {
     if -MAX_ADD <= number && number <= MAX_ADD {
@@ -149,65 +153,68 @@ fn judge_add(number: i32) -> Result<(), Violation>
 }
 
 /// Whether a kernel may have a side of this length.
-pub(crate) fn is_side(length: usize) -> bool
-    ensures { result ≡ is_side length }
+pub(crate) fn is_stencil_kernel_side(length: usize) -> bool
+    ensures { result ≡ is_stencil_kernel_side length }
 {
     length % 2 == 1 && length <= MAX_SIDE
 }
 
-fn are_long(rows: &[Row], width: usize) -> bool
+fn has_kernel_rows_of_width(rows: &[StencilRow], width: usize) -> bool
     ensures { result ≡ list_all (λ row. length row == width) rows.now }
 {
     rows.iter().all(|row| row.entries().len() == width)
 }
 
-fn judge_kernel(kernel: &Kernel) -> Result<(), Violation>
+fn check_stencil_kernel(kernel: &Kernel) -> Result<(), Violation>
     ensures { result ≡ verdict (wrong_kernel kernel.now) }
 {
     let rows = kernel.rows();
-    let width = width_of(rows);
-    if is_side(rows.len()) && is_side(width) && are_long(rows, width) {
+    let width = stencil_kernel_width(rows);
+    if is_stencil_kernel_side(rows.len())
+        && is_stencil_kernel_side(width)
+        && has_kernel_rows_of_width(rows, width)
+    {
         Ok(())
     } else {
         Err(Violation::BadKernel)
     }
 }
 
-fn judge_literal(op: LiteralOp, number: u32) -> Result<(), Violation>
+fn check_operator_literal(op: LiteralOp, number: u32) -> Result<(), Violation>
     ensures { result ≡ verdict (wrong_range number (least_literal op) (greatest_literal op)) }
 {
     match op {
-        LiteralOp::Div | LiteralOp::Rem => judge_range(number, 1, MAX_NUMBER),
-        LiteralOp::Shl | LiteralOp::Shr => judge_range(number, 0, MAX_SHIFT),
+        LiteralOp::Div | LiteralOp::Rem => check_literal_range(number, 1, MAX_NUMBER),
+        LiteralOp::Shl | LiteralOp::Shr => check_literal_range(number, 0, MAX_SHIFT),
     }
 }
 
-fn role_at(names: &NameTable, locals: &Locals, name: &Name) -> Option<NameRole>
+fn find_name_role(names: &NameTable, locals: &ItemVariables, name: &Name) -> Option<NameRole>
     ensures { result ≡ role_at names.now locals.now name.now }
 {
-    if is_it(&locals.row, name) {
+    if is_variable_named(&locals.row, name) {
         return Some(NameRole::Row);
     }
-    if is_it(&locals.column, name) {
+    if is_variable_named(&locals.column, name) {
         return Some(NameRole::Column);
     }
-    match names.declared_at(name) {
-        Some(declared) => Some(role_of(declared.kind)),
+    match names.find_symbol(name) {
+        Some(declared) => Some(to_name_role(declared.kind)),
         None => None,
     }
 }
 
-fn judge_name(
+fn check_name_role(
     names: &NameTable,
-    locals: &Locals,
+    locals: &ItemVariables,
     name: &Name,
-    expected: Expected,
+    expected: ExpectedRole,
 ) -> Result<(), Violation>
     ensures { result ≡ verdict (wrong_name expected (role_at names.now locals.now name.now)) }
 {
-    match role_at(names, locals, name) {
+    match find_name_role(names, locals, name) {
         Some(role) => {
-            if expected.allows(role) {
+            if expected.is_met_by(role) {
                 Ok(())
             } else {
                 Err(Violation::Kind)
@@ -217,215 +224,247 @@ fn judge_name(
     }
 }
 
-fn judge_factor(names: &NameTable, locals: &Locals, name: &Option<Name>) -> Result<(), Violation>
+fn check_affine_name(
+    names: &NameTable,
+    locals: &ItemVariables,
+    name: &Option<Name>,
+) -> Result<(), Violation>
     ensures { result ≡ judged names.now locals.now (factor_places name.now) }
 {
     match name {
-        Some(name) => judge_name(names, locals, name, Expected::Param),
+        Some(name) => check_name_role(names, locals, name, ExpectedRole::Param),
         None => Ok(()),
     }
 }
 
-fn judge_affine(names: &NameTable, locals: &Locals, affine: &Affine) -> Result<(), Violation>
+fn check_affine_sum(
+    names: &NameTable,
+    locals: &ItemVariables,
+    affine: &Affine,
+) -> Result<(), Violation>
     ensures { result ≡ judged names.now locals.now (affine_places affine.now) }
 {
     for term in affine.terms() {
-        judge_factor(names, locals, &term.name)?;
+        check_affine_name(names, locals, &term.name)?;
     }
     Ok(())
 }
 
-fn judge_span(names: &NameTable, locals: &Locals, span: &AffineSpan) -> Result<(), Violation>
+fn check_affine_span(
+    names: &NameTable,
+    locals: &ItemVariables,
+    span: &AffineSpan,
+) -> Result<(), Violation>
     ensures { result ≡ judged names.now locals.now (span_places span.now) }
 {
-    judge_affine(names, locals, &span.first)?;
-    judge_affine(names, locals, &span.last)
+    check_affine_sum(names, locals, &span.first)?;
+    check_affine_sum(names, locals, &span.last)
 }
 
 #[tactic(auto, using(crate::proofs::Judging::judged_append, crate::proofs::Judging::judged_one), unfolding(crate::specs::Uses::index_places))]
-fn judge_index(
+fn check_read_index(
     names: &NameTable,
-    locals: &Locals,
+    locals: &ItemVariables,
     index: &Index,
-    expected: Expected,
+    expected: ExpectedRole,
 ) -> Result<(), Violation>
     ensures { result ≡ judged names.now locals.now (index_places index.now expected) }
 {
-    judge_range(index.mul, 1, MAX_SCALE)?;
-    judge_name(names, locals, &index.name, expected)?;
-    judge_add(index.add)?;
-    judge_range(index.div, 1, MAX_SCALE)
+    check_literal_range(index.mul, 1, MAX_SCALE)?;
+    check_name_role(names, locals, &index.name, expected)?;
+    check_index_addend(index.add)?;
+    check_literal_range(index.div, 1, MAX_SCALE)
 }
 
-fn judge_read(
+fn check_read_expr(
     names: &NameTable,
-    locals: &Locals,
+    locals: &ItemVariables,
     name: &Name,
     row: &Index,
     column: &Index,
 ) -> Result<(), Violation>
     ensures { result ≡ judged names.now locals.now (read_places name.now row.now column.now) }
 {
-    judge_name(names, locals, name, Expected::Readable)?;
-    judge_index(names, locals, row, Expected::Row)?;
-    judge_index(names, locals, column, Expected::Column)
+    check_name_role(names, locals, name, ExpectedRole::Readable)?;
+    check_read_index(names, locals, row, ExpectedRole::Row)?;
+    check_read_index(names, locals, column, ExpectedRole::Column)
 }
 
-fn judge_stencil(
+fn check_stencil_expr(
     names: &NameTable,
-    locals: &Locals,
+    locals: &ItemVariables,
     name: &Name,
     divisor: u32,
     kernel: &Kernel,
 ) -> Result<(), Violation>
     ensures { result ≡ judged names.now locals.now (stencil_places name.now divisor kernel.now) }
 {
-    judge_name(names, locals, name, Expected::Readable)?;
-    judge_range(divisor, 1, MAX_NUMBER)?;
-    judge_kernel(kernel)
+    check_name_role(names, locals, name, ExpectedRole::Readable)?;
+    check_literal_range(divisor, 1, MAX_NUMBER)?;
+    check_stencil_kernel(kernel)
 }
 
-fn judge_expr(names: &NameTable, locals: &Locals, expr: &Expr) -> Result<(), Violation>
+fn check_expr(names: &NameTable, locals: &ItemVariables, expr: &Expr) -> Result<(), Violation>
     ensures { result ≡ judged names.now locals.now (expr_places (view expr.now)) }
 {
     match expr {
-        Expr::Number(number) => judge_range(*number, 0, MAX_NUMBER),
-        Expr::Name(name) => judge_name(names, locals, name, Expected::Number),
-        Expr::Read(name, row, column) => judge_read(names, locals, name, row, column),
+        Expr::Number(number) => check_literal_range(*number, 0, MAX_NUMBER),
+        Expr::Name(name) => check_name_role(names, locals, name, ExpectedRole::Number),
+        Expr::Read(name, row, column) => check_read_expr(names, locals, name, row, column),
         Expr::Lookup(name, index) => {
-            judge_name(names, locals, name, Expected::Table)?;
-            judge_expr(names, locals, index)
+            check_name_role(names, locals, name, ExpectedRole::Table)?;
+            check_expr(names, locals, index)
         }
-        Expr::Unary(_, operand) => judge_expr(names, locals, operand),
+        Expr::Unary(_, operand) => check_expr(names, locals, operand),
         Expr::Binary(_, left, right) => {
-            judge_expr(names, locals, left)?;
-            judge_expr(names, locals, right)
+            check_expr(names, locals, left)?;
+            check_expr(names, locals, right)
         }
         Expr::Ternary(_, first, second, third) => {
-            judge_expr(names, locals, first)?;
-            judge_expr(names, locals, second)?;
-            judge_expr(names, locals, third)
+            check_expr(names, locals, first)?;
+            check_expr(names, locals, second)?;
+            check_expr(names, locals, third)
         }
         Expr::Literal(op, operand, number) => {
-            judge_expr(names, locals, operand)?;
-            judge_literal(*op, *number)
+            check_expr(names, locals, operand)?;
+            check_operator_literal(*op, *number)
         }
         Expr::Select(left, _, right, then, otherwise) => {
-            judge_expr(names, locals, left)?;
-            judge_expr(names, locals, right)?;
-            judge_expr(names, locals, then)?;
-            judge_expr(names, locals, otherwise)
+            check_expr(names, locals, left)?;
+            check_expr(names, locals, right)?;
+            check_expr(names, locals, then)?;
+            check_expr(names, locals, otherwise)
         }
-        Expr::Stencil(name, divisor, kernel) => judge_stencil(
+        Expr::Stencil(name, divisor, kernel) => check_stencil_expr(
             names, locals, name, *divisor, kernel,
         ),
     }
 }
 
 #[tactic(auto, using(crate::proofs::Judging::judged_append, crate::proofs::Judging::judged_one), unfolding(crate::specs::Uses::test_places))]
-fn judge_test(names: &NameTable, locals: &Locals, test: &Test) -> Result<(), Violation>
+fn check_condition_test(
+    names: &NameTable,
+    locals: &ItemVariables,
+    test: &Test,
+) -> Result<(), Violation>
     ensures { result ≡ judged names.now locals.now (test_places test.now) }
 {
     match test {
         Test::Compare(name, _, bound) => {
-            judge_name(names, locals, name, Expected::Variable)?;
-            judge_affine(names, locals, bound)
+            check_name_role(names, locals, name, ExpectedRole::Variable)?;
+            check_affine_sum(names, locals, bound)
         }
         Test::Remainder(name, modulus, remainder) => {
-            judge_name(names, locals, name, Expected::Variable)?;
-            judge_range(*modulus, 1, MAX_NUMBER)?;
-            judge_below(*remainder, *modulus)
+            check_name_role(names, locals, name, ExpectedRole::Variable)?;
+            check_literal_range(*modulus, 1, MAX_NUMBER)?;
+            check_test_remainder(*remainder, *modulus)
         }
     }
 }
 
-fn judge_tests(names: &NameTable, locals: &Locals, tests: &[Test]) -> Result<(), Violation>
+fn check_condition_tests(
+    names: &NameTable,
+    locals: &ItemVariables,
+    tests: &[Test],
+) -> Result<(), Violation>
     ensures { result ≡ judged names.now locals.now (tests_places tests.now) }
 {
     for test in tests {
-        judge_test(names, locals, test)?;
+        check_condition_test(names, locals, test)?;
     }
     Ok(())
 }
 
-fn judge_case(names: &NameTable, locals: &Locals, case: &Case) -> Result<(), Violation>
+fn check_case(names: &NameTable, locals: &ItemVariables, case: &Case) -> Result<(), Violation>
     ensures { result ≡ judged names.now locals.now (branch_places (branch case.now)) }
 {
-    judge_tests(names, locals, case.condition.tests())?;
-    judge_expr(names, locals, &case.value)
+    check_condition_tests(names, locals, case.condition.tests())?;
+    check_expr(names, locals, &case.value)
 }
 
-fn judge_cases(names: &NameTable, locals: &Locals, cases: &[Case]) -> Result<(), Violation>
+fn check_cases(names: &NameTable, locals: &ItemVariables, cases: &[Case]) -> Result<(), Violation>
     ensures { result ≡ judged names.now locals.now (branches_places (branches cases.now)) }
 {
     for case in cases {
-        judge_case(names, locals, case)?;
+        check_case(names, locals, case)?;
     }
     Ok(())
 }
 
-fn judge_otherwise(
+fn check_otherwise_expr(
     names: &NameTable,
-    locals: &Locals,
+    locals: &ItemVariables,
     otherwise: &Option<Expr>,
 ) -> Result<(), Violation>
     ensures { result
         ≡ judged names.now locals.now (otherwise_places (option_map view otherwise.now)) }
 {
     match otherwise {
-        Some(value) => judge_expr(names, locals, value),
+        Some(value) => check_expr(names, locals, value),
         None => Ok(()),
     }
 }
 
-fn judge_func(names: &NameTable, locals: &Locals, func: &Func) -> Result<(), Violation>
+fn check_func_item(names: &NameTable, locals: &ItemVariables, func: &Func) -> Result<(), Violation>
     ensures { result ≡ judged names.now locals.now (function_places (function_of func.now)) }
 {
-    judge_span(names, locals, &func.row.span)?;
-    judge_span(names, locals, &func.column.span)?;
-    judge_cases(names, locals, func.cases.list())?;
-    judge_otherwise(names, locals, &func.otherwise)
+    check_affine_span(names, locals, &func.row.span)?;
+    check_affine_span(names, locals, &func.column.span)?;
+    check_cases(names, locals, func.cases.case_list())?;
+    check_otherwise_expr(names, locals, &func.otherwise)
 }
 
-fn judge_accum(names: &NameTable, locals: &Locals, accum: &Accum) -> Result<(), Violation>
+fn check_accum_item(
+    names: &NameTable,
+    locals: &ItemVariables,
+    accum: &Accum,
+) -> Result<(), Violation>
     ensures { result ≡ judged names.now locals.now (accumulator_places (accumulator_of accum.now)) }
 {
-    judge_span(names, locals, &accum.bins)?;
-    judge_span(names, locals, &accum.row.span)?;
-    judge_span(names, locals, &accum.column.span)?;
-    judge_expr(names, locals, &accum.value)?;
-    judge_expr(names, locals, &accum.bin)
+    check_affine_span(names, locals, &accum.bins)?;
+    check_affine_span(names, locals, &accum.row.span)?;
+    check_affine_span(names, locals, &accum.column.span)?;
+    check_expr(names, locals, &accum.value)?;
+    check_expr(names, locals, &accum.bin)
 }
 
-fn judge_outputs(names: &NameTable, locals: &Locals, outputs: &Names) -> Result<(), Violation>
+fn check_output_names(
+    names: &NameTable,
+    locals: &ItemVariables,
+    outputs: &Names,
+) -> Result<(), Violation>
     ensures { result ≡ judged names.now locals.now (output_places outputs.now) }
 {
     match outputs {
-        Names::One(name) => judge_name(names, locals, name, Expected::Func),
+        Names::One(name) => check_name_role(names, locals, name, ExpectedRole::Func),
         Names::Three(red, green, blue) => {
-            judge_name(names, locals, red, Expected::Func)?;
-            judge_name(names, locals, green, Expected::Func)?;
-            judge_name(names, locals, blue, Expected::Func)
+            check_name_role(names, locals, red, ExpectedRole::Func)?;
+            check_name_role(names, locals, green, ExpectedRole::Func)?;
+            check_name_role(names, locals, blue, ExpectedRole::Func)
         }
     }
 }
 
 /// The first place of the item that does not have what it requires, as a fault.
-pub(crate) fn judge_item(names: &NameTable, locals: &Locals, item: &Item) -> Result<(), Violation>
+pub(crate) fn check_item_places(
+    names: &NameTable,
+    locals: &ItemVariables,
+    item: &Item,
+) -> Result<(), Violation>
     ensures { result ≡ judged names.now locals.now (places_of (declaration item.now)) }
 {
     match item {
         Item::Param(_) => Ok(()),
-        Item::Table(table) => judge_span(names, locals, &table.span),
+        Item::Table(table) => check_affine_span(names, locals, &table.span),
         Item::Image(image) => {
-            judge_affine(names, locals, &image.rows)?;
-            judge_affine(names, locals, &image.columns)
+            check_affine_sum(names, locals, &image.rows)?;
+            check_affine_sum(names, locals, &image.columns)
         }
-        Item::Func(func) => judge_func(names, locals, func),
-        Item::Accum(accum) => judge_accum(names, locals, accum),
+        Item::Func(func) => check_func_item(names, locals, func),
+        Item::Accum(accum) => check_accum_item(names, locals, accum),
         Item::Output(output) => {
-            judge_outputs(names, locals, &output.names)?;
-            judge_range(output.max, 1, MAX_SAMPLE)
+            check_output_names(names, locals, &output.names)?;
+            check_literal_range(output.max, 1, MAX_SAMPLE)
         }
     }
 }

@@ -3,8 +3,8 @@ use Rattle.std.proofs.Common.{Bool, true, ◌≡◌, List, [], ◌∷◌, ◌++�
 use Rattle.std.specs.Prelude.{◌||◌}
 use Rattle.std.specs.List.{list_any}
 use Rattle.std.specs.Global.{Vec}
-use Rattle.pipe_terms.specs.declared.parse_error.ParseError.{ParseError}
-use Rattle.pipe_terms.specs.declared.parse_error.ParseError.TheVariants as errors
+use Rattle.pipe_term_parser.specs.declared.parse_error.ParseError.{ParseError}
+use Rattle.pipe_term_parser.specs.declared.parse_error.ParseError.TheVariants as errors
 use Rattle.pipe_tree.specs.declared.tree.Item.{Item}
 use Rattle.pipe_tree.specs.Tokens.{head}
 use Rattle.pipe_tree.specs.Grammar.{is_output}
@@ -16,7 +16,7 @@ use Rattle.pipe_tree.specs.Lookahead.{is_word_at}
 use Rattle.pipe_tree.specs.Tree.{Node, Branch, Declaration, declaration, declarations}
 use Rattle.pipe_tree.specs.Reading.{At, Answer, ◌>>=◌, gives, choose, while, next_behind, word, a_test, condition, value, a_case}
 use Rattle.pipe_tree.specs.Reading.{item, goes_on, other, others, value_of}
-use Rattle.pipe_terms.specs.Answers.{Fails, Reads}
+use Rattle.pipe_term_parser.specs.Answers.{Fails, Reads}
 use Rattle.pipe_tree.proofs.ItemLaws as laws
 use Rattle.pipe_tree.proofs.ProgramLaws as programs
 

@@ -8,10 +8,10 @@ ghost use Rattle.pipe_tree.specs.Content.{content};
 ghost use Rattle.pipe_tree.specs.Faults.{IsText, IsFault};
 ghost use Rattle.pipe_tree.specs.FaultOf.{fault_of};
 
-use crate::items::program;
-use pipe_terms::ParseError;
+use crate::items::parse_program;
+use pipe_term_parser::ParseError;
 use pipe_tokens::lex;
-use pipe_tree::{Kind, MAX_BYTES, ParseFault, Tree};
+use pipe_tree::{MAX_BYTES, ParseFault, ParseFaultKind, Tree};
 use std::alloc::Global;
 
 /// The tree of a program's text.
@@ -34,33 +34,33 @@ pub fn parse(alloc: Global, text: &[u8]) -> Result<Tree, ParseFault>
         return Err(ParseFault::TooLong(MAX_BYTES));
     }
     let lexed = lex(alloc, text)?;
-    match program(alloc, &lexed.tokens) {
+    match parse_program(alloc, &lexed.tokens) {
         Ok(items) => Ok(Tree::new(items)),
         Err(ParseError::Memory) => Err(ParseFault::Memory),
         Err(ParseError::Fault(halt)) => {
-            let offset = offset_of(&lexed.starts, halt.remaining, text.len());
-            Err(fault_at(halt.kind, offset))
+            let offset = find_fault_offset(&lexed.starts, halt.remaining, text.len());
+            Err(build_parse_fault(halt.kind, offset))
         }
     }
 }
 
 // The start of the token from which on `remaining` tokens remain, or the end if there is none.
-fn offset_of(starts: &[usize], remaining: usize, end: usize) -> usize
+fn find_fault_offset(starts: &[usize], remaining: usize, end: usize) -> usize
     ensures { result ≡ unwrap_or (slice_get starts.now (length starts.now - remaining)) end }
 {
     let passed = starts.len().saturating_sub(remaining);
     starts.get(passed).copied().unwrap_or(end)
 }
 
-fn fault_at(kind: Kind, offset: usize) -> ParseFault
+fn build_parse_fault(kind: ParseFaultKind, offset: usize) -> ParseFault
     ensures { result ≡ fault_of kind offset }
 {
     match kind {
-        Kind::NotAscii => ParseFault::NotAscii(offset),
-        Kind::BadToken => ParseFault::BadToken(offset),
-        Kind::Unexpected => ParseFault::Unexpected(offset),
-        Kind::NumberTooBig => ParseFault::NumberTooBig(offset),
-        Kind::TooDeep => ParseFault::TooDeep(offset),
-        Kind::TooMany => ParseFault::TooMany(offset),
+        ParseFaultKind::NotAscii => ParseFault::NotAscii(offset),
+        ParseFaultKind::BadToken => ParseFault::BadToken(offset),
+        ParseFaultKind::Unexpected => ParseFault::Unexpected(offset),
+        ParseFaultKind::NumberTooBig => ParseFault::NumberTooBig(offset),
+        ParseFaultKind::TooDeep => ParseFault::TooDeep(offset),
+        ParseFaultKind::TooMany => ParseFault::TooMany(offset),
     }
 }

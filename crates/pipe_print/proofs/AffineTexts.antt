@@ -7,7 +7,7 @@ use Rattle.std.proofs.lemmas.List.{append-nil}
 use Rattle.pipe_tokens.specs.declared.token.Token.{Token}
 use Rattle.pipe_tokens.specs.declared.token.Punct.TheVariants as mark
 use Rattle.pipe_tokens.specs.declared.token.Keyword.TheVariants as word
-use Rattle.pipe_tree.specs.declared.tree.Term.{Term}
+use Rattle.pipe_tree.specs.declared.tree.AffineTerm.{AffineTerm}
 use Rattle.pipe_tree.specs.declared.tree.AffineSpan.{AffineSpan}
 use Rattle.pipe_tree.specs.declared.tree.Variable.{Variable}
 use Rattle.pipe_tree.specs.Limits.{Tagged, plain}
@@ -72,11 +72,11 @@ scaled_name_printed text f (inr p) =
     (becomes (λ t k. inr k) (chain p (name_printed p.first) (gives p.second)))
 
 -- one term more
-term_printed : (negative : Bool) (terms : List Term) (text : List Tagged) (more : List Term) (p : term negative terms text more)
+term_printed : (negative : Bool) (terms : List AffineTerm) (text : List Tagged) (more : List AffineTerm) (p : term negative terms text more)
     → Printed (term negative terms) more (product_tokens p.value.0 p.value.1) text
 term_printed negative terms text more p = relabel (append-nil _) (chain p (scaled_name_printed p.front p.value p.first) (gives p.second))
 
-next_term_adds : (terms more : List Term) (text : List Tagged) → next_term terms text more
+next_term_adds : (terms more : List AffineTerm) (text : List Tagged) → next_term terms text more
     → Adds (next_term terms) next_term_tokens terms text more
 next_term_adds terms more text p =
     let q = p.second in
@@ -87,13 +87,13 @@ signed_is : (b : Bool) (ts : List Token) → signed_tokens b [] ++ ts ≡ signed
 signed_is true ts = refl
 signed_is false ts = refl
 
-pub affine_printed : (text : List Tagged) (terms : List Term) → affine text terms → Printed affine terms (affine_tokens terms) text
+pub affine_printed : (text : List Tagged) (terms : List AffineTerm) → affine text terms → Printed affine terms (affine_tokens terms) text
 unfolding affine
 affine_printed text terms p =
     let q = p.second in
-    let first : Term = record { negative = p.value; factor = q.first.value.0; name = q.first.value.1 } in
+    let first : AffineTerm = record { negative = p.value; factor = q.first.value.0; name = q.first.value.1 } in
     let others = many_adds next_term next_term_tokens next_term_adds q.value terms q.back q.second in
-    let list : terms ≡ first ∷ others.added = others.list ∙ ap (λ (l : List Term). l ++ others.added) q.first.second.value in
+    let list : terms ≡ first ∷ others.added = others.list ∙ ap (λ (l : List AffineTerm). l ++ others.added) q.first.second.value in
     let is : signed_tokens p.value [] ++ (term_tokens first ++ flat_map next_term_tokens others.added) ≡ affine_tokens terms =
     sym (append_assoc (signed_tokens p.value []) (term_tokens first) (flat_map next_term_tokens others.added))
     ∙ ap (λ (l : List Token). l ++ flat_map next_term_tokens others.added) (signed_is p.value (term_tokens first))

@@ -7,18 +7,18 @@ use Rattle.pipe_tokens.specs.declared.token.Token.TheVariants as token
 use Rattle.pipe_tokens.specs.declared.token.Punct.{Punct}
 use Rattle.pipe_tokens.specs.declared.token.Punct.TheVariants as mark
 use Rattle.pipe_tokens.specs.declared.token.Keyword.{Keyword}
-use Rattle.pipe_tree.specs.declared.ahead.Call.{Call}
-use Rattle.pipe_tree.specs.declared.ahead.Call.TheVariants as calls
-use Rattle.pipe_tree.specs.declared.ahead.Factor.{Factor}
-use Rattle.pipe_tree.specs.declared.ahead.Factor.TheVariants as factors
+use Rattle.pipe_tree.specs.declared.ahead.CallOp.{CallOp}
+use Rattle.pipe_tree.specs.declared.ahead.CallOp.TheVariants as calls
+use Rattle.pipe_tree.specs.declared.ahead.ProductOp.{ProductOp}
+use Rattle.pipe_tree.specs.declared.ahead.ProductOp.TheVariants as factors
 use Rattle.pipe_tree.specs.Limits.{Tagged, plain}
 use Rattle.pipe_tree.specs.Tree.{Node, binary}
 use Rattle.pipe_tree.specs.Grammar.{Rule, Then, Gives, Takes, Some_of, times, many, leaf, literal_number, named, a_stencil}
 use Rattle.pipe_tree.specs.Grammar.{operand, product_more, product, sum_op, sum_more, sums, negation, group, arguments}
 use Rattle.pipe_tree.specs.Grammar.{called, selected, opened, looked_up, Unary, Product, Expression}
 use Rattle.pipe_tree.specs.Grammar as g
-use Rattle.pipe_print.specs.declared.place.Place.{Place}
-use Rattle.pipe_print.specs.declared.place.Place.TheVariants as place
+use Rattle.pipe_print.specs.declared.place.ExpressionPlace.{ExpressionPlace}
+use Rattle.pipe_print.specs.declared.place.ExpressionPlace.TheVariants as place
 use Rattle.pipe_print.specs.Canonical as c
 use Rattle.pipe_print.specs.Canonical.{grouped, expression_tokens}
 use Rattle.pipe_print.proofs.Printed.{Shortens, nothing, leaves_out, Shortens-append, Printed, fused, joined, at_text, chain}
@@ -154,14 +154,14 @@ abbrev Everywhere : Rule Node → Node → List Tagged → Type 0
 Everywhere V e text = Fits V (product V) (sums (product V)) e text text text
 
 -- what is no sum and no product is the same everywhere
-same_places : (V : Rule Node) (e : Node) (text : List Tagged) → ((p : Place) → Printed V e (expression_tokens e p) text)
+same_places : (V : Rule Node) (e : Node) (text : List Tagged) → ((p : ExpressionPlace) → Printed V e (expression_tokens e p) text)
     → Everywhere V e text
 same_places V e text at =
     record { operand = at place.Unary; factor = none_more (at place.Product); whole = none_more (none_more (at place.Sum)) }
 
 -- ---- leaves
 
-leaf_printed : (p : Place) (text : List Tagged) (e : Node) → leaf text e → Printed leaf e (expression_tokens e p) text
+leaf_printed : (p : ExpressionPlace) (text : List Tagged) (e : Node) → leaf text e → Printed leaf e (expression_tokens e p) text
 leaf_printed p text e (inl (inl h)) =
     becomes (λ t k. inl (inl k))
     (relabel (ap (λ (e : Node). expression_tokens e p) (sym h.second.value)) (chain h (int_printed h.first) (gives h.second)))
@@ -188,7 +188,7 @@ record Operand (R : Rule Node) (t : Token) (a b : Node) (text : List Tagged) : T
 
 module _ (n m : ℕ) (each : (text : List Tagged) (e : Node) → Unary n text e → Everywhere (Unary m) e text)
     (above : (text : List Tagged) (e : Node) → Unary n text e → Everywhere (Unary (suc m)) e text) where
-  operand_printed : (t : Token) (f : Factor) → IsTokenOf t f → (a b : Node) (text : List Tagged) → operand (Unary n) a f text b
+  operand_printed : (t : Token) (f : ProductOp) → IsTokenOf t f → (a b : Node) (text : List Tagged) → operand (Unary n) a f text b
       → Operand (operand (Unary m) a f) t a b text
   operand_printed t factors.Times is a b text p =
       let e = p.second.value in
@@ -306,19 +306,19 @@ module _ (n : ℕ) (each : UnaryFits n) where
 
 module _ (U E V F : Rule Node) (unary_at : (text : List Tagged) (e : Node) → U text e → Printed V e (expression_tokens e place.Unary) text)
     (inner : (text : List Tagged) (e : Node) → E text e → Printed F e (expression_tokens e place.Sum) text) where
-  negation_printed : (p : Place) (text : List Tagged) (e : Node) → negation U text e → Printed (negation V) e (expression_tokens e p) text
+  negation_printed : (p : ExpressionPlace) (text : List Tagged) (e : Node) → negation U text e → Printed (negation V) e (expression_tokens e p) text
   negation_printed p text e p1 =
       let p2 = p1.second in
       relabel (ap (λ (e : Node). expression_tokens e p) (sym p2.second.value))
       (rechain p1 (takes p1.first) (reended p2 (unary_at p2.front p2.value p2.first)))
 
   -- the operands of an operator that this word calls
-  record Arguments (w : Keyword) (op : Call) (e : Node) (text : List Tagged) : Type 0 where
+  record Arguments (w : Keyword) (op : CallOp) (e : Node) (text : List Tagged) : Type 0 where
     operands : List Token
     printed : Printed (arguments F op) e operands text
-    whole : (p : Place) → c.word w ++ grouped operands ≡ expression_tokens e p
+    whole : (p : ExpressionPlace) → c.word w ++ grouped operands ≡ expression_tokens e p
 
-  arguments_printed : (w : Keyword) (op : Call) → IsWordOf w op → (text : List Tagged) (e : Node) → arguments E op text e
+  arguments_printed : (w : Keyword) (op : CallOp) → IsWordOf w op → (text : List Tagged) (e : Node) → arguments E op text e
       → Arguments w op e text
   arguments_printed w (calls.Unary op) is text e p1 =
       record {
@@ -352,7 +352,7 @@ module _ (U E V F : Rule Node) (unary_at : (text : List Tagged) (e : Node) → U
         whole = λ p. rw (p5.second.value, is) refl;
       }
 
-  called_printed : (p : Place) (text : List Tagged) (e : Node) → called E text e → Printed (called F) e (expression_tokens e p) text
+  called_printed : (p : ExpressionPlace) (text : List Tagged) (e : Node) → called E text e → Printed (called F) e (expression_tokens e p) text
   called_printed p text e p1 =
       let p2 = p1.second in
       let p3 = p2.second in
@@ -363,7 +363,7 @@ module _ (U E V F : Rule Node) (unary_at : (text : List Tagged) (e : Node) → U
       (rechain p1 (relabel (ap (λ (t : Token). t ∷ []) by.token_is) (means p1.first))
       (rechain p2 (takes p2.first) (rechain p3 a.printed (rechain p4 (takes p4.first) (gives p4.second)))))
 
-  selected_printed : (p : Place) (text : List Tagged) (e : Node) → selected E text e → Printed (selected F) e (expression_tokens e p) text
+  selected_printed : (p : ExpressionPlace) (text : List Tagged) (e : Node) → selected E text e → Printed (selected F) e (expression_tokens e p) text
   selected_printed p text e p1 =
       let p2 = p1.second in
       let p3 = p2.second in
@@ -381,7 +381,7 @@ module _ (U E V F : Rule Node) (unary_at : (text : List Tagged) (e : Node) → U
       (rechain p6 (takes p6.first) (rechain p7 (inner p7.front p7.value p7.first) (rechain p8 (takes p8.first)
       (rechain p9 (inner p9.front p9.value p9.first) (rechain p10 (takes p10.first) (gives p10.second)))))))))))
 
-  looked_printed : (p : Place) (text : List Tagged) (e : Node) → looked_up E text e → Printed (looked_up F) e (expression_tokens e p) text
+  looked_printed : (p : ExpressionPlace) (text : List Tagged) (e : Node) → looked_up E text e → Printed (looked_up F) e (expression_tokens e p) text
   looked_printed p text e p1 =
       let p2 = p1.second in
       let p3 = p2.second in

@@ -17,7 +17,7 @@ use Rattle.pipe_print.specs.Canonical as c
 use Rattle.pipe_print.specs.Canonical.{◌⌢◌, each_behind, scaled_tokens, addend_tokens, divisor_tokens, is_zero, grouped}
 use Rattle.pipe_print.specs.Canonical.{grouped_if, index_tokens, entry_tokens, row_tokens, kernel_tokens, expression_tokens}
 use Rattle.pipe_print.specs.Canonical.{signed_tokens}
-use Rattle.pipe_print.specs.declared.place.Place.{Place}
+use Rattle.pipe_print.specs.declared.place.ExpressionPlace.{ExpressionPlace}
 use Rattle.pipe_print.proofs.Printed.{Printed, Drops, joined, at_text, chain, ended, gives, gives_none, gives_dropped, takes}
 use Rattle.pipe_print.proofs.Printed.{takes_dropped, then_dropped, relabel, becomes, skip, skip_back, Adds, adds_one, many_adds}
 use Rattle.pipe_print.proofs.SingleTokens.{name_printed, sign_printed, int_printed, int_dropped, sign_dropped}
@@ -207,7 +207,7 @@ index_printed text i (inr p) =
 
 -- ---- names and reads
 
-pub named_printed : (place : Place) (text : List Tagged) (e : Node) → named text e → Printed named e (expression_tokens e place) text
+pub named_printed : (place : ExpressionPlace) (text : List Tagged) (e : Node) → named text e → Printed named e (expression_tokens e place) text
 named_printed place text e p =
     elim p.second [
       | inl q ↦
@@ -265,7 +265,7 @@ kernel_printed text rows p =
     (chain p (takes p.first) (chain q (separated_printed (token.Punct mark.Comma) row row_tokens row_printed q.front q.value q.first)
     (chain r (takes r.first) (gives r.second))))
 
-pub stencil_printed : (place : Place) (text : List Tagged) (e : Node) → a_stencil text e
+pub stencil_printed : (place : ExpressionPlace) (text : List Tagged) (e : Node) → a_stencil text e
     → Printed a_stencil e (expression_tokens e place) text
 stencil_printed place text e p1 =
     let p2 = p1.second in

@@ -6,12 +6,12 @@ use Rattle.pipe_tokens.specs.declared.token.Punct.TheVariants as mark
 use Rattle.pipe_tokens.specs.declared.token.Keyword.{Keyword}
 use Rattle.pipe_tokens.specs.declared.token.Keyword.TheVariants as word
 use Rattle.operators.specs.declared.operator.Relation.{Relation}
-use Rattle.operators.specs.declared.operator.Fold.{Fold}
+use Rattle.operators.specs.declared.operator.ReductionOp.{ReductionOp}
 use Rattle.pipe_tree.specs.Limits.{Tagged, plain}
-use Rattle.pipe_tree.specs.declared.ahead.Call.{Call}
-use Rattle.pipe_tree.specs.declared.ahead.Call.TheVariants as calls
-use Rattle.pipe_tree.specs.declared.ahead.Factor.{Factor}
-use Rattle.pipe_tree.specs.declared.ahead.Factor.TheVariants as factors
+use Rattle.pipe_tree.specs.declared.ahead.CallOp.{CallOp}
+use Rattle.pipe_tree.specs.declared.ahead.CallOp.TheVariants as calls
+use Rattle.pipe_tree.specs.declared.ahead.ProductOp.{ProductOp}
+use Rattle.pipe_tree.specs.declared.ahead.ProductOp.TheVariants as factors
 use Rattle.pipe_tree.specs.Operators.{name_at, sign_at, factor_at, call_at, relation_at, fold_at}
 use Rattle.pipe_tree.specs.Grammar as g
 use Rattle.pipe_tree.specs.Grammar.{Rule, Takes, Means, Some_of}
@@ -49,35 +49,35 @@ means_relation (token.Punct mark.AtLeast) r e = ap (λ (r : Relation). c.mark (c
 means_relation (token.Punct mark.Equals) r e = ap (λ (r : Relation). c.mark (c.relation_mark r)) (some_is e)
 means_relation _ r e = absurd cc
 
-means_fold : (t : Token) (f : Fold) → fold_at (Some t) ≡ Some f → t ∷ [] ≡ c.word (c.fold_word f)
-means_fold (token.Keyword word.Sum) f e = ap (λ (f : Fold). c.word (c.fold_word f)) (some_is e)
-means_fold (token.Keyword word.Min) f e = ap (λ (f : Fold). c.word (c.fold_word f)) (some_is e)
-means_fold (token.Keyword word.Max) f e = ap (λ (f : Fold). c.word (c.fold_word f)) (some_is e)
+means_fold : (t : Token) (f : ReductionOp) → fold_at (Some t) ≡ Some f → t ∷ [] ≡ c.word (c.fold_word f)
+means_fold (token.Keyword word.Sum) f e = ap (λ (f : ReductionOp). c.word (c.fold_word f)) (some_is e)
+means_fold (token.Keyword word.Min) f e = ap (λ (f : ReductionOp). c.word (c.fold_word f)) (some_is e)
+means_fold (token.Keyword word.Max) f e = ap (λ (f : ReductionOp). c.word (c.fold_word f)) (some_is e)
 means_fold _ f e = absurd cc
 
 -- the token of an operator of a product
-abbrev pub IsTokenOf : Token → Factor → Type 0
+abbrev pub IsTokenOf : Token → ProductOp → Type 0
 IsTokenOf t factors.Times = t ≡ token.Punct mark.Star
 IsTokenOf t (factors.Literal op) = t ≡ token.Punct (c.literal_mark op)
 
-pub means_factor : (t : Token) (f : Factor) → factor_at (Some t) ≡ Some f → IsTokenOf t f
+pub means_factor : (t : Token) (f : ProductOp) → factor_at (Some t) ≡ Some f → IsTokenOf t f
 means_factor t f e = grind arith
 
 -- the word by which an operator is called
-abbrev pub IsWordOf : Keyword → Call → Type 0
+abbrev pub IsWordOf : Keyword → CallOp → Type 0
 IsWordOf w (calls.Unary op) = c.unary_form op ≡ unary_forms.Call w
 IsWordOf w (calls.Binary op) = c.binary_form op ≡ binary_forms.Call w
 IsWordOf w (calls.Ternary op) = c.ternary_word op ≡ w
 
-pub record CalledBy (t : Token) (op : Call) : Type 0 where
+pub record CalledBy (t : Token) (op : CallOp) : Type 0 where
   pub word : Keyword
   pub token_is : t ≡ token.Keyword word
   pub word_is : IsWordOf word op
 
-call_of_word : (w : Keyword) (op : Call) → call_at (Some (token.Keyword w)) ≡ Some op → IsWordOf w op
+call_of_word : (w : Keyword) (op : CallOp) → call_at (Some (token.Keyword w)) ≡ Some op → IsWordOf w op
 call_of_word w op e = grind arith
 
-pub means_call : (t : Token) (op : Call) → call_at (Some t) ≡ Some op → CalledBy t op
+pub means_call : (t : Token) (op : CallOp) → call_at (Some t) ≡ Some op → CalledBy t op
 means_call (token.Keyword w) op e = record { word = w; token_is = refl; word_is = call_of_word w op e }
 means_call _ op e = absurd cc
 
@@ -90,7 +90,7 @@ sign_printed {b = b} p = relabel (means_sign p.token b p.means) (means p)
 pub relation_printed : {text : List Tagged} {r : Relation} → g.relation text r → Printed g.relation r (c.mark (c.relation_mark r)) text
 relation_printed {r = r} p = relabel (means_relation p.token r p.means) (means p)
 
-pub fold_printed : {text : List Tagged} {f : Fold} → g.fold text f → Printed g.fold f (c.word (c.fold_word f)) text
+pub fold_printed : {text : List Tagged} {f : ReductionOp} → g.fold text f → Printed g.fold f (c.word (c.fold_word f)) text
 fold_printed {f = f} p = relabel (means_fold p.token f p.means) (means p)
 
 -- a number; one that is too big is read as 0

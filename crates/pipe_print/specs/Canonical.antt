@@ -12,7 +12,7 @@ use Rattle.pipe_tokens.specs.declared.token.Punct.TheVariants.{Percent, ShiftLef
 use Rattle.pipe_tokens.specs.declared.token.Keyword.{Keyword}
 use Rattle.pipe_tokens.specs.declared.token.Keyword.TheVariants as words
 use Rattle.pipe_tokens.specs.Spelling.{spelling}
-use Rattle.pipe_tree.specs.declared.tree.Term.{Term}
+use Rattle.pipe_tree.specs.declared.tree.AffineTerm.{AffineTerm}
 use Rattle.pipe_tree.specs.declared.tree.Test.{Test}
 use Rattle.pipe_tree.specs.declared.tree.Test.TheVariants.{Compare, Remainder}
 use Rattle.pipe_tree.specs.declared.tree.Index.{Index}
@@ -26,8 +26,8 @@ use Rattle.operators.specs.declared.operator.LiteralOp.{LiteralOp}
 use Rattle.operators.specs.declared.operator.LiteralOp.TheVariants.{Div, Rem, Shl, Shr}
 use Rattle.operators.specs.declared.operator.Relation.{Relation}
 use Rattle.operators.specs.declared.operator.Relation.TheVariants as relations
-use Rattle.operators.specs.declared.operator.Fold.{Fold}
-use Rattle.operators.specs.declared.operator.Fold.TheVariants as folds
+use Rattle.operators.specs.declared.operator.ReductionOp.{ReductionOp}
+use Rattle.operators.specs.declared.operator.ReductionOp.TheVariants as folds
 use Rattle.pipe_tree.specs.declared.tree.AffineSpan.{AffineSpan}
 use Rattle.pipe_tree.specs.declared.tree.Variable.{Variable}
 use Rattle.pipe_tree.specs.declared.tree.Names.{Names}
@@ -42,8 +42,8 @@ use Rattle.pipe_print.specs.declared.forms.UnaryForm.{UnaryForm}
 use Rattle.pipe_print.specs.declared.forms.UnaryForm.TheVariants as unary_forms
 use Rattle.pipe_print.specs.declared.forms.BinaryForm.{BinaryForm}
 use Rattle.pipe_print.specs.declared.forms.BinaryForm.TheVariants as binary_forms
-use Rattle.pipe_print.specs.declared.place.Place.{Place}
-use Rattle.pipe_print.specs.declared.place.Place.TheVariants as places
+use Rattle.pipe_print.specs.declared.place.ExpressionPlace.{ExpressionPlace}
+use Rattle.pipe_print.specs.declared.place.ExpressionPlace.TheVariants as places
 
 -- ---- single tokens
 
@@ -94,18 +94,18 @@ abbrev pub product_tokens : ℕ → Option (List ℕ) → List Token
 product_tokens factor (Some x) = scaled_tokens factor x
 product_tokens factor None = int factor
 
-abbrev pub term_tokens : Term → List Token
+abbrev pub term_tokens : AffineTerm → List Token
 term_tokens t = product_tokens t.factor t.name
 
 -- a term after others
-abbrev pub next_term_tokens : Term → List Token
+abbrev pub next_term_tokens : AffineTerm → List Token
 next_term_tokens t = sign_tokens t.negative ⌢ term_tokens t
 
 -- a number or a term that may have a minus before it
 abbrev pub signed_tokens : Bool → List Token → List Token
 signed_tokens negative rest = if negative then (mark Minus ⌢ rest) else rest
 
-abbrev pub affine_tokens : List Term → List Token
+abbrev pub affine_tokens : List AffineTerm → List Token
 affine_tokens [] = []
 affine_tokens (t ∷ ts) = signed_tokens t.negative (term_tokens t) ⌢ flat_map next_term_tokens ts
 
@@ -188,29 +188,29 @@ relation_mark relations.Equals = Equals
 
 -- ---- expressions
 
--- The place of an expression accepts any expression, no sum, or no sum and no product (`Place`). What it does not accept is put
+-- The place of an expression accepts any expression, no sum, or no sum and no product (`ExpressionPlace`). What it does not accept is put
 -- in parentheses: a sum of two, and a product of two.
-abbrev pub sum_in : Place → List Token → List Token
+abbrev pub sum_in : ExpressionPlace → List Token → List Token
 sum_in places.Sum ts = ts
 sum_in places.Product ts = grouped ts
 sum_in places.Unary ts = grouped ts
 
-abbrev pub product_in : Place → List Token → List Token
+abbrev pub product_in : ExpressionPlace → List Token → List Token
 product_in places.Sum ts = ts
 product_in places.Product ts = ts
 product_in places.Unary ts = grouped ts
 
 -- an operator and its operands, by its form. The tokens of an operand depend on its place
-abbrev pub unary_tokens : UnaryForm → (Place → List Token) → List Token
+abbrev pub unary_tokens : UnaryForm → (ExpressionPlace → List Token) → List Token
 unary_tokens (unary_forms.Prefix m) a = mark m ⌢ a places.Unary
 unary_tokens (unary_forms.Call w) a = word w ⌢ grouped (a places.Sum)
 
-abbrev pub binary_tokens : BinaryForm → (Place → List Token) → (Place → List Token) → Place → List Token
+abbrev pub binary_tokens : BinaryForm → (ExpressionPlace → List Token) → (ExpressionPlace → List Token) → ExpressionPlace → List Token
 binary_tokens (binary_forms.Sum m) a b p = sum_in p (a places.Sum ⌢ mark m ⌢ b places.Product)
 binary_tokens (binary_forms.Product m) a b p = product_in p (a places.Product ⌢ mark m ⌢ b places.Unary)
 binary_tokens (binary_forms.Call w) a b p = word w ⌢ grouped (a places.Sum ⌢ mark Comma ⌢ b places.Sum)
 
-abbrev pub expression_tokens : Node → Place → List Token
+abbrev pub expression_tokens : Node → ExpressionPlace → List Token
 expression_tokens (number n) p = int n
 expression_tokens (variable x) p = name x
 expression_tokens (read x row column) p = read_tokens x row column
@@ -252,7 +252,7 @@ abbrev pub otherwise_tokens : Option Node → List Token
 otherwise_tokens None = []
 otherwise_tokens (Some value) = word words.Else ⌢ value_tokens value
 
-abbrev pub fold_word : Fold → Keyword
+abbrev pub fold_word : ReductionOp → Keyword
 fold_word folds.Sum = words.Sum
 fold_word folds.Min = words.Min
 fold_word folds.Max = words.Max

@@ -6,53 +6,53 @@ ghost use Rattle.pipe_print.specs.Canonical.{term_tokens, affine_tokens, span_to
 
 use crate::printer::Printer;
 use pipe_tokens::{Keyword, Punct};
-use pipe_tree::{Affine, AffineSpan, Term, Variable};
+use pipe_tree::{Affine, AffineSpan, AffineTerm, Variable};
 use std::alloc::AllocError;
 
 impl Printer {
     // A term without its sign.
-    fn term(&mut self, term: &Term) -> Result<(), AllocError>
+    fn print_affine_term(&mut self, term: &AffineTerm) -> Result<(), AllocError>
         ensures { OnOk result (self.new ≡ self.old ++ term_tokens term.now) }
     {
         match &term.name {
-            Some(name) => self.scaled(term.factor, name),
-            None => self.int(term.factor),
+            Some(name) => self.print_scaled_name(term.factor, name),
+            None => self.print_number(term.factor),
         }
     }
 
     // The first term has a sign only where it is subtracted.
-    pub fn affine(&mut self, affine: &Affine) -> Result<(), AllocError>
+    pub fn print_affine(&mut self, affine: &Affine) -> Result<(), AllocError>
         ensures { OnOk result (self.new ≡ self.old ++ affine_tokens affine.now) }
     {
         let [first, others @ ..] = affine.terms() else {
             return Ok(());
         };
         if first.negative {
-            self.mark(Punct::Minus)?;
+            self.print_punct(Punct::Minus)?;
         }
-        self.term(first)?;
+        self.print_affine_term(first)?;
         for term in others {
-            self.sign(term.negative)?;
-            self.term(term)?;
+            self.print_sign(term.negative)?;
+            self.print_affine_term(term)?;
         }
         Ok(())
     }
 
-    pub fn span(&mut self, span: &AffineSpan) -> Result<(), AllocError>
+    pub fn print_affine_span(&mut self, span: &AffineSpan) -> Result<(), AllocError>
         ensures { OnOk result (self.new ≡ self.old ++ span_tokens span.now) }
     {
-        self.mark(Punct::OpenSquare)?;
-        self.affine(&span.first)?;
-        self.mark(Punct::DotDot)?;
-        self.affine(&span.last)?;
-        self.mark(Punct::CloseSquare)
+        self.print_punct(Punct::OpenSquare)?;
+        self.print_affine(&span.first)?;
+        self.print_punct(Punct::DotDot)?;
+        self.print_affine(&span.last)?;
+        self.print_punct(Punct::CloseSquare)
     }
 
-    pub fn variable(&mut self, variable: &Variable) -> Result<(), AllocError>
+    pub fn print_variable(&mut self, variable: &Variable) -> Result<(), AllocError>
         ensures { OnOk result (self.new ≡ self.old ++ variable_tokens variable.now) }
     {
-        self.name(&variable.name)?;
-        self.word(Keyword::In)?;
-        self.span(&variable.span)
+        self.print_name(&variable.name)?;
+        self.print_keyword(Keyword::In)?;
+        self.print_affine_span(&variable.span)
     }
 }

@@ -6,10 +6,10 @@ ghost use Rattle.pipe_tree.specs.Tree.{view, unary, binary};
 ghost use Rattle.pipe_print.specs.Canonical.{mark as mark_tokens, ◌⌢◌, grouped_if, relation_mark, expression_tokens};
 
 use crate::forms::{
-    BinaryForm, UnaryForm, form_of_binary, form_of_unary, mark_of_literal, mark_of_relation,
-    word_of_ternary,
+    BinaryForm, UnaryForm, choose_printed_binary_form, choose_printed_literal_punct,
+    choose_printed_relation_punct, choose_printed_ternary_keyword, choose_printed_unary_form,
 };
-use crate::place::Place;
+use crate::place::ExpressionPlace;
 use crate::printer::Printer;
 use operators::{BinaryOp, Relation, UnaryOp};
 use pipe_tokens::{Keyword, Punct};
@@ -17,17 +17,17 @@ use pipe_tree::Expr;
 use std::alloc::AllocError;
 
 // Whether the expression has parentheses there.
-fn is_grouped(e: &Expr, place: Place) -> bool
+fn is_printed_in_parentheses(e: &Expr, place: ExpressionPlace) -> bool
     ensures { expression_tokens (view e.now) place
-        ≡ grouped_if result (expression_tokens (view e.now) Place.Sum) }
+        ≡ grouped_if result (expression_tokens (view e.now) ExpressionPlace.Sum) }
 {
     match e {
-        Expr::Binary(op, ..) => match form_of_binary(*op) {
-            BinaryForm::Sum(_) => place.groups_sums(),
-            BinaryForm::Product(_) => place.groups_products(),
+        Expr::Binary(op, ..) => match choose_printed_binary_form(*op) {
+            BinaryForm::Sum(_) => place.has_sums_in_parentheses(),
+            BinaryForm::Product(_) => place.has_products_in_parentheses(),
             BinaryForm::Call(_) => false,
         },
-        Expr::Literal(..) => place.groups_products(),
+        Expr::Literal(..) => place.has_products_in_parentheses(),
         Expr::Number(_)
         | Expr::Name(_)
         | Expr::Read(..)
@@ -40,110 +40,123 @@ fn is_grouped(e: &Expr, place: Place) -> bool
 }
 
 impl Printer {
-    pub fn relation(&mut self, relation: Relation) -> Result<(), AllocError>
+    pub fn print_relation(&mut self, relation: Relation) -> Result<(), AllocError>
         ensures { OnOk result (self.new ≡ self.old ++ mark_tokens (relation_mark relation)) }
     {
-        self.mark(mark_of_relation(relation))
+        self.print_punct(choose_printed_relation_punct(relation))
     }
 
     /// The expression, in parentheses where the place needs them.
     #[cycle(expression)]
-    pub fn expression(&mut self, e: &Expr, place: Place) -> Result<(), AllocError>
+    pub fn print_expression(&mut self, e: &Expr, place: ExpressionPlace) -> Result<(), AllocError>
         ensures { OnOk result (self.new ≡ self.old ++ expression_tokens (view e.now) place) }
     {
-        if is_grouped(e, place) {
-            self.mark(Punct::OpenRound)?;
-            self.bare(e)?;
-            self.mark(Punct::CloseRound)
+        if is_printed_in_parentheses(e, place) {
+            self.print_punct(Punct::OpenRound)?;
+            self.print_ungrouped_expression(e)?;
+            self.print_punct(Punct::CloseRound)
         } else {
-            self.bare(e)
+            self.print_ungrouped_expression(e)
         }
     }
 
     // A mark, and an expression after it.
     #[cycle(expression)]
-    fn behind(&mut self, mark: Punct, e: &Expr, place: Place) -> Result<(), AllocError>
+    fn print_punct_and_expression(
+        &mut self,
+        mark: Punct,
+        e: &Expr,
+        place: ExpressionPlace,
+    ) -> Result<(), AllocError>
         ensures { OnOk result
             (self.new ≡ self.old ++ (mark_tokens mark ⌢ expression_tokens (view e.now) place)) }
     {
-        self.mark(mark)?;
-        self.expression(e, place)
+        self.print_punct(mark)?;
+        self.print_expression(e, place)
     }
 
     // The expression without parentheses around it.
     #[cycle(expression)]
-    fn bare(&mut self, e: &Expr) -> Result<(), AllocError>
-        ensures { OnOk result (self.new ≡ self.old ++ expression_tokens (view e.now) Place.Sum) }
+    fn print_ungrouped_expression(&mut self, e: &Expr) -> Result<(), AllocError>
+        ensures { OnOk result (self.new ≡ self.old ++ expression_tokens (view e.now) ExpressionPlace.Sum) }
     {
         match e {
-            Expr::Number(value) => self.int(*value),
-            Expr::Name(name) => self.name(name),
-            Expr::Read(name, row, column) => self.read(name, row, column),
+            Expr::Number(value) => self.print_number(*value),
+            Expr::Name(name) => self.print_name(name),
+            Expr::Read(name, row, column) => self.print_read(name, row, column),
             Expr::Lookup(name, index) => {
-                self.name(name)?;
-                self.behind(Punct::OpenSquare, index, Place::Sum)?;
-                self.mark(Punct::CloseSquare)
+                self.print_name(name)?;
+                self.print_punct_and_expression(Punct::OpenSquare, index, ExpressionPlace::Sum)?;
+                self.print_punct(Punct::CloseSquare)
             }
-            Expr::Stencil(name, divisor, kernel) => self.stencil(name, *divisor, kernel),
-            Expr::Unary(op, a) => self.unary(*op, a),
-            Expr::Binary(op, a, b) => self.binary(*op, a, b),
+            Expr::Stencil(name, divisor, kernel) => self.print_stencil(name, *divisor, kernel),
+            Expr::Unary(op, a) => self.print_unary(*op, a),
+            Expr::Binary(op, a, b) => self.print_binary(*op, a, b),
             Expr::Ternary(op, a, b, c) => {
-                self.word(word_of_ternary(*op))?;
-                self.behind(Punct::OpenRound, a, Place::Sum)?;
-                self.behind(Punct::Comma, b, Place::Sum)?;
-                self.behind(Punct::Comma, c, Place::Sum)?;
-                self.mark(Punct::CloseRound)
+                self.print_keyword(choose_printed_ternary_keyword(*op))?;
+                self.print_punct_and_expression(Punct::OpenRound, a, ExpressionPlace::Sum)?;
+                self.print_punct_and_expression(Punct::Comma, b, ExpressionPlace::Sum)?;
+                self.print_punct_and_expression(Punct::Comma, c, ExpressionPlace::Sum)?;
+                self.print_punct(Punct::CloseRound)
             }
             Expr::Literal(op, a, number) => {
-                self.expression(a, Place::Product)?;
-                self.mark(mark_of_literal(*op))?;
-                self.int(*number)
+                self.print_expression(a, ExpressionPlace::Product)?;
+                self.print_punct(choose_printed_literal_punct(*op))?;
+                self.print_number(*number)
             }
             Expr::Select(a, relation, b, then, otherwise) => {
-                self.word(Keyword::Select)?;
-                self.behind(Punct::OpenRound, a, Place::Sum)?;
-                self.behind(mark_of_relation(*relation), b, Place::Sum)?;
-                self.behind(Punct::Comma, then, Place::Sum)?;
-                self.behind(Punct::Comma, otherwise, Place::Sum)?;
-                self.mark(Punct::CloseRound)
+                self.print_keyword(Keyword::Select)?;
+                self.print_punct_and_expression(Punct::OpenRound, a, ExpressionPlace::Sum)?;
+                self.print_punct_and_expression(
+                    choose_printed_relation_punct(*relation),
+                    b,
+                    ExpressionPlace::Sum,
+                )?;
+                self.print_punct_and_expression(Punct::Comma, then, ExpressionPlace::Sum)?;
+                self.print_punct_and_expression(Punct::Comma, otherwise, ExpressionPlace::Sum)?;
+                self.print_punct(Punct::CloseRound)
             }
         }
     }
 
     #[cycle(expression)]
-    fn unary(&mut self, op: UnaryOp, a: &Expr) -> Result<(), AllocError>
+    fn print_unary(&mut self, op: UnaryOp, a: &Expr) -> Result<(), AllocError>
         ensures { OnOk result
-            (self.new ≡ self.old ++ expression_tokens (unary op (view a.now)) Place.Sum) }
+            (self.new ≡ self.old ++ expression_tokens (unary op (view a.now)) ExpressionPlace.Sum) }
     {
-        match form_of_unary(op) {
-            UnaryForm::Prefix(mark) => self.behind(mark, a, Place::Unary),
+        match choose_printed_unary_form(op) {
+            UnaryForm::Prefix(mark) => self.print_punct_and_expression(
+                mark,
+                a,
+                ExpressionPlace::Unary,
+            ),
             UnaryForm::Call(word) => {
-                self.word(word)?;
-                self.behind(Punct::OpenRound, a, Place::Sum)?;
-                self.mark(Punct::CloseRound)
+                self.print_keyword(word)?;
+                self.print_punct_and_expression(Punct::OpenRound, a, ExpressionPlace::Sum)?;
+                self.print_punct(Punct::CloseRound)
             }
         }
     }
 
     #[cycle(expression)]
-    fn binary(&mut self, op: BinaryOp, a: &Expr, b: &Expr) -> Result<(), AllocError>
+    fn print_binary(&mut self, op: BinaryOp, a: &Expr, b: &Expr) -> Result<(), AllocError>
         ensures { OnOk result (self.new
-            ≡ self.old ++ expression_tokens (binary op (view a.now) (view b.now)) Place.Sum) }
+            ≡ self.old ++ expression_tokens (binary op (view a.now) (view b.now)) ExpressionPlace.Sum) }
     {
-        match form_of_binary(op) {
+        match choose_printed_binary_form(op) {
             BinaryForm::Sum(mark) => {
-                self.expression(a, Place::Sum)?;
-                self.behind(mark, b, Place::Product)
+                self.print_expression(a, ExpressionPlace::Sum)?;
+                self.print_punct_and_expression(mark, b, ExpressionPlace::Product)
             }
             BinaryForm::Product(mark) => {
-                self.expression(a, Place::Product)?;
-                self.behind(mark, b, Place::Unary)
+                self.print_expression(a, ExpressionPlace::Product)?;
+                self.print_punct_and_expression(mark, b, ExpressionPlace::Unary)
             }
             BinaryForm::Call(word) => {
-                self.word(word)?;
-                self.behind(Punct::OpenRound, a, Place::Sum)?;
-                self.behind(Punct::Comma, b, Place::Sum)?;
-                self.mark(Punct::CloseRound)
+                self.print_keyword(word)?;
+                self.print_punct_and_expression(Punct::OpenRound, a, ExpressionPlace::Sum)?;
+                self.print_punct_and_expression(Punct::Comma, b, ExpressionPlace::Sum)?;
+                self.print_punct(Punct::CloseRound)
             }
         }
     }

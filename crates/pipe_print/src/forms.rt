@@ -27,7 +27,7 @@ pub(crate) enum BinaryForm {
     Call(Keyword),
 }
 
-pub(crate) fn form_of_unary(op: UnaryOp) -> UnaryForm
+pub(crate) fn choose_printed_unary_form(op: UnaryOp) -> UnaryForm
     ensures { result ≡ unary_form op }
 {
     match op {
@@ -36,7 +36,7 @@ pub(crate) fn form_of_unary(op: UnaryOp) -> UnaryForm
     }
 }
 
-pub(crate) fn form_of_binary(op: BinaryOp) -> BinaryForm
+pub(crate) fn choose_printed_binary_form(op: BinaryOp) -> BinaryForm
     ensures { result ≡ binary_form op }
 {
     match op {
@@ -48,7 +48,7 @@ pub(crate) fn form_of_binary(op: BinaryOp) -> BinaryForm
     }
 }
 
-pub(crate) fn word_of_ternary(op: TernaryOp) -> Keyword
+pub(crate) fn choose_printed_ternary_keyword(op: TernaryOp) -> Keyword
     ensures { result ≡ ternary_word op }
 {
     match op {
@@ -56,7 +56,7 @@ pub(crate) fn word_of_ternary(op: TernaryOp) -> Keyword
     }
 }
 
-pub(crate) fn mark_of_literal(op: LiteralOp) -> Punct
+pub(crate) fn choose_printed_literal_punct(op: LiteralOp) -> Punct
     ensures { result ≡ literal_mark op }
 {
     match op {
@@ -67,7 +67,7 @@ pub(crate) fn mark_of_literal(op: LiteralOp) -> Punct
     }
 }
 
-pub(crate) fn mark_of_relation(relation: Relation) -> Punct
+pub(crate) fn choose_printed_relation_punct(relation: Relation) -> Punct
     ensures { result ≡ relation_mark relation }
 {
     match relation {

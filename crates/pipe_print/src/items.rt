@@ -9,199 +9,199 @@ ghost use Rattle.pipe_print.specs.Canonical.{fold_word, param_tokens, table_toke
 ghost use Rattle.pipe_print.specs.Canonical.{test_tokens, condition_tokens, value_tokens, case_tokens, otherwise_tokens, function_tokens};
 ghost use Rattle.pipe_print.specs.Canonical.{update_tokens, accumulator_tokens, output_tokens, item_tokens};
 
-use crate::lists::Entry;
-use crate::place::Place;
+use crate::lists::ListEntry;
+use crate::place::ExpressionPlace;
 use crate::printer::Printer;
-use operators::Fold;
+use operators::ReductionOp;
 use pipe_tokens::{Keyword, Punct, Token};
 use pipe_tree::{
     Accum, Case, Condition, Expr, Func, Image, Item, Names, Output, Param, Table, Test, Variable,
 };
 use std::alloc::AllocError;
 
-fn word_of_fold(fold: Fold) -> Keyword
+fn choose_printed_fold_keyword(fold: ReductionOp) -> Keyword
     ensures { result ≡ fold_word fold }
 {
     match fold {
-        Fold::Sum => Keyword::Sum,
-        Fold::Min => Keyword::Min,
-        Fold::Max => Keyword::Max,
+        ReductionOp::Sum => Keyword::Sum,
+        ReductionOp::Min => Keyword::Min,
+        ReductionOp::Max => Keyword::Max,
     }
 }
 
 impl Printer {
-    fn param(&mut self, param: &Param) -> Result<(), AllocError>
+    fn print_param_item(&mut self, param: &Param) -> Result<(), AllocError>
         ensures { OnOk result (self.new ≡ self.old ++ param_tokens param.now) }
     {
-        self.word(Keyword::Param)?;
-        self.name(&param.name)?;
-        self.mark(Punct::Semicolon)
+        self.print_keyword(Keyword::Param)?;
+        self.print_name(&param.name)?;
+        self.print_punct(Punct::Semicolon)
     }
 
-    fn table(&mut self, table: &Table) -> Result<(), AllocError>
+    fn print_table_item(&mut self, table: &Table) -> Result<(), AllocError>
         ensures { OnOk result (self.new ≡ self.old ++ table_tokens table.now) }
     {
-        self.word(Keyword::Table)?;
-        self.name(&table.name)?;
-        self.span(&table.span)?;
-        self.mark(Punct::Semicolon)
+        self.print_keyword(Keyword::Table)?;
+        self.print_name(&table.name)?;
+        self.print_affine_span(&table.span)?;
+        self.print_punct(Punct::Semicolon)
     }
 
     // One name, or three.
-    fn names(&mut self, names: &Names) -> Result<(), AllocError>
+    fn print_names(&mut self, names: &Names) -> Result<(), AllocError>
         ensures { OnOk result (self.new ≡ self.old ++ names_tokens names.now) }
     {
         match names {
-            Names::One(name) => self.name(name),
+            Names::One(name) => self.print_name(name),
             Names::Three(first, second, third) => {
-                self.name(first)?;
-                self.mark(Punct::Comma)?;
-                self.name(second)?;
-                self.mark(Punct::Comma)?;
-                self.name(third)
+                self.print_name(first)?;
+                self.print_punct(Punct::Comma)?;
+                self.print_name(second)?;
+                self.print_punct(Punct::Comma)?;
+                self.print_name(third)
             }
         }
     }
 
-    fn image(&mut self, image: &Image) -> Result<(), AllocError>
+    fn print_image_item(&mut self, image: &Image) -> Result<(), AllocError>
         ensures { OnOk result (self.new ≡ self.old ++ image_tokens image.now) }
     {
-        self.word(Keyword::Image)?;
-        self.names(&image.names)?;
-        self.mark(Punct::OpenRound)?;
-        self.affine(&image.rows)?;
-        self.mark(Punct::Comma)?;
-        self.affine(&image.columns)?;
-        self.mark(Punct::CloseRound)?;
-        self.mark(Punct::Semicolon)
+        self.print_keyword(Keyword::Image)?;
+        self.print_names(&image.names)?;
+        self.print_punct(Punct::OpenRound)?;
+        self.print_affine(&image.rows)?;
+        self.print_punct(Punct::Comma)?;
+        self.print_affine(&image.columns)?;
+        self.print_punct(Punct::CloseRound)?;
+        self.print_punct(Punct::Semicolon)
     }
 
     // The variables of rows and columns.
-    fn variables(&mut self, row: &Variable, column: &Variable) -> Result<(), AllocError>
+    fn print_variable_pair(&mut self, row: &Variable, column: &Variable) -> Result<(), AllocError>
         ensures { OnOk result (self.new ≡ self.old ++ variables_tokens row.now column.now) }
     {
-        self.mark(Punct::OpenRound)?;
-        self.variable(row)?;
-        self.mark(Punct::Comma)?;
-        self.variable(column)?;
-        self.mark(Punct::CloseRound)
+        self.print_punct(Punct::OpenRound)?;
+        self.print_variable(row)?;
+        self.print_punct(Punct::Comma)?;
+        self.print_variable(column)?;
+        self.print_punct(Punct::CloseRound)
     }
 
-    fn condition(&mut self, condition: &Condition) -> Result<(), AllocError>
+    fn print_condition(&mut self, condition: &Condition) -> Result<(), AllocError>
         ensures { OnOk result (self.new ≡ self.old ++ condition_tokens condition.now) }
     {
-        self.separated(&Token::Keyword(Keyword::And), condition.tests())
+        self.print_separated_entries(&Token::Keyword(Keyword::And), condition.tests())
     }
 
     // `: VALUE;`
-    fn value(&mut self, value: &Expr) -> Result<(), AllocError>
+    fn print_case_value(&mut self, value: &Expr) -> Result<(), AllocError>
         ensures { OnOk result (self.new ≡ self.old ++ value_tokens (view value.now)) }
     {
-        self.mark(Punct::Colon)?;
-        self.expression(value, Place::Sum)?;
-        self.mark(Punct::Semicolon)
+        self.print_punct(Punct::Colon)?;
+        self.print_expression(value, ExpressionPlace::Sum)?;
+        self.print_punct(Punct::Semicolon)
     }
 
-    fn cases(&mut self, cases: &[Case]) -> Result<(), AllocError>
+    fn print_cases(&mut self, cases: &[Case]) -> Result<(), AllocError>
         ensures { OnOk result (self.new ≡ self.old ++ flat_map case_tokens (branches cases.now)) }
     {
         for case in cases {
-            self.word(Keyword::Case)?;
-            self.condition(&case.condition)?;
-            self.value(&case.value)?;
+            self.print_keyword(Keyword::Case)?;
+            self.print_condition(&case.condition)?;
+            self.print_case_value(&case.value)?;
         }
         Ok(())
     }
 
-    fn otherwise(&mut self, otherwise: &Option<Expr>) -> Result<(), AllocError>
+    fn print_else_value(&mut self, otherwise: &Option<Expr>) -> Result<(), AllocError>
         ensures { OnOk result
             (self.new ≡ self.old ++ otherwise_tokens (option_map view otherwise.now)) }
     {
         match otherwise {
             Some(value) => {
-                self.word(Keyword::Else)?;
-                self.value(value)
+                self.print_keyword(Keyword::Else)?;
+                self.print_case_value(value)
             }
             None => Ok(()),
         }
     }
 
-    fn func(&mut self, func: &Func) -> Result<(), AllocError>
+    fn print_func_item(&mut self, func: &Func) -> Result<(), AllocError>
         ensures { OnOk result (self.new ≡ self.old ++ function_tokens (function_of func.now)) }
     {
-        self.word(Keyword::Func)?;
-        self.name(&func.name)?;
-        self.variables(&func.row, &func.column)?;
-        self.mark(Punct::OpenCurly)?;
-        self.cases(func.cases.list())?;
-        self.otherwise(&func.otherwise)?;
-        self.mark(Punct::CloseCurly)
+        self.print_keyword(Keyword::Func)?;
+        self.print_name(&func.name)?;
+        self.print_variable_pair(&func.row, &func.column)?;
+        self.print_punct(Punct::OpenCurly)?;
+        self.print_cases(func.cases.case_list())?;
+        self.print_else_value(&func.otherwise)?;
+        self.print_punct(Punct::CloseCurly)
     }
 
     // The value that a point adds to its bin, and the bin.
-    fn update(&mut self, accum: &Accum) -> Result<(), AllocError>
+    fn print_accum_update(&mut self, accum: &Accum) -> Result<(), AllocError>
         ensures { OnOk result (self.new ≡ self.old ++ update_tokens (accumulator_of accum.now)) }
     {
-        self.word(word_of_fold(accum.fold))?;
-        self.expression(&accum.value, Place::Sum)?;
-        self.word(Keyword::At)?;
-        self.expression(&accum.bin, Place::Sum)?;
-        self.mark(Punct::Semicolon)
+        self.print_keyword(choose_printed_fold_keyword(accum.fold))?;
+        self.print_expression(&accum.value, ExpressionPlace::Sum)?;
+        self.print_keyword(Keyword::At)?;
+        self.print_expression(&accum.bin, ExpressionPlace::Sum)?;
+        self.print_punct(Punct::Semicolon)
     }
 
-    fn accum(&mut self, accum: &Accum) -> Result<(), AllocError>
+    fn print_accum_item(&mut self, accum: &Accum) -> Result<(), AllocError>
         ensures { OnOk result
             (self.new ≡ self.old ++ accumulator_tokens (accumulator_of accum.now)) }
     {
-        self.word(Keyword::Accum)?;
-        self.name(&accum.name)?;
-        self.span(&accum.bins)?;
-        self.word(Keyword::Over)?;
-        self.variables(&accum.row, &accum.column)?;
-        self.update(accum)
+        self.print_keyword(Keyword::Accum)?;
+        self.print_name(&accum.name)?;
+        self.print_affine_span(&accum.bins)?;
+        self.print_keyword(Keyword::Over)?;
+        self.print_variable_pair(&accum.row, &accum.column)?;
+        self.print_accum_update(accum)
     }
 
-    fn output(&mut self, output: &Output) -> Result<(), AllocError>
+    fn print_output_item(&mut self, output: &Output) -> Result<(), AllocError>
         ensures { OnOk result (self.new ≡ self.old ++ output_tokens output.now) }
     {
-        self.word(Keyword::Output)?;
-        self.names(&output.names)?;
-        self.word(Keyword::Max)?;
-        self.int(output.max)?;
-        self.mark(Punct::Semicolon)
+        self.print_keyword(Keyword::Output)?;
+        self.print_names(&output.names)?;
+        self.print_keyword(Keyword::Max)?;
+        self.print_number(output.max)?;
+        self.print_punct(Punct::Semicolon)
     }
 
-    pub fn item(&mut self, item: &Item) -> Result<(), AllocError>
+    pub fn print_item(&mut self, item: &Item) -> Result<(), AllocError>
         ensures { OnOk result (self.new ≡ self.old ++ item_tokens (declaration item.now)) }
     {
         match item {
-            Item::Param(param) => self.param(param),
-            Item::Image(image) => self.image(image),
-            Item::Table(table) => self.table(table),
-            Item::Func(func) => self.func(func),
-            Item::Accum(accum) => self.accum(accum),
-            Item::Output(output) => self.output(output),
+            Item::Param(param) => self.print_param_item(param),
+            Item::Image(image) => self.print_image_item(image),
+            Item::Table(table) => self.print_table_item(table),
+            Item::Func(func) => self.print_func_item(func),
+            Item::Accum(accum) => self.print_accum_item(accum),
+            Item::Output(output) => self.print_output_item(output),
         }
     }
 }
 
 // A test of a condition.
-impl Entry for Test {
+impl ListEntry for Test {
     ghost tokens = { test_tokens };
 
-    fn print(&self, printer: &mut Printer) -> Result<(), AllocError> {
+    fn print_entry(&self, printer: &mut Printer) -> Result<(), AllocError> {
         match self {
             Test::Compare(name, relation, bound) => {
-                printer.name(name)?;
-                printer.relation(*relation)?;
-                printer.affine(bound)
+                printer.print_name(name)?;
+                printer.print_relation(*relation)?;
+                printer.print_affine(bound)
             }
             Test::Remainder(name, modulus, remainder) => {
-                printer.name(name)?;
-                printer.mark(Punct::Percent)?;
-                printer.int(*modulus)?;
-                printer.mark(Punct::Equals)?;
-                printer.int(*remainder)
+                printer.print_name(name)?;
+                printer.print_punct(Punct::Percent)?;
+                printer.print_number(*modulus)?;
+                printer.print_punct(Punct::Equals)?;
+                printer.print_number(*remainder)
             }
         }
     }

@@ -10,16 +10,16 @@ use pipe_tokens::{Punct, Token};
 use std::alloc::AllocError;
 
 /// An entry of a list.
-pub(crate) trait Entry {
+pub(crate) trait ListEntry {
     ghost tokens: { Self → List TokenType };
 
-    fn print(&self, printer: &mut Printer) -> Result<(), AllocError>
+    fn print_entry(&self, printer: &mut Printer) -> Result<(), AllocError>
         ensures { OnOk result (printer.new ≡ printer.old ++ tokens self.now) };
 }
 
 impl Printer {
     // The entries, with the separator between neighbours.
-    pub fn separated<T: Entry>(
+    pub fn print_separated_entries<T: ListEntry>(
         &mut self,
         separator: &Token,
         entries: &[T],
@@ -30,20 +30,20 @@ impl Printer {
         let [first, others @ ..] = entries else {
             return Ok(());
         };
-        first.print(self)?;
+        first.print_entry(self)?;
         for entry in others {
-            self.token(*separator)?;
-            entry.print(self)?;
+            self.print_token(*separator)?;
+            entry.print_entry(self)?;
         }
         Ok(())
     }
 
     // The entries in brackets, with commas between neighbours.
-    pub fn bracketed<T: Entry>(&mut self, entries: &[T]) -> Result<(), AllocError>
+    pub fn print_bracketed_entries<T: ListEntry>(&mut self, entries: &[T]) -> Result<(), AllocError>
         ensures { OnOk result (self.new ≡ self.old ++ bracketed T.tokens entries.now) }
     {
-        self.mark(Punct::OpenSquare)?;
-        self.separated(&Token::Punct(Punct::Comma), entries)?;
-        self.mark(Punct::CloseSquare)
+        self.print_punct(Punct::OpenSquare)?;
+        self.print_separated_entries(&Token::Punct(Punct::Comma), entries)?;
+        self.print_punct(Punct::CloseSquare)
     }
 }

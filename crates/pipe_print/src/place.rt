@@ -3,7 +3,7 @@
 
 /// What the grammar accepts at the place of an expression. Any other expression is put in parentheses.
 #[derive(Clone, Copy)]
-pub(crate) enum Place {
+pub(crate) enum ExpressionPlace {
     /// Any expression.
     Sum,
     /// No sum.
@@ -12,28 +12,28 @@ pub(crate) enum Place {
     Unary,
 }
 
-impl Place {
+impl ExpressionPlace {
     ghost use Rattle.std.specs.Prelude.{◌≡◌, List};
     ghost use Rattle.pipe_tokens.specs.declared.token.Token.{Token};
     ghost use Rattle.pipe_print.specs.Canonical.{grouped_if, sum_in, product_in};
 
     // Whether a sum has parentheses here.
-    pub fn groups_sums(self) -> bool
+    pub fn has_sums_in_parentheses(self) -> bool
         ensures { (ts : List Token) → sum_in self ts ≡ grouped_if result ts }
     {
         match self {
-            Place::Sum => false,
-            Place::Product | Place::Unary => true,
+            ExpressionPlace::Sum => false,
+            ExpressionPlace::Product | ExpressionPlace::Unary => true,
         }
     }
 
     // Whether a product has parentheses here.
-    pub fn groups_products(self) -> bool
+    pub fn has_products_in_parentheses(self) -> bool
         ensures { (ts : List Token) → product_in self ts ≡ grouped_if result ts }
     {
         match self {
-            Place::Sum | Place::Product => false,
-            Place::Unary => true,
+            ExpressionPlace::Sum | ExpressionPlace::Product => false,
+            ExpressionPlace::Unary => true,
         }
     }
 }

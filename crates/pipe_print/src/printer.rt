@@ -32,52 +32,52 @@ impl Printer {
         }
     }
 
-    pub fn token(&mut self, token: Token) -> Result<(), AllocError>
+    pub fn print_token(&mut self, token: Token) -> Result<(), AllocError>
         ensures { OnOk result (self.new ≡ self.old ++ token ∷ []) }
     {
         self.tokens.push(token)?;
         Ok(())
     }
 
-    pub fn mark(&mut self, mark: Punct) -> Result<(), AllocError>
+    pub fn print_punct(&mut self, mark: Punct) -> Result<(), AllocError>
         ensures { OnOk result (self.new ≡ self.old ++ Token.Punct mark ∷ []) }
     {
-        self.token(Token::Punct(mark))
+        self.print_token(Token::Punct(mark))
     }
 
-    pub fn word(&mut self, word: Keyword) -> Result<(), AllocError>
+    pub fn print_keyword(&mut self, word: Keyword) -> Result<(), AllocError>
         ensures { OnOk result (self.new ≡ self.old ++ Token.Keyword word ∷ []) }
     {
-        self.token(Token::Keyword(word))
+        self.print_token(Token::Keyword(word))
     }
 
-    pub fn int(&mut self, value: u32) -> Result<(), AllocError>
+    pub fn print_number(&mut self, value: u32) -> Result<(), AllocError>
         ensures { OnOk result (self.new ≡ self.old ++ Token.Int value ∷ []) }
     {
-        self.token(Token::Int(value))
+        self.print_token(Token::Int(value))
     }
 
-    pub fn name(&mut self, name: &Name) -> Result<(), AllocError>
+    pub fn print_name(&mut self, name: &Name) -> Result<(), AllocError>
         ensures { OnOk result (self.new ≡ self.old ++ Token.Name name.now ∷ []) }
     {
-        self.token(Token::Name(*name))
+        self.print_token(Token::Name(*name))
     }
 
     // `-` or `+`.
-    pub fn sign(&mut self, negative: bool) -> Result<(), AllocError>
+    pub fn print_sign(&mut self, negative: bool) -> Result<(), AllocError>
         ensures { OnOk result (self.new ≡ self.old ++ sign_tokens negative) }
     {
-        self.mark(if negative { Punct::Minus } else { Punct::Plus })
+        self.print_punct(if negative { Punct::Minus } else { Punct::Plus })
     }
 
     // A factor and the name that it multiplies; the name alone where the factor is 1.
-    pub fn scaled(&mut self, factor: u32, name: &Name) -> Result<(), AllocError>
+    pub fn print_scaled_name(&mut self, factor: u32, name: &Name) -> Result<(), AllocError>
         ensures { OnOk result (self.new ≡ self.old ++ scaled_tokens factor name.now) }
     {
         if factor != 1 {
-            self.int(factor)?;
-            self.mark(Punct::Star)?;
+            self.print_number(factor)?;
+            self.print_punct(Punct::Star)?;
         }
-        self.name(name)
+        self.print_name(name)
     }
 }

@@ -6,7 +6,7 @@ ghost use Rattle.pipe_tree.specs.Content.{content};
 ghost use Rattle.pipe_print.specs.Canonical.{canonical};
 
 use crate::printer::Printer;
-use pipe_tokens::spell;
+use pipe_tokens::spell_tokens;
 use pipe_tree::Tree;
 use std::alloc::{AllocError, Global};
 
@@ -18,7 +18,7 @@ pub fn print(alloc: Global, tree: &Tree) -> Result<Vec<u8>, AllocError>
 {
     let mut printer = Printer::new(alloc);
     for item in tree.items() {
-        printer.item(item)?;
+        printer.print_item(item)?;
     }
-    spell(alloc, &printer.tokens)
+    spell_tokens(alloc, &printer.tokens)
 }

@@ -4,7 +4,7 @@ ghost use Rattle.std.specs.Prelude.{◌≡◌};
 ghost use Rattle.pipe_tokens.specs.Character as character;
 
 /// Whether the byte is a blank, a TAB, a CR or an LF.
-pub fn is_white(byte: u8) -> bool
+pub fn is_white_byte(byte: u8) -> bool
     ensures { result ≡ character.is_white byte }
 {
     byte == b' ' || byte == b'\t' || byte == b'\r' || byte == b'\n'

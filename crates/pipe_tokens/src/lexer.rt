@@ -5,13 +5,13 @@ ghost use Rattle.std.specs.List.Sorted.{IsStrictlyIncreasing};
 ghost use Rattle.pipe_tokens.specs.Cutting.{CutsInto};
 ghost use Rattle.pipe_tokens.specs.Lexing.{tokens_of, starts_of};
 
-use crate::piece::{Piece, piece_of};
+use crate::piece::{Piece, lex_longest_piece};
 use crate::token::Token;
 use std::alloc::{AllocError, Global};
 
 /// The tokens of a text, in order, and the offset where each starts.
 #[derive(Debug, Drop)]
-pub struct Lexed {
+pub struct TokenList {
     pub tokens: Vec<Token>,
     /// As many as there are tokens.
     pub starts: Vec<usize>,
@@ -19,7 +19,7 @@ pub struct Lexed {
 
 /// Cuts a text into its longest tokens. Lexing ends at the first lexical fault, `Bad` or `NotAscii`, which is then the last
 /// token. The text has any length. Memory is the only error.
-pub fn lex(alloc: Global, text: &[u8]) -> Result<Lexed, AllocError>
+pub fn lex(alloc: Global, text: &[u8]) -> Result<TokenList, AllocError>
     // Gaps and longest tokens alternate.
     ensures longest { IfOk result
         (λ lexed. CutsInto 0 text.now lexed.tokens.items lexed.starts.items) }
@@ -32,10 +32,10 @@ pub fn lex(alloc: Global, text: &[u8]) -> Result<Lexed, AllocError>
     ensures within { IfOk result
         (λ lexed. All (λ start. start < length text.now) lexed.starts.items) }
 {
-    cut(alloc, text)
+    cut_into_tokens(alloc, text)
 }
 
-fn cut(alloc: Global, text: &[u8]) -> Result<Lexed, AllocError>
+fn cut_into_tokens(alloc: Global, text: &[u8]) -> Result<TokenList, AllocError>
     ensures tokens { IfOk result (λ lexed. lexed.tokens.items ≡ tokens_of text.now) }
     ensures starts { IfOk result (λ lexed. lexed.starts.items ≡ starts_of text.now) }
 {
@@ -43,18 +43,18 @@ fn cut(alloc: Global, text: &[u8]) -> Result<Lexed, AllocError>
     let mut starts = Vec::new(alloc);
     let mut at = 0;
     while at < text.len() {
-        let Piece { token, len } = piece_of(&text[at..]);
+        let Piece { token, len } = lex_longest_piece(&text[at..]);
         if let Some(token) = token {
-            let is_fault = token.is_fault();
+            let is_fault = token.is_lexical_fault();
             tokens.push(token)?;
             starts.push(at)?;
             if is_fault {
-                return Ok(Lexed { tokens, starts });
+                return Ok(TokenList { tokens, starts });
             }
         }
         at += len;
     }
-    Ok(Lexed { tokens, starts })
+    Ok(TokenList { tokens, starts })
 }
 
 /// A text is cut in one way only.

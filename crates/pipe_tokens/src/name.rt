@@ -37,7 +37,7 @@ impl Model for Name {
 
 impl Name {
     /// The name that the bytes spell, if they are one.
-    pub fn of(bytes: &[u8]) -> Option<Self>
+    pub fn from_bytes(bytes: &[u8]) -> Option<Self>
         ensures named { IsSome result ↔ IsTrue (is_name bytes.now) }
         ensures same { IfSome result (λ name. name ≡ bytes.now) }
     {
@@ -80,12 +80,12 @@ fn is_identifier(bytes: &[u8]) -> bool
     ensures { result ≡ is_identifier bytes.now }
 {
     match bytes.split_first() {
-        Some((first, others)) => first.is_ascii_alphabetic() && are_name_bytes(others),
+        Some((first, others)) => first.is_ascii_alphabetic() && has_only_name_bytes(others),
         None => false,
     }
 }
 
-fn are_name_bytes(bytes: &[u8]) -> bool
+fn has_only_name_bytes(bytes: &[u8]) -> bool
     ensures { result ≡ list_all is_name_byte bytes.now }
 {
     bytes.iter().all(|b| is_name_byte(*b))

@@ -6,7 +6,7 @@ ghost use Rattle.std.specs.Char.{is_ascii_digit};
 ghost use Rattle.pipe_tokens.specs.Character as character;
 ghost use Rattle.pipe_tokens.specs.Lexing as lexing;
 
-use crate::character::{is_comment_byte, is_name_byte, is_white};
+use crate::character::{is_comment_byte, is_name_byte, is_white_byte};
 use crate::name::Name;
 use crate::token::{Keyword, Punct, Token};
 
@@ -21,13 +21,13 @@ pub struct Piece {
     pub len: usize,
 }
 
-fn gap(len: usize) -> Piece
+fn new_gap_piece(len: usize) -> Piece
     ensures { result ≡ lexing.gap len }
 {
     Piece { token: None, len }
 }
 
-fn lexeme(token: Token, len: usize) -> Piece
+fn new_token_piece(token: Token, len: usize) -> Piece
     ensures { result ≡ lexing.lexeme token len }
 {
     Piece {
@@ -38,76 +38,76 @@ fn lexeme(token: Token, len: usize) -> Piece
 
 /// The longest piece at the front of a text that is not empty.
 #[tactic(auto, unfolding(crate::specs::Lexing::piece_of))]
-pub fn piece_of(text: &[u8]) -> Piece
+pub fn lex_longest_piece(text: &[u8]) -> Piece
     requires { 0 < length text.now }
     ensures piece { result ≡ lexing.piece_of text.now }
 {
     let first = text[0];
-    if is_white(first) {
-        gap(1)
+    if is_white_byte(first) {
+        new_gap_piece(1)
     } else if first == b'#' {
-        gap(comment_len(text))
+        new_gap_piece(count_comment_bytes(text))
     } else if first.is_ascii_alphabetic() {
-        word_piece(text)
+        lex_word(text)
     } else if first.is_ascii_digit() {
-        digits_piece(text)
+        lex_digits(text)
     } else if first >= 128 {
-        lexeme(Token::NotAscii, 1)
+        new_token_piece(Token::NotAscii, 1)
     } else {
-        mark_piece(text)
+        lex_punct(text)
     }
 }
 
-fn comment_len(text: &[u8]) -> usize
+fn count_comment_bytes(text: &[u8]) -> usize
     ensures { result ≡ prefix_len character.is_comment_byte text.now }
 {
     text.iter().take_while(|b| is_comment_byte(**b)).count()
 }
 
-fn word_len(text: &[u8]) -> usize
+fn count_name_bytes(text: &[u8]) -> usize
     ensures len { result ≡ prefix_len character.is_name_byte text.now }
     ensures within { result ≤ length text.now }
 {
     text.iter().take_while(|b| is_name_byte(**b)).count()
 }
 
-fn digits_len(text: &[u8]) -> usize
+fn count_digit_bytes(text: &[u8]) -> usize
     ensures len { result ≡ prefix_len is_ascii_digit text.now }
     ensures within { result ≤ length text.now }
 {
     text.iter().take_while(|b| b.is_ascii_digit()).count()
 }
 
-fn word_piece(text: &[u8]) -> Piece
+fn lex_word(text: &[u8]) -> Piece
     ensures { result ≡ lexing.word_piece text.now }
 {
-    let len = word_len(text);
-    lexeme(word_of(&text[..len]), len)
+    let len = count_name_bytes(text);
+    new_token_piece(convert_word_to_token(&text[..len]), len)
 }
 
-fn word_of(bytes: &[u8]) -> Token
+fn convert_word_to_token(bytes: &[u8]) -> Token
     ensures { result ≡ lexing.token_of_word bytes.now }
 {
-    if let Some(word) = Keyword::of(bytes) {
+    if let Some(word) = Keyword::from_bytes(bytes) {
         return Token::Keyword(word);
     }
-    match Name::of(bytes) {
+    match Name::from_bytes(bytes) {
         Some(name) => Token::Name(name),
         None => Token::Bad,
     }
 }
 
-fn digits_piece(text: &[u8]) -> Piece
+fn lex_digits(text: &[u8]) -> Piece
     ensures { result ≡ lexing.digits_piece text.now }
 {
-    let len = digits_len(text);
-    if word_len(text) != len {
-        return lexeme(Token::Bad, len);
+    let len = count_digit_bytes(text);
+    if count_name_bytes(text) != len {
+        return new_token_piece(Token::Bad, len);
     }
-    lexeme(number_of(&text[..len]), len)
+    new_token_piece(convert_digits_to_token(&text[..len]), len)
 }
 
-fn number_of(digits: &[u8]) -> Token
+fn convert_digits_to_token(digits: &[u8]) -> Token
     requires { AllPass is_ascii_digit digits.now }
     ensures { result ≡ lexing.token_of_digits digits.now }
 {
@@ -121,11 +121,11 @@ fn number_of(digits: &[u8]) -> Token
     Token::Int(value as u32)
 }
 
-fn mark_piece(text: &[u8]) -> Piece
+fn lex_punct(text: &[u8]) -> Piece
     ensures { result ≡ lexing.mark_piece text.now }
 {
-    match Punct::at(text) {
-        Some(mark) => lexeme(Token::Punct(mark), mark.bytes().len()),
-        None => lexeme(Token::Bad, 1),
+    match Punct::from_text_start(text) {
+        Some(mark) => new_token_piece(Token::Punct(mark), mark.as_bytes().len()),
+        None => new_token_piece(Token::Bad, 1),
     }
 }

@@ -12,17 +12,17 @@ use std::alloc::{AllocError, Global};
 
 /// The tokens in the fewest bytes: one blank between two neighbours that both begin with a letter or a digit, and no other.
 /// Numbers have no leading zeros. `TooBig`, `Bad` and `NotAscii` have no spelling and are omitted.
-pub fn spell(alloc: Global, tokens: &[Token]) -> Result<Vec<u8>, AllocError>
+pub fn spell_tokens(alloc: Global, tokens: &[Token]) -> Result<Vec<u8>, AllocError>
     ensures { IfOk result (λ bytes. bytes.items ≡ spelling tokens.now) }
 {
     let mut bytes = Vec::new(alloc);
     let mut behind_word = false;
     for token in tokens {
-        let is_word = begins_word(token);
+        let is_word = is_word_or_number_token(token);
         if behind_word && is_word {
             bytes.push(b' ')?;
         }
-        push_token(alloc, &mut bytes, token)?;
+        push_token_bytes(alloc, &mut bytes, token)?;
         behind_word = is_word;
     }
     Ok(bytes)
@@ -48,25 +48,25 @@ pub fn fewer_tokens_are_no_longer()
 {}
 
 /// Whether the token begins with a letter or a digit.
-fn begins_word(token: &Token) -> bool
+fn is_word_or_number_token(token: &Token) -> bool
     ensures { result ≡ begins_word token.now }
 {
     matches!(token, Token::Keyword(_) | Token::Name(_) | Token::Int(_))
 }
 
-fn push_token(alloc: Global, bytes: &mut Vec<u8>, token: &Token) -> Result<(), AllocError>
+fn push_token_bytes(alloc: Global, bytes: &mut Vec<u8>, token: &Token) -> Result<(), AllocError>
     ensures { OnOk result (bytes.new.items ≡ bytes.old.items ++ bytes_of token.now) }
 {
     match token {
-        Token::Keyword(word) => bytes.extend_from_slice(word.bytes()),
-        Token::Punct(mark) => bytes.extend_from_slice(mark.bytes()),
+        Token::Keyword(word) => bytes.extend_from_slice(word.as_bytes()),
+        Token::Punct(mark) => bytes.extend_from_slice(mark.as_bytes()),
         Token::Name(name) => bytes.extend_from_slice(name.as_bytes()),
-        Token::Int(value) => push_number(alloc, bytes, *value),
+        Token::Int(value) => push_number_digits(alloc, bytes, *value),
         Token::TooBig | Token::Bad | Token::NotAscii => Ok(()),
     }
 }
 
-fn push_number(alloc: Global, bytes: &mut Vec<u8>, value: u32) -> Result<(), AllocError>
+fn push_number_digits(alloc: Global, bytes: &mut Vec<u8>, value: u32) -> Result<(), AllocError>
     ensures { OnOk result (bytes.new.items ≡ bytes.old.items ++ decimal value) }
 {
     let digits = format!(in alloc; "{value}")?;

@@ -118,7 +118,7 @@ impl Keyword {
 
     /// How the word is spelled.
     #[tactic(auto, unfolding(crate::specs::Spelled::bytes_of_word))]
-    pub fn bytes(self) -> &'static [u8]
+    pub fn as_bytes(self) -> &'static [u8]
         ensures { result.now ≡ bytes_of_word self }
     {
         match self {
@@ -145,10 +145,10 @@ impl Keyword {
     }
 
     /// The reserved word that the bytes spell, if they are one.
-    pub fn of(bytes: &[u8]) -> Option<Self>
+    pub fn from_bytes(bytes: &[u8]) -> Option<Self>
         ensures { result ≡ word_of bytes.now }
     {
-        Keyword::ALL.iter().copied().find(|w| w.bytes() == bytes)
+        Keyword::ALL.iter().copied().find(|w| w.as_bytes() == bytes)
     }
 }
 
@@ -181,7 +181,7 @@ impl Punct {
 
     /// How the mark is spelled.
     #[tactic(auto, unfolding(crate::specs::Spelled::bytes_of_mark))]
-    pub fn bytes(self) -> &'static [u8]
+    pub fn as_bytes(self) -> &'static [u8]
         ensures { result.now ≡ bytes_of_mark self }
     {
         match self {
@@ -209,13 +209,13 @@ impl Punct {
     }
 
     /// The mark that the text begins with, if it begins with one.
-    pub(crate) fn at(text: &[u8]) -> Option<Self>
+    pub(crate) fn from_text_start(text: &[u8]) -> Option<Self>
         ensures { result ≡ mark_at text.now }
     {
         Punct::ALL
             .iter()
             .copied()
-            .find(|m| text.starts_with(m.bytes()))
+            .find(|m| text.starts_with(m.as_bytes()))
     }
 }
 
@@ -223,7 +223,7 @@ impl Token {
     ghost use Rattle.pipe_tokens.specs.Lexing.{is_fault};
 
     /// Whether the token is a lexical fault, which ends the lexing.
-    pub fn is_fault(&self) -> bool
+    pub fn is_lexical_fault(&self) -> bool
         ensures { result ≡ is_fault self.now }
     {
         matches!(self, Token::Bad | Token::NotAscii)

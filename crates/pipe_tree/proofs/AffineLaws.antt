@@ -5,7 +5,7 @@ use Rattle.pipe_tokens.specs.declared.token.Token.TheVariants as token
 use Rattle.pipe_tokens.specs.declared.token.Punct.TheVariants as marks
 use Rattle.pipe_tokens.specs.declared.token.Keyword.TheVariants as words
 use Rattle.pipe_tree.specs.declared.limits.Role.TheVariants as roles
-use Rattle.pipe_tree.specs.declared.tree.Term.{Term}
+use Rattle.pipe_tree.specs.declared.tree.AffineTerm.{AffineTerm}
 use Rattle.pipe_tree.specs.Operators.{name_at, sign_at}
 use Rattle.pipe_tree.specs.Lookahead.{is_mark_at, is_number_at}
 use Rattle.pipe_tree.specs.Grammar as g
@@ -76,20 +76,20 @@ module _ (n : ℕ) where
       (λ m. starts_by (g.name roles.Plain) _ NoStar (Failing is_number_at)
       (starts_means name_at roles.Plain Any (Failing is_number_at) name_is_no_number))
 
-  parses_term : (negative : Bool) (terms : List Term) → Parses n (term negative terms) NoStar (λ _. g.term negative terms)
+  parses_term : (negative : Bool) (terms : List AffineTerm) → Parses n (term negative terms) NoStar (λ _. g.term negative terms)
   parses_term negative terms =
       parses_then n scaled_name _ NoStar NoStar _ _ parses_scaled_name (λ f. parses_gives n _ NoStar)
       (λ m f. starts_gives _ NoStar NoStar (λ h s. s))
 
   -- a term begins with a number or a name
-  term_starts : (negative : Bool) (terms : List Term) → Starts (g.term negative terms) NoStar NoMinus
+  term_starts : (negative : Bool) (terms : List AffineTerm) → Starts (g.term negative terms) NoStar NoMinus
   term_starts negative terms =
       starts_by g.scaled_name _ NoStar NoMinus
       (starts_or _ _ Any NoMinus
       (starts_by (g.int roles.Plain) _ Any NoMinus (starts_int roles.Plain Any NoMinus (λ k. refl) refl))
       (starts_by (g.name roles.Plain) _ Any NoMinus (starts_means name_at roles.Plain Any NoMinus name_is_no_minus)))
 
-  parses_next_term : (terms : List Term) → Parses n (next_term terms) NoStar (λ _. g.next_term terms)
+  parses_next_term : (terms : List AffineTerm) → Parses n (next_term terms) NoStar (λ _. g.next_term terms)
   parses_next_term terms = parses_next n _ _ NoStar _ _ (parses_sign n roles.Plain) (λ negative. parses_term negative terms)
 
   affine_turns : Turns n (λ _. is_sign_at) next_term NoStar NoTerm (λ terms _. g.next_term terms)
@@ -106,7 +106,7 @@ module _ (n : ℕ) where
     ends = λ h e. e.0;
   }
 
-  pub affine_unroll : (terms : List Term) (s : At)
+  pub affine_unroll : (terms : List AffineTerm) (s : At)
       → while is_sign_at next_term terms s ≡ choose is_sign_at (next_term terms >>= while is_sign_at next_term) (gives terms) s
   affine_unroll terms s = loop_unroll n _ _ NoStar NoTerm _ affine_turns terms s
 

@@ -7,8 +7,8 @@ use Rattle.pipe_tokens.specs.Cutting.{CutsInto}
 use Rattle.pipe_tokens.specs.Lexing.{Lexeme, lexemes_of, tokens_of, starts_of}
 use Rattle.pipe_tokens.proofs.Only.{only_tokens, only_starts}
 use Rattle.pipe_tree.specs.declared.fault.Halt.{Halt}
-use Rattle.pipe_tree.specs.declared.fault.Kind.{Kind}
-use Rattle.pipe_tree.specs.declared.fault.Kind.TheVariants as kinds
+use Rattle.pipe_tree.specs.declared.fault.ParseFaultKind.{ParseFaultKind}
+use Rattle.pipe_tree.specs.declared.fault.ParseFaultKind.TheVariants as kinds
 use Rattle.pipe_tree.specs.declared.fault.ParseFault.{ParseFault}
 use Rattle.pipe_tree.specs.declared.fault.ParseFault.TheVariants as faults
 use Rattle.pipe_tree.specs.declared.tree.Tree.{Tree}
@@ -29,7 +29,7 @@ one_text tokens a b p q = let e : done a ≡ done b = sym (only tokens a p) ∙ 
 
 -- a fault of the tokens, and no other
 record Placed (bytes : List ℕ) (fault : ParseFault) : Type 0 where
-  kind : Kind
+  kind : ParseFaultKind
   offset : ℕ
   fault_is : fault ≡ fault_of kind offset
   it : IsFaultAt bytes kind offset
@@ -40,7 +40,7 @@ data Sort (bytes : List ℕ) (fault : ParseFault) : Type 0 where
   long : most_bytes < length bytes → fault ≡ faults.TooLong most_bytes → Sort bytes fault
   memory : fault ≡ faults.Memory → Sort bytes fault
 
-at_kind : (bytes : List ℕ) (kind : Kind) (offset : ℕ) → IsFaultAt bytes kind offset → Sort bytes (fault_of kind offset)
+at_kind : (bytes : List ℕ) (kind : ParseFaultKind) (offset : ℕ) → IsFaultAt bytes kind offset → Sort bytes (fault_of kind offset)
 at_kind bytes kind offset p = placed (record { kind = kind; offset = offset; fault_is = refl; it = p })
 
 sort : (bytes : List ℕ) (fault : ParseFault) → IsFault bytes fault → Sort bytes fault
@@ -53,7 +53,7 @@ sort bytes (faults.TooLong offset) p = long p.0 (ap faults.TooLong p.1)
 sort bytes (faults.TooMany offset) p = at_kind bytes kinds.TooMany offset p
 sort bytes faults.Memory p = memory refl
 
-pub is_fault : (bytes : List ℕ) (kind : Kind) (offset : ℕ) → IsFaultAt bytes kind offset → IsFault bytes (fault_of kind offset)
+pub is_fault : (bytes : List ℕ) (kind : ParseFaultKind) (offset : ℕ) → IsFaultAt bytes kind offset → IsFault bytes (fault_of kind offset)
 is_fault bytes kinds.NotAscii offset p = p
 is_fault bytes kinds.BadToken offset p = p
 is_fault bytes kinds.Unexpected offset p = p
@@ -71,13 +71,13 @@ text_of bytes tree p = subst (λ (tokens : List Token). Text tokens tree) (only_
 pub one_tree : (bytes : List ℕ) (a b : List Declaration) → IsText bytes a → IsText bytes b → a ≡ b
 one_tree bytes a b p q = one_text (tokens_of bytes) a b (text_of bytes a p) (text_of bytes b q)
 
-halt_of : (bytes : List ℕ) (kind : Kind) (offset : ℕ) (p : IsFaultAt bytes kind offset)
+halt_of : (bytes : List ℕ) (kind : ParseFaultKind) (offset : ℕ) (p : IsFaultAt bytes kind offset)
     → IsHalt (tokens_of bytes) (record { kind = kind; remaining = p.remaining })
 halt_of bytes kind offset p =
     subst (λ (tokens : List Token). IsHalt tokens (record { kind = kind; remaining = p.remaining }))
     (only_tokens bytes p.tokens p.starts p.cut) p.halt
 
-place_of : (bytes : List ℕ) (kind : Kind) (offset : ℕ) (p : IsFaultAt bytes kind offset)
+place_of : (bytes : List ℕ) (kind : ParseFaultKind) (offset : ℕ) (p : IsFaultAt bytes kind offset)
     → offset ≡ unwrap_or (slice_get (starts_of bytes) p.passed) (length bytes)
 place_of bytes kind offset p =
     p.offset_is ∙ ap (λ (starts : List ℕ). unwrap_or (slice_get starts p.passed) (length bytes)) (only_starts bytes p.tokens p.starts p.cut)
@@ -99,7 +99,7 @@ one_place bytes a b p q =
     let offset : p.offset ≡ q.offset =
     place_of bytes p.kind p.offset p.it ∙ ap (λ (n : ℕ). unwrap_or (slice_get (starts_of bytes) n) (length bytes)) passed
     ∙ sym (place_of bytes q.kind q.offset q.it) in
-    p.fault_is ∙ ap (λ (k : Kind). fault_of k p.offset) kind ∙ ap (fault_of q.kind) offset ∙ sym q.fault_is
+    p.fault_is ∙ ap (λ (k : ParseFaultKind). fault_of k p.offset) kind ∙ ap (fault_of q.kind) offset ∙ sym q.fault_is
 
 one_sort : (bytes : List ℕ) (a b : ParseFault) → Sort bytes a → Sort bytes b → (a ≡ faults.Memory → ⊥) → (b ≡ faults.Memory → ⊥) → a ≡ b
 one_sort bytes a b (memory e) q na nb = absurd (na e)

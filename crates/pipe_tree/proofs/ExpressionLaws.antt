@@ -6,18 +6,18 @@ use Rattle.pipe_tokens.specs.declared.token.Token.TheVariants as token
 use Rattle.pipe_tokens.specs.declared.token.Punct.{Punct}
 use Rattle.pipe_tokens.specs.declared.token.Punct.TheVariants as marks
 use Rattle.pipe_tokens.specs.declared.token.Keyword.TheVariants as words
-use Rattle.pipe_tree.specs.declared.fault.Kind.TheVariants.{TooDeep}
-use Rattle.pipe_tree.specs.declared.limits.Counts.{Counts}
+use Rattle.pipe_tree.specs.declared.fault.ParseFaultKind.TheVariants.{TooDeep}
+use Rattle.pipe_tree.specs.declared.limits.TextCounts.{TextCounts}
 use Rattle.pipe_tree.specs.declared.limits.Role.{Role}
 use Rattle.pipe_tree.specs.declared.limits.Role.TheVariants as roles
-use Rattle.pipe_tree.specs.declared.ahead.Call.{Call}
-use Rattle.pipe_tree.specs.declared.ahead.Call.TheVariants as calls
-use Rattle.pipe_tree.specs.declared.ahead.Factor.{Factor}
-use Rattle.pipe_tree.specs.declared.ahead.Factor.TheVariants as factors
+use Rattle.pipe_tree.specs.declared.ahead.CallOp.{CallOp}
+use Rattle.pipe_tree.specs.declared.ahead.CallOp.TheVariants as calls
+use Rattle.pipe_tree.specs.declared.ahead.ProductOp.{ProductOp}
+use Rattle.pipe_tree.specs.declared.ahead.ProductOp.TheVariants as factors
 use Rattle.pipe_tree.specs.declared.ahead.Opening.{Opening}
 use Rattle.pipe_tree.specs.declared.ahead.Opening.TheVariants as opening
-use Rattle.pipe_tree.specs.declared.ahead.Start.{Start}
-use Rattle.pipe_tree.specs.declared.ahead.Start.TheVariants as start
+use Rattle.pipe_tree.specs.declared.ahead.UnaryStart.{UnaryStart}
+use Rattle.pipe_tree.specs.declared.ahead.UnaryStart.TheVariants as start
 use Rattle.operators.specs.declared.operator.Relation.{Relation}
 use Rattle.pipe_tree.specs.Tokens.{head}
 use Rattle.pipe_tree.specs.Limits.{Tagged, fits}
@@ -52,7 +52,7 @@ NoFactor h = NoOpen h × (is_factor_at h ≡ false)
 abbrev pub NoOperator : Follow
 NoOperator h = NoOpen h × (is_factor_at h ≡ false) × (is_sign_at h ≡ false)
 
-factor_is_factor : (t : Token) (x : Factor) → factor_at (Some t) ≡ Some x → is_factor_at (Some t) ≡ true
+factor_is_factor : (t : Token) (x : ProductOp) → factor_at (Some t) ≡ Some x → is_factor_at (Some t) ≡ true
 factor_is_factor (token.Punct marks.Star) x e = refl
 factor_is_factor (token.Punct marks.Slash) x e = refl
 factor_is_factor (token.Punct marks.Percent) x e = refl
@@ -60,7 +60,7 @@ factor_is_factor (token.Punct marks.ShiftLeft) x e = refl
 factor_is_factor (token.Punct marks.ShiftRight) x e = refl
 factor_is_factor t x e = absurd cc
 
-factor_is_no_open : (t : Token) (x : Factor) → factor_at (Some t) ≡ Some x → NoOpen (Some t)
+factor_is_no_open : (t : Token) (x : ProductOp) → factor_at (Some t) ≡ Some x → NoOpen (Some t)
 factor_is_no_open (token.Punct marks.OpenRound) x e = absurd cc
 factor_is_no_open (token.Punct marks.OpenSquare) x e = absurd cc
 factor_is_no_open (token.Punct marks.Star) x e = (refl, refl)
@@ -85,13 +85,13 @@ name_starts_name : (t : Token) (x : List ℕ) → name_at (Some t) ≡ Some x �
 name_starts_name (token.Name y) x e = refl
 name_starts_name t x e = absurd cc
 
-call_starts_call : (t : Token) (c : Call) → call_at (Some t) ≡ Some c → start_at (Some t) ≡ start.Opening opening.Call
-call_starts_call t c e = ap (λ (o : Option Call). start_by o (Some t)) e
+call_starts_call : (t : Token) (c : CallOp) → call_at (Some t) ≡ Some c → start_at (Some t) ≡ start.Opening opening.Call
+call_starts_call t c e = ap (λ (o : Option CallOp). start_by o (Some t)) e
 
 -- ---- products and sums, over what reads a unary
 
 module _ (n : ℕ) (u : Reader Node) (U : ℕ → Rule Node) (reads : Parses n u NoOpen U) where
-  parses_operand : (a : Node) (f : Factor) → Parses n (operand u a f) NoOpen (λ m. g.operand (U m) a f)
+  parses_operand : (a : Node) (f : ProductOp) → Parses n (operand u a f) NoOpen (λ m. g.operand (U m) a f)
   parses_operand a factors.Times =
       parses_then n u _ NoOpen NoOpen _ _ reads (λ b. parses_gives n _ NoOpen) (λ m b. starts_gives _ NoOpen NoOpen (λ h s. s))
   parses_operand a (factors.Literal op) = parses_next n _ _ NoOpen _ _ (parses_int roles.Plain n) (λ k. parses_gives n _ NoOpen)
@@ -187,7 +187,7 @@ module _ (n : ℕ) (e : Reader Node) (E : ℕ → Rule Node) (reads : Parses n e
       parses_then n e _ NoOperator NoOperator _ _ reads (λ a. parses_gives n (f a) NoOperator)
       (λ m a. starts_gives (f a) NoOperator NoOperator (λ h s. s))
 
-  parses_arguments : (c : Call) → Parses n (arguments e c) NoOperator (λ m. g.arguments (E m) c)
+  parses_arguments : (c : CallOp) → Parses n (arguments e c) NoOperator (λ m. g.arguments (E m) c)
   parses_arguments (calls.Unary op) = final _
   parses_arguments (calls.Binary op) =
       parses_then n e _ NoOperator NoOperator _ _ reads
@@ -225,7 +225,7 @@ module _ (n : ℕ) (e : Reader Node) (E : ℕ → Rule Node) (reads : Parses n e
 
 -- ---- unaries, by what they begin with
 
-deeper_ends : {X : Type 0} (D E : Type 0) (c : Counts) (x : X) (text : List Tagged) (rest : List Token) (a : Answer X) → (D → E)
+deeper_ends : {X : Type 0} (D E : Type 0) (c : TextCounts) (x : X) (text : List Tagged) (rest : List Token) (a : Answer X) → (D → E)
     → Ends D c x text rest a → Ends E c x text rest a
 deeper_ends D E c x text rest (Ok a) up e = e
 deeper_ends D E c x text rest (Err h) up (inl e) = inl (e.0, up e.1)
@@ -391,13 +391,13 @@ argument : (Q : Node → Rule Node) → ((a : Node) → HasText (Q a))
 argument Q has = then_has _ _ sum_has (λ a. then_has _ _ (mark_has marks.Comma roles.Plain) (λ _. has a))
 
 -- the operands of a call
-arguments_have : (c : Call) → HasText (g.arguments (g.sums (g.product (Unary 0))) c)
+arguments_have : (c : CallOp) → HasText (g.arguments (g.sums (g.product (Unary 0))) c)
 arguments_have (calls.Unary op) = then_has _ _ sum_has (λ a. (parses_gives 0 _ Any).has)
 arguments_have (calls.Binary op) = argument _ (λ a. then_has _ _ sum_has (λ b. (parses_gives 0 _ Any).has))
 arguments_have (calls.Ternary op) = argument _ (λ a. argument _ (λ b. then_has _ _ sum_has (λ c. (parses_gives 0 _ Any).has)))
 
 -- a level that is opened has its place, if there is one more level
-deep_by : (h : Option Token) (c : Option Call) (o : Opening) → call_at h ≡ c → start_by c h ≡ start.Opening o
+deep_by : (h : Option Token) (c : Option CallOp) (o : Opening) → call_at h ≡ c → start_by c h ≡ start.Opening o
     → GoesOn (Unary 1) [] h (λ t. fits t.token ≡ true)
 deep_by (Some t) (Some c) o is e =
     goes_within (g.called (g.sums (g.product (Unary 0)))) (Unary 1) _ _ (λ text x p. level_in_unary 0 text x (inl (inr p)))
@@ -510,7 +510,7 @@ stop_entry x s e = record {
 -- what opens no level, with any reader of levels
 leaf_sound : (open_level : Opening → Reader Node) (entry : List ℕ → Reader Node) (R W : Rule Node) → Within leaf R → Within leaf W → (s : At)
     → ((o : Opening) → start_at (head s.rest) ≡ start.Opening o → Sound (open_level o) R W s (open_level o s))
-    → Sound (named entry) R W s (named entry s) → (k : Start)
+    → Sound (named entry) R W s (named entry s) → (k : UnaryStart)
     → start_at (head s.rest) ≡ k → Sound (unary_by open_level entry k) R W s (unary_by open_level entry k s)
 leaf_sound open_level entry R W up wide s opens names start.Number e =
     widen literal_number g.literal_number g.literal_number R W s (literal_number s) (λ text x p. up text x (inl (inl p)))

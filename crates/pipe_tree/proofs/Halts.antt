@@ -5,9 +5,9 @@ use Rattle.std.specs.Prelude.{if◌then◌else◌}
 use Rattle.pipe_tokens.specs.declared.token.Token.{Token}
 use Rattle.pipe_tokens.specs.declared.token.Token.TheVariants as token
 use Rattle.pipe_tree.specs.declared.fault.Halt.{Halt}
-use Rattle.pipe_tree.specs.declared.fault.Kind.{Kind}
-use Rattle.pipe_tree.specs.declared.fault.Kind.TheVariants.{NotAscii, BadToken, Unexpected, NumberTooBig, TooDeep, TooMany}
-use Rattle.pipe_tree.specs.declared.limits.Counts.{Counts}
+use Rattle.pipe_tree.specs.declared.fault.ParseFaultKind.{ParseFaultKind}
+use Rattle.pipe_tree.specs.declared.fault.ParseFaultKind.TheVariants.{NotAscii, BadToken, Unexpected, NumberTooBig, TooDeep, TooMany}
+use Rattle.pipe_tree.specs.declared.limits.TextCounts.{TextCounts}
 use Rattle.pipe_tree.specs.Tokens.{head}
 use Rattle.pipe_tree.specs.Tree.{Declaration}
 use Rattle.pipe_tree.specs.Limits.{most_levels, Tagged, untagged, is_number, fits, counted, counted_next, counted_all, none_yet}
@@ -100,21 +100,21 @@ untagged-length (t ∷ a) = ap suc (untagged-length a)
 -- ---- the token that passes a limit
 
 -- a text passes its limit at one token
-first_none : (o : Option Counts) (a b : List Tagged) (t u : Tagged) (x y : List Tagged) (c d : Counts)
+first_none : (o : Option TextCounts) (a b : List Tagged) (t u : Tagged) (x y : List Tagged) (c d : TextCounts)
     → a ++ t ∷ x ≡ b ++ u ∷ y → counted_all o a ≡ Some c → counted_next (Some c) t ≡ None → counted_all o b ≡ Some d
     → counted_next (Some d) u ≡ None → length x ≡ length y
 first_none o [] [] t u x y c d e few passes few' passes' = let is : x ≡ y = cc in ap length is
 first_none o [] (v ∷ b) t u x y c d e few passes few' passes' =
     let is : t ≡ v = cc in
     let none : counted_all (counted_next o v) b ≡ None =
-    ap (λ (w : Tagged). counted_all (counted_next o w) b) (sym is) ∙ ap (λ (p : Option Counts). counted_all (counted_next p t) b) few
-    ∙ ap (λ (p : Option Counts). counted_all p b) passes ∙ counted_all-none b in
+    ap (λ (w : Tagged). counted_all (counted_next o w) b) (sym is) ∙ ap (λ (p : Option TextCounts). counted_all (counted_next p t) b) few
+    ∙ ap (λ (p : Option TextCounts). counted_all p b) passes ∙ counted_all-none b in
     absurd cc
 first_none o (v ∷ a) [] t u x y c d e few passes few' passes' =
     let is : u ≡ v = cc in
     let none : counted_all (counted_next o v) a ≡ None =
-    ap (λ (w : Tagged). counted_all (counted_next o w) a) (sym is) ∙ ap (λ (p : Option Counts). counted_all (counted_next p u) a) few'
-    ∙ ap (λ (p : Option Counts). counted_all p a) passes' ∙ counted_all-none a in
+    ap (λ (w : Tagged). counted_all (counted_next o w) a) (sym is) ∙ ap (λ (p : Option TextCounts). counted_all (counted_next p u) a) few'
+    ∙ ap (λ (p : Option TextCounts). counted_all p a) passes' ∙ counted_all-none a in
     absurd cc
 first_none o (v ∷ a) (w ∷ b) t u x y c d e few passes few' passes' =
     let is : w ≡ v = cc in
@@ -124,9 +124,9 @@ first_none o (v ∷ a) (w ∷ b) t u x y c d e few passes few' passes' =
 
 -- the reading of tokens stops where so many are left
 abbrev Stops : List Token → ℕ → Type 0
-Stops tokens remaining = (kind : Kind) × (reading tokens ≡ Err (record { kind = kind; remaining = remaining }))
+Stops tokens remaining = (kind : ParseFaultKind) × (reading tokens ≡ Err (record { kind = kind; remaining = remaining }))
 
-module _ (before : List Tagged) (next : Tagged) (more : List Tagged) (tree : List Declaration) (c : Counts)
+module _ (before : List Tagged) (next : Tagged) (more : List Tagged) (tree : List Declaration) (c : TextCounts)
     (program : Program most_levels (before ++ next ∷ more) tree) (few : counted_all (Some none_yet) before ≡ Some c)
     (passes : counted_next (Some c) next ≡ None)
     (last : List Token) (ahead : head last ≡ Some next.token) where
@@ -157,32 +157,32 @@ module _ (before : List Tagged) (next : Tagged) (more : List Tagged) (tree : Lis
 
 -- ---- no text goes past a fault
 
-some_counted : (front back : List Tagged) (o : Option Counts) (c : Counts) → counted_all o (front ++ back) ≡ Some c → (p : Option Counts)
-    → counted_all o front ≡ p → (d : Counts) × (counted_all o front ≡ Some d)
+some_counted : (front back : List Tagged) (o : Option TextCounts) (c : TextCounts) → counted_all o (front ++ back) ≡ Some c → (p : Option TextCounts)
+    → counted_all o front ≡ p → (d : TextCounts) × (counted_all o front ≡ Some d)
 some_counted front back o c e None is =
     let none : counted_all o (front ++ back) ≡ None =
-    counted_all-append o front back ∙ ap (λ (p : Option Counts). counted_all p back) is ∙ counted_all-none back in
+    counted_all-append o front back ∙ ap (λ (p : Option TextCounts). counted_all p back) is ∙ counted_all-none back in
     absurd cc
 some_counted front back o c e (Some d) is = (d, is)
 
 -- the counts up to a token in a text
 pub record Through (front : List Tagged) (at : Tagged) : Type 0 where
-  pub few : Counts
+  pub few : TextCounts
   pub few_is : counted_all (Some none_yet) front ≡ Some few
-  pub next : Counts
+  pub next : TextCounts
   pub next_is : counted_next (Some few) at ≡ Some next
 
-through : (front : List Tagged) (at : Tagged) (back : List Tagged) (c : Counts) → counted_all (Some none_yet) (front ++ at ∷ back) ≡ Some c
+through : (front : List Tagged) (at : Tagged) (back : List Tagged) (c : TextCounts) → counted_all (Some none_yet) (front ++ at ∷ back) ≡ Some c
     → Through front at
 through front at back c e =
     let few = some_counted front (at ∷ back) (Some none_yet) c e (counted_all (Some none_yet) front) refl in
     let rest : counted_all (counted_next (Some few.0) at) back ≡ Some c =
-    ap (λ (p : Option Counts). counted_all (counted_next p at) back) (sym few.1)
+    ap (λ (p : Option TextCounts). counted_all (counted_next p at) back) (sym few.1)
     ∙ sym (counted_all-append (Some none_yet) front (at ∷ back)) ∙ e in
     let next = some_counted [] back (counted_next (Some few.0) at) c rest (counted_next (Some few.0) at) refl in
     record { few = few.0; few_is = few.1; next = next.0; next_is = next.1 }
 
-unfit : (t : Tagged) (c d : Counts) → fits t.token ≡ false → counted_next (Some c) t ≡ Some d → ⊥
+unfit : (t : Tagged) (c d : TextCounts) → fits t.token ≡ false → counted_next (Some c) t ≡ Some d → ⊥
 unfit t c d e is = let none : counted_next (Some c) t ≡ None = ap (λ (b : Bool). if b then counted t.role c else None) e in cc
 
 token_is : (t u : Token) → Some t ≡ Some u → t ≡ u
@@ -195,7 +195,7 @@ module _ (tokens : List Token) (h : Halt) (p : IsHalt tokens h) (front : List Ta
   parts_are = untagged-append front (at ∷ back) ∙ ap (λ (l : List Token). l ++ at.token ∷ untagged back) front_is
 
   -- where the tokens up to the fault pass no limit
-  ends_later : (text : List Tagged) (kind : Kind) → text ≡ front ++ at ∷ back → (a : Answer (List Declaration))
+  ends_later : (text : List Tagged) (kind : ParseFaultKind) → text ≡ front ++ at ∷ back → (a : Answer (List Declaration))
       → a ≡ Err (record { kind = kind; remaining = length (at.token ∷ untagged back) })
       → Ends (most_levels < most_levels) none_yet tree text [] a → ⊥
   ends_later text kind is (Ok b) e ends = cc
@@ -208,7 +208,7 @@ module _ (tokens : List Token) (h : Halt) (p : IsHalt tokens h) (front : List Ta
       let at_is : at ≡ q.at = (let e : at ∷ back ≡ q.at ∷ q.back = same.1 in cc) in
       let few_is : Some counts.few ≡ Some q.counts = sym counts.few_is ∙ ap (counted_all (Some none_yet)) same.0 ∙ q.few in
       let next_is : counted_next (Some q.counts) q.at ≡ Some counts.next =
-      ap (λ (c : Option Counts). counted_next c q.at) (sym few_is) ∙ ap (counted_next (Some counts.few)) (sym at_is) ∙ counts.next_is in
+      ap (λ (c : Option TextCounts). counted_next c q.at) (sym few_is) ∙ ap (counted_next (Some counts.few)) (sym at_is) ∙ counts.next_is in
       let none : counted_next (Some q.counts) q.at ≡ None = q.passes in
       let clash : Some counts.next ≡ None = sym next_is ∙ none in
       cc
@@ -223,7 +223,7 @@ module _ (tokens : List Token) (h : Halt) (p : IsHalt tokens h) (front : List Ta
   fit_at : (next : Tagged) → head p.last ≡ Some next.token → fits next.token ≡ false → ⊥
   fit_at next is e = unfit at counts.few counts.next (ap fits (token_is at.token next.token (sym ahead ∙ is)) ∙ e) counts.next_is
 
-  past_kind : (kind : Kind) → Wrong kind p.before p.counts (head p.last) → ⊥
+  past_kind : (kind : ParseFaultKind) → Wrong kind p.before p.counts (head p.last) → ⊥
   past_kind NotAscii w = unfit at counts.few counts.next (ap fits (token_is at.token token.NotAscii (sym ahead ∙ w))) counts.next_is
   past_kind BadToken w = unfit at counts.few counts.next (ap fits (token_is at.token token.Bad (sym ahead ∙ w))) counts.next_is
   past_kind Unexpected w =
@@ -239,7 +239,7 @@ module _ (tokens : List Token) (h : Halt) (p : IsHalt tokens h) (front : List Ta
 
 -- ---- a text has no fault
 
-past_parted : (tokens : List Token) (h : Halt) (p : IsHalt tokens h) (text : List Tagged) (tree : List Declaration) (c : Counts)
+past_parted : (tokens : List Token) (h : Halt) (p : IsHalt tokens h) (text : List Tagged) (tree : List Declaration) (c : TextCounts)
     → Program most_levels text tree → counted_all (Some none_yet) text ≡ Some c
     → (t : Token) (others : List Token) → head p.last ≡ Some t → Parted text (untagged p.before) t others → ⊥
 past_parted tokens h p text tree c program few t others ahead q =
@@ -248,7 +248,7 @@ past_parted tokens h p text tree c program few t others ahead q =
     (through q.front q.at q.back c (ap (counted_all (Some none_yet)) (sym q.parts) ∙ few))
 
 not_at_end : (tokens : List Token) (h : Halt) (p : IsHalt tokens h) (text : List Tagged) (tree : List Declaration)
-    → Program most_levels text tree → untagged text ≡ untagged p.before ++ [] → head p.last ≡ None → (kind : Kind)
+    → Program most_levels text tree → untagged text ≡ untagged p.before ++ [] → head p.last ≡ None → (kind : ParseFaultKind)
     → Wrong kind p.before p.counts (head p.last) → ⊥
 not_at_end tokens h p text tree program e none NotAscii w = let is : Some token.NotAscii ≡ None = sym w ∙ none in cc
 not_at_end tokens h p text tree program e none BadToken w = let is : Some token.Bad ≡ None = sym w ∙ none in cc
@@ -285,17 +285,17 @@ not_before tokens h k p q longer =
     (through r.front r.at r.back q.counts (ap (counted_all (Some none_yet)) (sym r.parts) ∙ q.few))
 
 -- a lexical fault, or Unexpected
-abbrev low : Kind → Kind
+abbrev low : ParseFaultKind → ParseFaultKind
 low NotAscii = NotAscii
 low BadToken = BadToken
 low _ = Unexpected
 
-low_not_ascii : (k : Kind) → low k ≡ NotAscii → k ≡ NotAscii
+low_not_ascii : (k : ParseFaultKind) → low k ≡ NotAscii → k ≡ NotAscii
 low_not_ascii NotAscii e = refl
 low_not_ascii BadToken e = absurd cc
 low_not_ascii _ e = absurd cc
 
-low_bad : (k : Kind) → low k ≡ BadToken → k ≡ BadToken
+low_bad : (k : ParseFaultKind) → low k ≡ BadToken → k ≡ BadToken
 low_bad BadToken e = refl
 low_bad NotAscii e = absurd cc
 low_bad _ e = absurd cc
@@ -316,7 +316,7 @@ fit_kind token.NotAscii e = absurd cc
 fit_kind token.Bad e = absurd cc
 fit_kind t e = refl
 
-low_is : (k : Kind) (b : List Tagged) (c : Counts) (ahead : Option Token) → Wrong k b c ahead → kind_at ahead ≡ low k
+low_is : (k : ParseFaultKind) (b : List Tagged) (c : TextCounts) (ahead : Option Token) → Wrong k b c ahead → kind_at ahead ≡ low k
 low_is NotAscii b c ahead w = ap kind_at w
 low_is BadToken b c ahead w = ap kind_at w
 low_is Unexpected b c ahead w = no_lexical ahead w.0
@@ -339,8 +339,8 @@ goes_none R b d ahead P e g none =
 fits_both : (ahead : Option Token) (t u : Token) → ahead ≡ Some t → ahead ≡ Some u → fits t ≡ true → fits u ≡ false → ⊥
 fits_both ahead t u e f yes_fits no_fits = let is : fits t ≡ fits u = ap fits (token_is t u (sym e ∙ f)) in cc
 
-module _ (b d : List Tagged) (c e : Counts) (ahead : Option Token) (same : untagged b ≡ untagged d) where
-  one_kind : (k l : Kind) → Wrong k b c ahead → Wrong l d e ahead → k ≡ l
+module _ (b d : List Tagged) (c e : TextCounts) (ahead : Option Token) (same : untagged b ≡ untagged d) where
+  one_kind : (k l : ParseFaultKind) → Wrong k b c ahead → Wrong l d e ahead → k ≡ l
   one_kind NotAscii l w v = sym (low_not_ascii l (sym (low_is l d e ahead v) ∙ low_is NotAscii b c ahead w))
   one_kind BadToken l w v = sym (low_bad l (sym (low_is l d e ahead v) ∙ low_is BadToken b c ahead w))
   one_kind k NotAscii w v = low_not_ascii k (sym (low_is k b c ahead w) ∙ low_is NotAscii d e ahead v)
@@ -364,7 +364,7 @@ module _ (b d : List Tagged) (c e : Counts) (ahead : Option Token) (same : untag
 
 same_halt : (h k : Halt) → h.kind ≡ k.kind → h.remaining ≡ k.remaining → h ≡ k
 same_halt h k e f =
-    ap (λ (kind : Kind). record { kind = kind; remaining = h.remaining }) e
+    ap (λ (kind : ParseFaultKind). record { kind = kind; remaining = h.remaining }) e
     ∙ ap (λ (remaining : ℕ). record { kind = k.kind; remaining = remaining }) f
 
 halts_at : (tokens : List Token) (h k : Halt) (p : IsHalt tokens h) (q : IsHalt tokens k)

@@ -6,9 +6,9 @@ use Rattle.std.specs.Prelude.{if◌then◌else◌}
 use Rattle.pipe_tokens.specs.declared.token.Token.{Token}
 use Rattle.pipe_tokens.specs.declared.token.Token.TheVariants as token
 use Rattle.pipe_tree.specs.declared.fault.Halt.{Halt}
-use Rattle.pipe_tree.specs.declared.fault.Kind.{Kind}
-use Rattle.pipe_tree.specs.declared.fault.Kind.TheVariants.{NotAscii, BadToken, Unexpected, NumberTooBig, TooDeep, TooMany}
-use Rattle.pipe_tree.specs.declared.limits.Counts.{Counts}
+use Rattle.pipe_tree.specs.declared.fault.ParseFaultKind.{ParseFaultKind}
+use Rattle.pipe_tree.specs.declared.fault.ParseFaultKind.TheVariants.{NotAscii, BadToken, Unexpected, NumberTooBig, TooDeep, TooMany}
+use Rattle.pipe_tree.specs.declared.limits.TextCounts.{TextCounts}
 use Rattle.pipe_tree.specs.declared.limits.Role.{Role}
 use Rattle.pipe_tree.specs.Tokens.{head}
 use Rattle.pipe_tree.specs.Limits.{Tagged, untagged, is_number, fits, counted, counted_next, counted_all}
@@ -30,7 +30,7 @@ pub on-untagged : (a : List Tagged) (rest : List Token) → on a rest ≡ untagg
 on-untagged [] rest = refl
 on-untagged (t ∷ a) rest = ap (λ (l : List Token). t.token ∷ l) (on-untagged a rest)
 
-pub counted_all-append : (o : Option Counts) (a b : List Tagged) → counted_all o (a ++ b) ≡ counted_all (counted_all o a) b
+pub counted_all-append : (o : Option TextCounts) (a b : List Tagged) → counted_all o (a ++ b) ≡ counted_all (counted_all o a) b
 counted_all-append o [] b = refl
 counted_all-append o (t ∷ a) b = counted_all-append (counted_next o t) a b
 
@@ -42,7 +42,7 @@ head_on : (text : List Tagged) (a b : List Token) → head a ≡ head b → head
 head_on [] a b e = e
 head_on (t ∷ text) a b e = refl
 
-abbrev pub state : Counts → List Token → At
+abbrev pub state : TextCounts → List Token → At
 state counts rest = record { counts = counts; rest = rest }
 
 abbrev pub tagged : Token → Role → Tagged
@@ -63,7 +63,7 @@ pub record Found {X : Type 0} (r : Reader X) (R : Rule X) (s : At) (x : X) (s' :
   pub again : (more : List Token) → head more ≡ head s'.rest → r (state s.counts (on text more)) ≡ Ok (x, state s'.counts more)
 
 -- What is wrong with the token ahead. `W` is the rule with one more level.
-abbrev pub Reaches : {X : Type 0} → Rule X → Rule X → List Tagged → Counts → Option Token → Kind → Type 0
+abbrev pub Reaches : {X : Type 0} → Rule X → Rule X → List Tagged → TextCounts → Option Token → ParseFaultKind → Type 0
 Reaches R W text c ahead NotAscii = ahead ≡ Some token.NotAscii
 Reaches R W text c ahead BadToken = ahead ≡ Some token.Bad
 Reaches R W text c ahead Unexpected = is_lexical ahead ≡ false
@@ -75,7 +75,7 @@ Reaches R W text c ahead TooMany = GoesOn R text ahead (λ t. (fits t.token ≡ 
 pub record Failed {X : Type 0} (r : Reader X) (R W : Rule X) (s : At) (h : Halt) : Type 0 where
   pub text : List Tagged
   pub last : List Token
-  pub counts : Counts
+  pub counts : TextCounts
   pub parts : s.rest ≡ on text last
   pub remaining : h.remaining ≡ length last
   pub few : counted_all (Some s.counts) text ≡ Some counts
@@ -106,11 +106,11 @@ abbrev pub Any : Follow
 Any h = Unit {0}
 
 -- the token at which the reading of a text stops for a limit
-pub record Passes (text : List Tagged) (c : Counts) (rest : List Token) (h : Halt) : Type 0 where
+pub record Passes (text : List Tagged) (c : TextCounts) (rest : List Token) (h : Halt) : Type 0 where
   pub front : List Tagged
   pub at : Tagged
   pub back : List Tagged
-  pub counts : Counts
+  pub counts : TextCounts
   pub parts : text ≡ front ++ at ∷ back
   pub remaining : h.remaining ≡ length (on (at ∷ back) rest)
   pub few : counted_all (Some c) front ≡ Some counts
@@ -118,13 +118,13 @@ pub record Passes (text : List Tagged) (c : Counts) (rest : List Token) (h : Hal
   pub kind : (h.kind ≡ TooMany) ⊎ (h.kind ≡ NumberTooBig)
 
 -- how the reading of a text ends: with the value, or at a limit
-abbrev pub Ends : {X : Type 0} → Type 0 → Counts → X → List Tagged → List Token → Answer X → Type 0
+abbrev pub Ends : {X : Type 0} → Type 0 → TextCounts → X → List Tagged → List Token → Answer X → Type 0
 Ends deep c x text rest (Ok a) = (a ≡ (x, state a.1.counts rest)) × (counted_all (Some c) text ≡ Some a.1.counts)
 Ends deep c x text rest (Err h) = ((h.kind ≡ TooDeep) × deep) ⊎ Passes text c rest h
 
 -- Each text of the rule is read, if what follows it is in S. `deep` holds where the levels may run out.
 pub record All {X : Type 0} (deep : Type 0) (r : Reader X) (S : Follow) (R : Rule X) : Type 0 where
-  pub read_all : (c : Counts) (text : List Tagged) (rest : List Token) (x : X) → R text x → S (head rest)
+  pub read_all : (c : TextCounts) (text : List Tagged) (rest : List Token) (x : X) → R text x → S (head rest)
       → Ends deep c x text rest (r (state c (on text rest)))
 
 -- ---- both
@@ -180,7 +180,7 @@ goes_map R Q text text' ahead P carry f =
     let h = carry f.next f.more f.value f.rule in
     record { next = f.next; more = h.0; value = h.1; ahead_is = f.ahead_is; rule = h.2; holds = f.holds }
 
-pub reaches_map : {X Y : Type 0} (R W : Rule X) (Q V : Rule Y) (text text' : List Tagged) (c : Counts) (ahead : Option Token) (k : Kind)
+pub reaches_map : {X Y : Type 0} (R W : Rule X) (Q V : Rule Y) (text text' : List Tagged) (c : TextCounts) (ahead : Option Token) (k : ParseFaultKind)
     → Carries R text Q text' → Carries W text V text' → Reaches R W text c ahead k → Reaches Q V text' c ahead k
 reaches_map R W Q V text text' c ahead NotAscii up wide f = f
 reaches_map R W Q V text text' c ahead BadToken up wide f = f
@@ -268,9 +268,9 @@ module _ {X Y : Type 0} (r : Reader X) (f : X → Reader Y) (R W : Rule X) (Q V 
             (then_carries W V p.text wide_has) p.reaches;
       }
 
-  both_few : (a : At) (front back : List Tagged) (o : Counts) → counted_all (Some s.counts) front ≡ Some a.counts
+  both_few : (a : At) (front back : List Tagged) (o : TextCounts) → counted_all (Some s.counts) front ≡ Some a.counts
       → counted_all (Some a.counts) back ≡ Some o → counted_all (Some s.counts) (front ++ back) ≡ Some o
-  both_few a front back o p q = counted_all-append (Some s.counts) front back ∙ ap (λ (c : Option Counts). counted_all c back) p ∙ q
+  both_few a front back o p q = counted_all-append (Some s.counts) front back ∙ ap (λ (c : Option TextCounts). counted_all c back) p ∙ q
 
   both_again : (a : X × At) (p : Found r R s a.0 a.1) (back : List Tagged) (last more : List Token) (b : Answer Y) → a.1.rest ≡ on back last
       → head more ≡ head last → f a.0 (state a.1.counts (on back more)) ≡ b → (r >>= f) (state s.counts (on (p.text ++ back) more)) ≡ b
@@ -351,7 +351,7 @@ has_within R Q up h = record { text = h.text; value = h.value; rule = up h.text 
 
 -- ---- each text of two rules
 
-module _ {X Y : Type 0} (deep : Type 0) (r : Reader X) (f : X → Reader Y) (c : Counts) (front back : List Tagged) (rest : List Token)
+module _ {X Y : Type 0} (deep : Type 0) (r : Reader X) (f : X → Reader Y) (c : TextCounts) (front back : List Tagged) (rest : List Token)
     (y : Y) where
   passes_first : (h : Halt) → Passes front c (on back rest) h → Passes (front ++ back) c rest h
   passes_first h p =
@@ -367,7 +367,7 @@ module _ {X Y : Type 0} (deep : Type 0) (r : Reader X) (f : X → Reader Y) (c :
         kind = p.kind;
       }
 
-  passes_later : (d : Counts) (h : Halt) → counted_all (Some c) front ≡ Some d → Passes back d rest h → Passes (front ++ back) c rest h
+  passes_later : (d : TextCounts) (h : Halt) → counted_all (Some c) front ≡ Some d → Passes back d rest h → Passes (front ++ back) c rest h
   passes_later d h few p =
       record {
         front = front ++ p.front;
@@ -376,19 +376,19 @@ module _ {X Y : Type 0} (deep : Type 0) (r : Reader X) (f : X → Reader Y) (c :
         counts = p.counts;
         parts = ap (λ (l : List Tagged). front ++ l) p.parts ∙ sym (append_assoc front p.front (p.at ∷ p.back));
         remaining = p.remaining;
-        few = counted_all-append (Some c) front p.front ∙ ap (λ (o : Option Counts). counted_all o p.front) few ∙ p.few;
+        few = counted_all-append (Some c) front p.front ∙ ap (λ (o : Option TextCounts). counted_all o p.front) few ∙ p.few;
         passes = p.passes;
         kind = p.kind;
       }
 
-  later : (d : Counts) → counted_all (Some c) front ≡ Some d → (b : Answer Y) → Ends deep d y back rest b
+  later : (d : TextCounts) → counted_all (Some c) front ≡ Some d → (b : Answer Y) → Ends deep d y back rest b
       → Ends deep c y (front ++ back) rest b
-  later d few (Ok b) e = (e.0, counted_all-append (Some c) front back ∙ ap (λ (o : Option Counts). counted_all o back) few ∙ e.1)
+  later d few (Ok b) e = (e.0, counted_all-append (Some c) front back ∙ ap (λ (o : Option TextCounts). counted_all o back) few ∙ e.1)
   later d few (Err h) (inl e) = inl e
   later d few (Err h) (inr e) = inr (passes_later d h few e)
 
   pub first_ends : (x : X) (a : Answer X) → Ends deep c x front (on back rest) a
-      → ((d : Counts) → Ends deep d y back rest (f x (state d (on back rest)))) → Ends deep c y (front ++ back) rest (on_ok a f)
+      → ((d : TextCounts) → Ends deep d y back rest (f x (state d (on back rest)))) → Ends deep c y (front ++ back) rest (on_ok a f)
   first_ends x (Ok a) e q =
       subst (λ (p : X × At). Ends deep c y (front ++ back) rest (f p.0 p.1)) (sym e.0)
       (later a.1.counts e.1 (f x (state a.1.counts (on back rest))) (q a.1.counts))
@@ -460,7 +460,7 @@ parses_gives n x S = record {
 
 -- ---- by the token ahead
 
-kind_reaches : {X : Type 0} (R W : Rule X) (text : List Tagged) (c : Counts) (ahead : Option Token)
+kind_reaches : {X : Type 0} (R W : Rule X) (text : List Tagged) (c : TextCounts) (ahead : Option Token)
     → Reaches R W text c ahead (kind_at ahead)
 kind_reaches R W text c (Some token.NotAscii) = refl
 kind_reaches R W text c (Some token.Bad) = refl
@@ -514,7 +514,7 @@ module _ {X : Type 0} (deep : Type 0) (test : Option Token → Bool) (r q : Read
   }
 
 module _ {X : Type 0} (deep : Type 0) (r : Reader X) (S : Follow) (R Q : Rule X) (p : All deep r S R) (q : All deep r S Q) where
-  either : (c : Counts) (text : List Tagged) (rest : List Token) (x : X) → (R or Q) text x → S (head rest)
+  either : (c : TextCounts) (text : List Tagged) (rest : List Token) (x : X) → (R or Q) text x → S (head rest)
       → Ends deep c x text rest (r (state c (on text rest)))
   either c text rest x (inl h) s = p.read_all c text rest x h s
   either c text rest x (inr h) s = q.read_all c text rest x h s
@@ -549,15 +549,15 @@ done x = Ok x
 pub ok_is : {X : Type 0} (x y : X) → done x ≡ done y → x ≡ y
 ok_is x y e = cc
 
-pub one_counted : (t : Token) (role : Role) (c : Counts) → fits t ≡ true → counted_next (Some c) (tagged t role) ≡ counted role c
+pub one_counted : (t : Token) (role : Role) (c : TextCounts) → fits t ≡ true → counted_next (Some c) (tagged t role) ≡ counted role c
 one_counted t role c e = ap (λ (b : Bool). if b then counted role c else None) e
 
-pub not_counted : (t : Token) (role : Role) (c : Counts) → fits t ≡ false → counted_next (Some c) (tagged t role) ≡ None
+pub not_counted : (t : Token) (role : Role) (c : TextCounts) → fits t ≡ false → counted_next (Some c) (tagged t role) ≡ None
 not_counted t role c e = ap (λ (b : Bool). if b then counted role c else None) e
 
 module _ (t : Token) (role : Role) (good : fits t ≡ true) where
   -- the rule of the token alone
-  begin_at : (c : Counts) (rest : List Token) → head rest ≡ Some t → (o : Option Counts) → counted role c ≡ o
+  begin_at : (c : TextCounts) (rest : List Token) → head rest ≡ Some t → (o : Option TextCounts) → counted role c ≡ o
       → Sound (begin role) (Takes t role tt) (Takes t role tt) (state c rest) (begun o (state c rest))
   begin_at c [] e o f = absurd cc
   begin_at c (u ∷ ts) e None f = record {
@@ -567,7 +567,7 @@ module _ (t : Token) (role : Role) (good : fits t ≡ true) where
     parts = refl;
     remaining = refl;
     few = refl;
-    again = λ more e'. ap (λ (o : Option Counts). begun o (state c more)) f;
+    again = λ more e'. ap (λ (o : Option TextCounts). begun o (state c more)) f;
     more = tagged t role ∷ [];
     value = tt;
     begins = record { text_is = refl; value = refl };
@@ -589,13 +589,13 @@ module _ (t : Token) (role : Role) (good : fits t ≡ true) where
         parts = ap (λ (v : Token). v ∷ ts) same;
         few = one_counted t role c good ∙ f;
         rule = record { text_is = refl; value = refl };
-        again = λ more e'. ap (λ (o : Option Counts). begun o (state c (t ∷ more))) f;
+        again = λ more e'. ap (λ (o : Option TextCounts). begun o (state c (t ∷ more))) f;
       }
 
   pub begin_sound : (s : At) → head s.rest ≡ Some t → Sound (begin role) (Takes t role tt) (Takes t role tt) s (begin role s)
   begin_sound s e = begin_at s.counts s.rest e (counted role s.counts) refl
 
-  begin_ends : (deep : Type 0) (c : Counts) (rest : List Token) (o : Option Counts) → counted role c ≡ o
+  begin_ends : (deep : Type 0) (c : TextCounts) (rest : List Token) (o : Option TextCounts) → counted role c ≡ o
       → Ends deep c tt (tagged t role ∷ []) rest (begun o (state c (t ∷ rest)))
   begin_ends deep c rest None f =
       inr (record {

@@ -7,13 +7,13 @@ use Rattle.std.proofs.lemmas.List.Sums.{sum_by_push, sum_by-cons}
 use Rattle.pipe_tokens.specs.declared.token.Token.{Token}
 use Rattle.pipe_tokens.specs.declared.token.Token.TheVariants as token
 use Rattle.pipe_tokens.specs.declared.token.Keyword.TheVariants as words
-use Rattle.pipe_tree.specs.declared.limits.Counts.{Counts}
+use Rattle.pipe_tree.specs.declared.limits.TextCounts.{TextCounts}
 use Rattle.pipe_tree.specs.declared.limits.Role.{Role}
 use Rattle.pipe_tree.specs.declared.limits.Role.TheVariants as roles
-use Rattle.pipe_tree.specs.declared.ahead.Call.{Call}
-use Rattle.pipe_tree.specs.declared.ahead.Call.TheVariants as calls
-use Rattle.pipe_tree.specs.declared.ahead.Factor.{Factor}
-use Rattle.pipe_tree.specs.declared.ahead.Factor.TheVariants as factors
+use Rattle.pipe_tree.specs.declared.ahead.CallOp.{CallOp}
+use Rattle.pipe_tree.specs.declared.ahead.CallOp.TheVariants as calls
+use Rattle.pipe_tree.specs.declared.ahead.ProductOp.{ProductOp}
+use Rattle.pipe_tree.specs.declared.ahead.ProductOp.TheVariants as factors
 use Rattle.pipe_tree.specs.declared.tree.Names.{Names}
 use Rattle.pipe_tree.specs.declared.tree.Names.TheVariants.{One, Three}
 use Rattle.pipe_tree.specs.Limits.{Tagged, fits, counted, counted_next, counted_all, none_yet, most_levels}
@@ -221,7 +221,7 @@ module _ (w : Weights) where
       (λ _. light _ _ _ _ (adds _ _ kernel) (λ k. light _ _ _ _ (takes _ roles.Plain _) (λ _. gives _ _ node (omega arith))))))))))
 
   module _ (U : Rule Node) (strong : Weighs U node) where
-    operand : (a : Node) (f : Factor) → Adds (node a + w.node) (g.operand U a f) node
+    operand : (a : Node) (f : ProductOp) → Adds (node a + w.node) (g.operand U a f) node
     operand a factors.Times = both _ _ _ _ _ strong (λ b. gives _ _ node (omega arith))
     operand a (factors.Literal op) = light _ _ _ _ (int roles.Plain) (λ n. gives _ _ node (omega arith))
 
@@ -236,7 +236,7 @@ module _ (w : Weights) where
         (λ b. both (node b) _ _ _ _ (means _ roles.Node) (λ c. both _ _ _ _ _ strong (λ d. gives _ _ node (omega arith)))) a)))
 
   module _ (U E : Rule Node) (strong : Weighs U node) (inner : Weighs E node) where
-    arguments : (c : Call) → Adds w.node (g.arguments E c) node
+    arguments : (c : CallOp) → Adds w.node (g.arguments E c) node
     arguments (calls.Unary op) = both _ _ _ _ _ inner (λ a. gives _ _ node (omega arith))
     arguments (calls.Binary op) =
         both _ _ _ _ _ inner (λ a. light _ _ _ _ (takes _ roles.Plain _)
@@ -378,7 +378,7 @@ abbrev functions : Weights
 functions = record { node = 0; stage = 0; param = 0; table = 0; function = 1; case = 0 }
 
 -- one more token
-record Steps (role : Role) (c d : Counts) : Type 0 where
+record Steps (role : Role) (c d : TextCounts) : Type 0 where
   more_nodes : c.nodes + role_weight nodes role ≡ d.nodes
   more_stages : c.stages + role_weight stages role ≡ d.stages
   more_params : c.params + role_weight params role ≡ d.params
@@ -391,13 +391,13 @@ record Steps (role : Role) (c d : Counts) : Type 0 where
 some_is : {X : Type 0} (x y : X) → Some x ≡ Some y → x ≡ y
 some_is x y e = cc
 
-step_if : (role : Role) (c e d : Counts) (b : Bool) → (if b then Some e else None) ≡ Some d → (b ≡ true → Steps role c e) → Steps role c d
-step_if role c e d true is s = subst (λ (q : Counts). Steps role c q) (some_is e d is) (s refl)
+step_if : (role : Role) (c e d : TextCounts) (b : Bool) → (if b then Some e else None) ≡ Some d → (b ≡ true → Steps role c e) → Steps role c d
+step_if role c e d true is s = subst (λ (q : TextCounts). Steps role c q) (some_is e d is) (s refl)
 step_if role c e d false is s = absurd cc
 
-step : (role : Role) (c d : Counts) → counted role c ≡ Some d → Steps role c d
+step : (role : Role) (c d : TextCounts) → counted role c ≡ Some d → Steps role c d
 step roles.Plain c d e =
-    subst (λ (q : Counts). Steps roles.Plain c q) (some_is c d e) (record {
+    subst (λ (q : TextCounts). Steps roles.Plain c q) (some_is c d e) (record {
       more_nodes =
           omega arith;
       more_stages = omega arith;
@@ -461,7 +461,7 @@ step roles.Table c d e =
       few_tables = λ h. grind (arith, less);
     })
 step roles.Function c d e =
-    subst (λ (q : Counts). Steps roles.Function c q) (some_is (record c { cases = 0 }) d e) (record {
+    subst (λ (q : TextCounts). Steps roles.Function c q) (some_is (record c { cases = 0 }) d e) (record {
       more_nodes =
           omega arith;
       more_stages = omega arith;
@@ -485,18 +485,18 @@ step roles.Case c d e =
       few_tables = λ h. h;
     })
 
-next_step : (t : Tagged) (c d : Counts) (b : Bool) → (if b then counted t.role c else None) ≡ Some d → Steps t.role c d
+next_step : (t : Tagged) (c d : TextCounts) (b : Bool) → (if b then counted t.role c else None) ≡ Some d → Steps t.role c d
 next_step t c d true e = step t.role c d e
 next_step t c d false e = absurd cc
 
 -- a text within the limits weighs no more than they allow
-record Few (c : Counts) (text : List Tagged) : Type 0 where
+record Few (c : TextCounts) (text : List Tagged) : Type 0 where
   few_nodes : c.nodes ≤ 4096 → c.nodes + weight nodes text ≤ 4096
   few_stages : c.stages ≤ 64 → c.stages + weight stages text ≤ 64
   few_params : c.params ≤ 64 → c.params + weight params text ≤ 64
   few_tables : c.tables ≤ 16 → c.tables + weight tables text ≤ 16
 
-few_next : (t : Tagged) (text : List Tagged) (c d : Counts) → Steps t.role c d → Few d text → Few c (t ∷ text)
+few_next : (t : Tagged) (text : List Tagged) (c d : TextCounts) → Steps t.role c d → Few d text → Few c (t ∷ text)
 few_next t text c d s f = record {
   few_nodes = λ h. omega (arith, s.more_nodes, f.few_nodes (s.few_nodes h));
   few_stages = λ h. omega (arith, s.more_stages, f.few_stages (s.few_stages h));
@@ -504,12 +504,12 @@ few_next t text c d s f = record {
   few_tables = λ h. omega (arith, s.more_tables, f.few_tables (s.few_tables h));
 }
 
-few_by : (t : Tagged) (text : List Tagged) (c d : Counts) → ((c1 : Counts) → counted_all (Some c1) text ≡ Some d → Few c1 text)
-    → (o : Option Counts) → counted_next (Some c) t ≡ o → counted_all o text ≡ Some d → Few c (t ∷ text)
+few_by : (t : Tagged) (text : List Tagged) (c d : TextCounts) → ((c1 : TextCounts) → counted_all (Some c1) text ≡ Some d → Few c1 text)
+    → (o : Option TextCounts) → counted_next (Some c) t ≡ o → counted_all o text ≡ Some d → Few c (t ∷ text)
 few_by t text c d others None is e = let never = counted_all-none text in absurd cc
 few_by t text c d others (Some c1) is e = few_next t text c c1 (next_step t c c1 (fits t.token) is) (others c1 e)
 
-few : (text : List Tagged) (c d : Counts) → counted_all (Some c) text ≡ Some d → Few c text
+few : (text : List Tagged) (c d : TextCounts) → counted_all (Some c) text ≡ Some d → Few c text
 few [] c d e = record {
   few_nodes = λ h. omega (arith, h);
   few_stages = λ h. omega (arith, h);
@@ -533,27 +533,27 @@ no_node (select a r b c d) = omega (arith, no_node a, no_node b, no_node c, no_n
 no_node (stencil x d k) = refl
 
 -- behind a token that begins no function
-case_if : (c e d : Counts) (b : Bool) → (if b then Some e else None) ≡ Some d → e.cases ≡ c.cases → c.cases ≡ d.cases
-case_if c e d true is same = sym same ∙ ap (λ (q : Counts). q.cases) (some_is e d is)
+case_if : (c e d : TextCounts) (b : Bool) → (if b then Some e else None) ≡ Some d → e.cases ≡ c.cases → c.cases ≡ d.cases
+case_if c e d true is same = sym same ∙ ap (λ (q : TextCounts). q.cases) (some_is e d is)
 case_if c e d false is same = absurd cc
 
 -- one more token, which begins no function
-record Case (role : Role) (c d : Counts) : Type 0 where
+record Case (role : Role) (c d : TextCounts) : Type 0 where
   more : c.cases + role_weight cases role ≡ d.cases
   few : c.cases ≤ 16 → d.cases ≤ 16
 
-kept : (role : Role) (c d : Counts) → role_weight cases role ≡ 0 → c.cases ≡ d.cases → Case role c d
+kept : (role : Role) (c d : TextCounts) → role_weight cases role ≡ 0 → c.cases ≡ d.cases → Case role c d
 kept role c d light same = record { more = omega (arith, light, same); few = λ h. omega (arith, same, h) }
 
-case_more : (c d : Counts) (b : Bool) → nat_lt c.cases 16 ≡ b → (if b then Some (record c { cases = c.cases + 1 }) else None) ≡ Some d
+case_more : (c d : TextCounts) (b : Bool) → nat_lt c.cases 16 ≡ b → (if b then Some (record c { cases = c.cases + 1 }) else None) ≡ Some d
     → Case roles.Case c d
 case_more c d true less e =
-    let same = ap (λ (q : Counts). q.cases) (some_is (record c { cases = c.cases + 1 }) d e) in
+    let same = ap (λ (q : TextCounts). q.cases) (some_is (record c { cases = c.cases + 1 }) d e) in
     record { more = omega (arith, same); few = λ h. grind (arith, less, same) }
 case_more c d false less e = absurd cc
 
-case_step : (role : Role) (c d : Counts) → role_weight functions role ≡ 0 → counted role c ≡ Some d → Case role c d
-case_step roles.Plain c d f e = kept roles.Plain c d refl (ap (λ (q : Counts). q.cases) (some_is c d e))
+case_step : (role : Role) (c d : TextCounts) → role_weight functions role ≡ 0 → counted role c ≡ Some d → Case role c d
+case_step roles.Plain c d f e = kept roles.Plain c d refl (ap (λ (q : TextCounts). q.cases) (some_is c d e))
 case_step roles.Node c d f e = kept roles.Node c d refl (case_if c (record c { nodes = c.nodes + 1 }) d (nat_lt c.nodes 4096) e refl)
 case_step roles.Stage c d f e = kept roles.Stage c d refl (case_if c (record c { stages = c.stages + 1 }) d (nat_lt c.stages 64) e refl)
 case_step roles.Param c d f e = kept roles.Param c d refl (case_if c (record c { params = c.params + 1 }) d (nat_lt c.params 64) e refl)
@@ -561,19 +561,19 @@ case_step roles.Table c d f e = kept roles.Table c d refl (case_if c (record c {
 case_step roles.Function c d f e = absurd (omega (arith, f))
 case_step roles.Case c d f e = case_more c d (nat_lt c.cases 16) refl e
 
-case_next : (t : Tagged) (c d : Counts) (b : Bool) → role_weight functions t.role ≡ 0 → (if b then counted t.role c else None) ≡ Some d
+case_next : (t : Tagged) (c d : TextCounts) (b : Bool) → role_weight functions t.role ≡ 0 → (if b then counted t.role c else None) ≡ Some d
     → Case t.role c d
 case_next t c d true f e = case_step t.role c d f e
 case_next t c d false f e = absurd cc
 
-few_cases_by : (t : Tagged) (text : List Tagged) (c d : Counts) → role_weight functions t.role ≡ 0 → c.cases ≤ 16
-    → ((c1 : Counts) → counted_all (Some c1) text ≡ Some d → c1.cases ≤ 16 → c1.cases + weight cases text ≤ 16) → (o : Option Counts)
+few_cases_by : (t : Tagged) (text : List Tagged) (c d : TextCounts) → role_weight functions t.role ≡ 0 → c.cases ≤ 16
+    → ((c1 : TextCounts) → counted_all (Some c1) text ≡ Some d → c1.cases ≤ 16 → c1.cases + weight cases text ≤ 16) → (o : Option TextCounts)
     → counted_next (Some c) t ≡ o → counted_all o text ≡ Some d → c.cases + weight cases (t ∷ text) ≤ 16
 few_cases_by t text c d f h others None is e = let never = counted_all-none text in absurd cc
 few_cases_by t text c d f h others (Some c1) is e =
     let s = case_next t c c1 (fits t.token) f is in omega (arith, s.more, others c1 e (s.few h))
 
-few_cases : (text : List Tagged) (c d : Counts) → weight functions text ≡ 0 → counted_all (Some c) text ≡ Some d → c.cases ≤ 16
+few_cases : (text : List Tagged) (c d : TextCounts) → weight functions text ≡ 0 → counted_all (Some c) text ≡ Some d → c.cases ≤ 16
     → c.cases + weight cases text ≤ 16
 few_cases [] c d f e h = omega (arith, h)
 few_cases (t ∷ text) c d f e h =
@@ -581,7 +581,7 @@ few_cases (t ∷ text) c d f e h =
     refl e
 
 -- behind a function's word
-few_behind : (t : Token) (text : List Tagged) (c d : Counts) (b : Bool) → fits t ≡ b
+few_behind : (t : Token) (text : List Tagged) (c d : TextCounts) (b : Bool) → fits t ≡ b
     → counted_all (if b then Some (record c { cases = 0 }) else None) text ≡ Some d → weight functions text ≡ 0 → weight cases text ≤ 16
 few_behind t text c d true good e f = omega (arith, few_cases text (record c { cases = 0 }) d f e (omega arith))
 few_behind t text c d false good e f = let never = counted_all-none text in absurd cc
@@ -594,7 +594,7 @@ no_option : (o : Option Node) → optional_size 0 o ≡ 0
 no_option None = refl
 no_option (Some a) = no_node a
 
-function_cases : (m : ℕ) (text : List Tagged) (f : Function) (c d : Counts) → g.a_function m text f → counted_all (Some c) text ≡ Some d
+function_cases : (m : ℕ) (text : List Tagged) (f : Function) (c d : TextCounts) → g.a_function m text f → counted_all (Some c) text ≡ Some d
     → item_size cases (function f) ≤ 16
 unfolding g.a_function
 function_cases m text f c d p e =
@@ -608,20 +608,20 @@ function_cases m text f c d p e =
 
 -- ---- all items
 
-split : (a b : List Tagged) (c d : Counts) (o : Option Counts) → counted_all (Some c) a ≡ o → counted_all o b ≡ Some d
-    → (c1 : Counts) × (counted_all (Some c) a ≡ Some c1) × (counted_all (Some c1) b ≡ Some d)
+split : (a b : List Tagged) (c d : TextCounts) (o : Option TextCounts) → counted_all (Some c) a ≡ o → counted_all o b ≡ Some d
+    → (c1 : TextCounts) × (counted_all (Some c) a ≡ Some c1) × (counted_all (Some c1) b ≡ Some d)
 split a b c d None is e = let never = counted_all-none b in absurd cc
 split a b c d (Some c1) is e = (c1, is, e)
 
-split_text : (text a b : List Tagged) (c d : Counts) → text ≡ a ++ b → counted_all (Some c) text ≡ Some d
-    → (c1 : Counts) × (counted_all (Some c) a ≡ Some c1) × (counted_all (Some c1) b ≡ Some d)
+split_text : (text a b : List Tagged) (c d : TextCounts) → text ≡ a ++ b → counted_all (Some c) text ≡ Some d
+    → (c1 : TextCounts) × (counted_all (Some c) a ≡ Some c1) × (counted_all (Some c1) b ≡ Some d)
 split_text text a b c d is e =
     split a b c d (counted_all (Some c) a) refl (sym (counted_all-append (Some c) a b) ∙ sym (ap (counted_all (Some c)) is) ∙ e)
 
 abbrev FewCases : Declaration → Type 0
 FewCases item = item_size cases item ≤ 16
 
-other_cases : (m : ℕ) (items : List Declaration) (text : List Tagged) (x : List Declaration) (c d : Counts) → g.other m items text x
+other_cases : (m : ℕ) (items : List Declaration) (text : List Tagged) (x : List Declaration) (c d : TextCounts) → g.other m items text x
     → counted_all (Some c) text ≡ Some d → All FewCases items → All FewCases x
 other_cases m items text x c d (inl (inl (inl (inl p)))) e all =
     subst (All FewCases) (sym p.second.value) (All-push FewCases items (param p.value) all (omega arith))
@@ -637,7 +637,7 @@ other_cases m items text x c d (inl (inr p)) e all =
 other_cases m items text x c d (inr p) e all =
     subst (All FewCases) (sym p.second.value) (All-push FewCases items (table p.value) all (omega arith))
 
-times_cases : (m n : ℕ) (items : List Declaration) (text : List Tagged) (x : List Declaration) (c d : Counts)
+times_cases : (m n : ℕ) (items : List Declaration) (text : List Tagged) (x : List Declaration) (c d : TextCounts)
     → times (g.other m) n items text x → counted_all (Some c) text ≡ Some d → All FewCases items → All FewCases x
 times_cases m zero items text x c d p e all = subst (All FewCases) (sym p.value) all
 times_cases m (suc n) items text x c d p e all =
@@ -648,7 +648,7 @@ no_image_cases : (ns : Names) → names_size 0 ns ≤ 16
 no_image_cases (One x) = omega arith
 no_image_cases (Three x y z) = omega arith
 
-program_cases : (m : ℕ) (text : List Tagged) (x : List Declaration) (c d : Counts) → g.Program m text x → counted_all (Some c) text ≡ Some d
+program_cases : (m : ℕ) (text : List Tagged) (x : List Declaration) (c d : TextCounts) → g.Program m text x → counted_all (Some c) text ≡ Some d
     → All FewCases x
 unfolding g.Program
 program_cases m text x c d p e =

@@ -6,9 +6,9 @@ use Rattle.std.specs.Prelude.{if◌then◌else◌, is_some}
 use Rattle.std.proofs.lemmas.List.{append-nil}
 use Rattle.pipe_tokens.specs.declared.token.Token.{Token}
 use Rattle.pipe_tree.specs.declared.fault.Halt.{Halt}
-use Rattle.pipe_tree.specs.declared.fault.Kind.{Kind}
-use Rattle.pipe_tree.specs.declared.fault.Kind.TheVariants.{NotAscii, BadToken, Unexpected, NumberTooBig, TooDeep, TooMany}
-use Rattle.pipe_tree.specs.declared.limits.Counts.{Counts}
+use Rattle.pipe_tree.specs.declared.fault.ParseFaultKind.{ParseFaultKind}
+use Rattle.pipe_tree.specs.declared.fault.ParseFaultKind.TheVariants.{NotAscii, BadToken, Unexpected, NumberTooBig, TooDeep, TooMany}
+use Rattle.pipe_tree.specs.declared.limits.TextCounts.{TextCounts}
 use Rattle.pipe_tree.specs.Tokens.{head}
 use Rattle.pipe_tree.specs.Tree.{Declaration}
 use Rattle.pipe_tree.specs.Limits.{most_levels, Tagged, untagged, fits, counted_next, counted_all, none_yet}
@@ -54,7 +54,7 @@ module _ {X : Type 0} (x : X) where
     all = λ m. at_end_all (n < m);
   }
 
-  end_at : (y : X) (c : Counts) (rest : List Token) (s : At) → at_end x (state c rest) ≡ Ok (y, s) → s.rest ≡ []
+  end_at : (y : X) (c : TextCounts) (rest : List Token) (s : At) → at_end x (state c rest) ≡ Ok (y, s) → s.rest ≡ []
   end_at y c [] s e = sym (ap (λ (p : X × At). p.1.rest) (ok_is (x, state c []) (y, s) e))
   end_at y c (t ∷ ts) s e = absurd cc
 
@@ -139,16 +139,16 @@ found tokens tree e =
 -- ---- each text is read
 
 -- a text that passes a limit has no counts
-pub passed_none : (o : Option Counts) (front back : List Tagged) (t : Tagged) (c : Counts) → counted_all o front ≡ Some c
+pub passed_none : (o : Option TextCounts) (front back : List Tagged) (t : Tagged) (c : TextCounts) → counted_all o front ≡ Some c
     → counted_next (Some c) t ≡ None → counted_all o (front ++ t ∷ back) ≡ None
 passed_none o front back t c few passes =
-    counted_all-append o front (t ∷ back) ∙ ap (λ (d : Option Counts). counted_all (counted_next d t) back) few
-    ∙ ap (λ (d : Option Counts). counted_all d back) passes ∙ counted_all-none back
+    counted_all-append o front (t ∷ back) ∙ ap (λ (d : Option TextCounts). counted_all (counted_next d t) back) few
+    ∙ ap (λ (d : Option TextCounts). counted_all d back) passes ∙ counted_all-none back
 
-pub passes_none : (text : List Tagged) (c : Counts) (rest : List Token) (h : Halt) → Passes text c rest h → counted_all (Some c) text ≡ None
+pub passes_none : (text : List Tagged) (c : TextCounts) (rest : List Token) (h : Halt) → Passes text c rest h → counted_all (Some c) text ≡ None
 passes_none text c rest h p = ap (counted_all (Some c)) p.parts ∙ passed_none (Some c) p.front p.back p.at p.counts p.few p.passes
 
-text_ends : (tree : List Declaration) (text : List Tagged) (counts : Counts) (a : Answer (List Declaration))
+text_ends : (tree : List Declaration) (text : List Tagged) (counts : TextCounts) (a : Answer (List Declaration))
     → counted_all (Some none_yet) text ≡ Some counts → Ends (most_levels < most_levels) none_yet tree text [] a → value_of a ≡ Ok tree
 text_ends tree text counts (Ok p) few e = ap (λ (q : List Declaration × At). value_of (Ok q)) e.0
 text_ends tree text counts (Err h) few (inl e) = absurd (omega (arith, e.1))
@@ -211,7 +211,7 @@ module _ (tokens : List Token) (h : Halt)
         holds = g.holds;
       }
 
-  wrong_is : (kind : Kind) → h.kind ≡ kind → Reaches (Program most_levels) (Program (suc most_levels)) f.text f.counts (head f.last) kind
+  wrong_is : (kind : ParseFaultKind) → h.kind ≡ kind → Reaches (Program most_levels) (Program (suc most_levels)) f.text f.counts (head f.last) kind
       → Wrong kind f.text f.counts (head f.last)
   wrong_is NotAscii is r = r
   wrong_is BadToken is r = r

@@ -11,17 +11,17 @@ use Rattle.pipe_tokens.specs.declared.token.Keyword.{Keyword}
 use Rattle.pipe_tokens.specs.declared.token.Keyword.TheVariants as words
 use Rattle.pipe_tokens.specs.declared.token.Token.{Token}
 use Rattle.pipe_tokens.specs.declared.token.Token.TheVariants as token
-use Rattle.pipe_tree.specs.declared.fault.Kind.TheVariants.{NumberTooBig}
-use Rattle.pipe_tree.specs.declared.limits.Counts.{Counts}
+use Rattle.pipe_tree.specs.declared.fault.ParseFaultKind.TheVariants.{NumberTooBig}
+use Rattle.pipe_tree.specs.declared.limits.TextCounts.{TextCounts}
 use Rattle.pipe_tree.specs.declared.limits.Role.{Role}
 use Rattle.pipe_tree.specs.declared.limits.Role.TheVariants as roles
-use Rattle.pipe_tree.specs.declared.ahead.Call.{Call}
-use Rattle.pipe_tree.specs.declared.ahead.Call.TheVariants as calls
-use Rattle.pipe_tree.specs.declared.ahead.Factor.{Factor}
-use Rattle.pipe_tree.specs.declared.ahead.Factor.TheVariants as factors
+use Rattle.pipe_tree.specs.declared.ahead.CallOp.{CallOp}
+use Rattle.pipe_tree.specs.declared.ahead.CallOp.TheVariants as calls
+use Rattle.pipe_tree.specs.declared.ahead.ProductOp.{ProductOp}
+use Rattle.pipe_tree.specs.declared.ahead.ProductOp.TheVariants as factors
 use Rattle.operators.specs.declared.operator.UnaryOp.TheVariants.{Abs}
-use Rattle.operators.specs.declared.operator.Fold.{Fold}
-use Rattle.operators.specs.declared.operator.Fold.TheVariants as folds
+use Rattle.operators.specs.declared.operator.ReductionOp.{ReductionOp}
+use Rattle.operators.specs.declared.operator.ReductionOp.TheVariants as folds
 use Rattle.operators.specs.declared.operator.Relation.{Relation}
 use Rattle.operators.specs.declared.operator.Relation.TheVariants as relations
 use Rattle.pipe_tree.specs.Tokens.{head}
@@ -102,7 +102,7 @@ module _ {X : Type 0} (meaning : Option Token → Option X) (role : Role)
       ((begin role >>= λ _. gives x) s) (λ s' same. ap (λ (o : Option X). meant role o s') (ap meaning (same ∙ ahead) ∙ e))
       (meant_on s t x ahead e)
 
-  meant_ends : (deep : Type 0) (c : Counts) (t : Token) (x : X) (rest : List Token) → meaning (Some t) ≡ Some x
+  meant_ends : (deep : Type 0) (c : TextCounts) (t : Token) (x : X) (rest : List Token) → meaning (Some t) ≡ Some x
       → Ends deep c x (tagged t role ∷ []) rest (means meaning role (state c (t ∷ rest)))
   meant_ends deep c t x rest e =
       subst (λ (o : Option X). Ends deep c x (tagged t role ∷ []) rest (meant role o (state c (t ∷ rest)))) (sym e)
@@ -141,11 +141,11 @@ sign_good : (t : Token) (x : Bool) → sign_at (Some t) ≡ Some x → fits t �
 sign_good (token.Punct m) x e = refl
 sign_good t x e = absurd cc
 
-factor_good : (t : Token) (x : Factor) → factor_at (Some t) ≡ Some x → fits t ≡ true
+factor_good : (t : Token) (x : ProductOp) → factor_at (Some t) ≡ Some x → fits t ≡ true
 factor_good (token.Punct m) x e = refl
 factor_good t x e = absurd cc
 
-pub call_good : (t : Token) (x : Call) → call_at (Some t) ≡ Some x → fits t ≡ true
+pub call_good : (t : Token) (x : CallOp) → call_at (Some t) ≡ Some x → fits t ≡ true
 call_good (token.Keyword w) x e = refl
 call_good t x e = absurd cc
 
@@ -153,7 +153,7 @@ relation_good : (t : Token) (x : Relation) → relation_at (Some t) ≡ Some x �
 relation_good (token.Punct m) x e = refl
 relation_good t x e = absurd cc
 
-fold_good : (t : Token) (x : Fold) → fold_at (Some t) ≡ Some x → fits t ≡ true
+fold_good : (t : Token) (x : ReductionOp) → fold_at (Some t) ≡ Some x → fits t ≡ true
 fold_good (token.Keyword w) x e = refl
 fold_good t x e = absurd cc
 
@@ -247,7 +247,7 @@ module _ (role : Role) where
       retarget (int_by role (head s.rest)) (int role) (g.int role) (g.int role) s (int_by role (head s.rest) s)
       (λ s' same. ap (λ (h : Option Token). int_by role h s') same) (int_on s (head s.rest) refl)
 
-  big_ends : (deep : Type 0) (c : Counts) (t : Token) (x : ℕ) (rest : List Token) → fits t ≡ false
+  big_ends : (deep : Type 0) (c : TextCounts) (t : Token) (x : ℕ) (rest : List Token) → fits t ≡ false
       → Ends deep c x (tagged t role ∷ []) rest (stop NumberTooBig (state c (t ∷ rest)))
   big_ends deep c t x rest big =
       inr (record {
@@ -265,7 +265,7 @@ module _ (role : Role) where
         kind = inr refl;
       })
 
-  int_ends : (deep : Type 0) (c : Counts) (k : ℕ) (rest : List Token) (b : Bool) → nat_le k 2147483647 ≡ b
+  int_ends : (deep : Type 0) (c : TextCounts) (k : ℕ) (rest : List Token) (b : Bool) → nat_le k 2147483647 ≡ b
       → Ends deep c k (tagged (token.Int k) role ∷ []) rest
       ((if b then (begin role >>= λ _. gives k) else stop NumberTooBig) (state c (token.Int k ∷ rest)))
   int_ends deep c k rest false e = big_ends deep c (token.Int k) k rest e
@@ -285,7 +285,7 @@ module _ (role : Role) where
         second = record { empty = refl; value = refl };
       }) tt
 
-  int_all : (deep : Type 0) (c : Counts) (text : List Tagged) (rest : List Token) (x : ℕ) → g.int role text x → Any (head rest)
+  int_all : (deep : Type 0) (c : TextCounts) (text : List Tagged) (rest : List Token) (x : ℕ) → g.int role text x → Any (head rest)
       → Ends deep c x text rest (int role (state c (on text rest)))
   int_all deep c text rest x (inl p) u = rw (p.it.text_is, p.it.value) (int_ends deep c p.which rest (nat_le p.which 2147483647) refl)
   int_all deep c text rest x (inr p) u = rw p.text_is (big_ends deep c token.TooBig x rest refl)

@@ -3,12 +3,12 @@ use Rattle.std.specs.Prelude.{◌≡◌, ℕ, ◌+◌, ◌<◌, ◌≤◌, Bool,
 use Rattle.pipe_tokens.specs.declared.token.Token.{Token}
 use Rattle.pipe_tokens.specs.declared.token.Token.TheVariants as token
 use Rattle.pipe_tokens.specs.Cutting.{CutsInto}
-use Rattle.pipe_tree.specs.declared.fault.Kind.{Kind}
-use Rattle.pipe_tree.specs.declared.fault.Kind.TheVariants as kinds
+use Rattle.pipe_tree.specs.declared.fault.ParseFaultKind.{ParseFaultKind}
+use Rattle.pipe_tree.specs.declared.fault.ParseFaultKind.TheVariants as kinds
 use Rattle.pipe_tree.specs.declared.fault.Halt.{Halt}
 use Rattle.pipe_tree.specs.declared.fault.ParseFault.{ParseFault}
 use Rattle.pipe_tree.specs.declared.fault.ParseFault.TheVariants as faults
-use Rattle.pipe_tree.specs.declared.limits.Counts.{Counts}
+use Rattle.pipe_tree.specs.declared.limits.TextCounts.{TextCounts}
 use Rattle.pipe_tree.specs.Tokens.{head}
 use Rattle.pipe_tree.specs.Limits.{most_bytes, most_levels, Tagged, untagged, is_number, fits, counted, counted_all, none_yet}
 use Rattle.pipe_tree.specs.Grammar.{Rule, Some_of, Program}
@@ -20,7 +20,7 @@ use Rattle.pipe_tree.specs.Tree.{Declaration}
 pub record Text (tokens : List Token) (tree : List Declaration) : Type 0 where
   pub text : List Tagged
   pub tokens_are : tokens ≡ untagged text
-  pub counts : Counts
+  pub counts : TextCounts
   pub few : counted_all (Some none_yet) text ≡ Some counts
   pub program : Program most_levels text tree
 
@@ -64,7 +64,7 @@ is_lexical (Some token.NotAscii) = true
 is_lexical _ = false
 
 -- the kind of the fault of the token that is ahead, or of the end, after a text with these counts
-abbrev pub Wrong : Kind → List Tagged → Counts → Option Token → Type 0
+abbrev pub Wrong : ParseFaultKind → List Tagged → TextCounts → Option Token → Type 0
 Wrong kinds.NotAscii before counts ahead = ahead ≡ Some token.NotAscii
 Wrong kinds.BadToken before counts ahead = ahead ≡ Some token.Bad
 -- the grammar does not allow it there
@@ -83,7 +83,7 @@ Wrong kinds.TooMany before counts ahead =
 pub record IsHalt (tokens : List Token) (halt : Halt) : Type 0 where
   pub before : List Tagged
   pub last : List Token
-  pub counts : Counts
+  pub counts : TextCounts
   pub parts : tokens ≡ untagged before ++ last
   pub remaining : halt.remaining ≡ length last
   pub few : counted_all (Some none_yet) before ≡ Some counts
@@ -91,7 +91,7 @@ pub record IsHalt (tokens : List Token) (halt : Halt) : Type 0 where
   pub wrong : Wrong halt.kind before counts (head last)
 
 -- a fault of the tokens is where the first token that remains starts, or at the end of the bytes
-pub record IsFaultAt (bytes : List ℕ) (kind : Kind) (offset : ℕ) : Type 0 where
+pub record IsFaultAt (bytes : List ℕ) (kind : ParseFaultKind) (offset : ℕ) : Type 0 where
   pub tokens : List Token
   pub starts : List ℕ
   pub passed : ℕ

@@ -15,7 +15,7 @@ use Rattle.pipe_tree.specs.declared.tree.AffineSpan.{AffineSpan}
 use Rattle.operators.specs.declared.operator.UnaryOp.TheVariants.{Neg}
 use Rattle.operators.specs.declared.operator.BinaryOp.{BinaryOp}
 use Rattle.operators.specs.declared.operator.BinaryOp.TheVariants.{Add, Sub, Mul}
-use Rattle.operators.specs.declared.operator.Fold.{Fold}
+use Rattle.operators.specs.declared.operator.ReductionOp.{ReductionOp}
 use Rattle.pipe_tree.specs.declared.tree.Image.{Image}
 use Rattle.pipe_tree.specs.declared.tree.Index.{Index}
 use Rattle.pipe_tree.specs.declared.tree.Names.{Names}
@@ -24,14 +24,14 @@ use Rattle.pipe_tree.specs.declared.tree.Output.{Output}
 use Rattle.pipe_tree.specs.declared.tree.Param.{Param}
 use Rattle.operators.specs.declared.operator.Relation.{Relation}
 use Rattle.pipe_tree.specs.declared.tree.Table.{Table}
-use Rattle.pipe_tree.specs.declared.tree.Term.{Term}
+use Rattle.pipe_tree.specs.declared.tree.AffineTerm.{AffineTerm}
 use Rattle.pipe_tree.specs.declared.tree.Test.{Test}
 use Rattle.pipe_tree.specs.declared.tree.Test.TheVariants.{Compare, Remainder}
 use Rattle.pipe_tree.specs.declared.tree.Variable.{Variable}
-use Rattle.pipe_tree.specs.declared.ahead.Call.{Call}
-use Rattle.pipe_tree.specs.declared.ahead.Call.TheVariants as calls
-use Rattle.pipe_tree.specs.declared.ahead.Factor.{Factor}
-use Rattle.pipe_tree.specs.declared.ahead.Factor.TheVariants as factors
+use Rattle.pipe_tree.specs.declared.ahead.CallOp.{CallOp}
+use Rattle.pipe_tree.specs.declared.ahead.CallOp.TheVariants as calls
+use Rattle.pipe_tree.specs.declared.ahead.ProductOp.{ProductOp}
+use Rattle.pipe_tree.specs.declared.ahead.ProductOp.TheVariants as factors
 use Rattle.pipe_tree.specs.Limits.{Tagged}
 use Rattle.pipe_tree.specs.Operators.{name_at, sign_at, factor_at, call_at, relation_at, fold_at}
 use Rattle.pipe_tree.specs.Tree.{Node, number, variable, read, lookup, unary, binary, ternary, literal, select, stencil, Branch}
@@ -113,16 +113,16 @@ name role = Means name_at role
 abbrev pub sign : Role → Rule Bool
 sign role = Means sign_at role
 
-abbrev pub factor : Rule Factor
+abbrev pub factor : Rule ProductOp
 factor = Means factor_at roles.Node
 
-abbrev pub call : Rule Call
+abbrev pub call : Rule CallOp
 call = Means call_at roles.Node
 
 abbrev pub relation : Rule Relation
 relation = Means relation_at roles.Plain
 
-abbrev pub fold : Rule Fold
+abbrev pub fold : Rule ReductionOp
 fold = Means fold_at roles.Plain
 
 -- A number that is too big is allowed where a number is, but it exceeds a limit.
@@ -155,17 +155,17 @@ scaled_name = (do
       Gives (1, Some x))
 
 -- one more term
-abbrev pub term : Bool → List Term → Rule (List Term)
+abbrev pub term : Bool → List AffineTerm → Rule (List AffineTerm)
 term negative terms = do
   f ← scaled_name
   Gives (terms ++ record { negative = negative; factor = f.0; name = f.1 } ∷ [])
 
-abbrev pub next_term : List Term → Rule (List Term)
+abbrev pub next_term : List AffineTerm → Rule (List AffineTerm)
 next_term terms = do
   negative ← sign roles.Plain
   term negative terms
 
-unfoldable pub affine : Rule (List Term)
+unfoldable pub affine : Rule (List AffineTerm)
 affine = do
   negative ← minus
   terms ← term negative []
@@ -301,7 +301,7 @@ abbrev pub leaf : Rule Node
 leaf = literal_number or named or a_stencil
 
 -- an operator after a, and its right operand
-abbrev pub operand : Rule Node → Node → Factor → Rule Node
+abbrev pub operand : Rule Node → Node → ProductOp → Rule Node
 operand U a factors.Times = do
   b ← U
   Gives (binary Mul a b)
@@ -348,7 +348,7 @@ group expression = do
   Gives a
 
 -- the rest of a call, after its opening parenthesis
-abbrev pub arguments : Rule Node → Call → Rule Node
+abbrev pub arguments : Rule Node → CallOp → Rule Node
 arguments expression (calls.Unary op) = do
   a ← expression
   Gives (unary op a)

@@ -4,7 +4,7 @@ use Rattle.pipe_tokens.specs.declared.token.Token.{Token}
 use Rattle.pipe_tokens.specs.declared.token.Token.TheVariants as token
 use Rattle.pipe_tree.specs.declared.limits.Role.{Role}
 use Rattle.pipe_tree.specs.declared.limits.Role.TheVariants.{Plain, Node, Stage, Param, Table, Function, Case}
-use Rattle.pipe_tree.specs.declared.limits.Counts.{Counts}
+use Rattle.pipe_tree.specs.declared.limits.TextCounts.{TextCounts}
 
 -- bytes of a text
 abbrev pub most_bytes : ℕ
@@ -19,11 +19,11 @@ abbrev pub plain : Role
 plain = Plain
 
 abbrev pub CountsSoFar : Type 0
-CountsSoFar = Counts
+CountsSoFar = TextCounts
 
 -- The counts with one more, unless that exceeds its limit: 4,096 nodes of expressions, 64 stages, 64 parameters, 16 tables, and
 -- 16 cases in each function.
-abbrev pub counted : Role → Counts → Option Counts
+abbrev pub counted : Role → TextCounts → Option TextCounts
 counted Plain c = Some c
 counted Node c = if nat_lt c.nodes 4096 then Some (record c { nodes = c.nodes + 1 }) else None
 counted Stage c = if nat_lt c.stages 64 then Some (record c { stages = c.stages + 1 }) else None
@@ -55,14 +55,14 @@ fits token.NotAscii = false
 fits _ = true
 
 -- the counts after one more token, unless it exceeds a limit
-abbrev pub counted_next : Option Counts → Tagged → Option Counts
+abbrev pub counted_next : Option TextCounts → Tagged → Option TextCounts
 counted_next None t = None
 counted_next (Some c) t = if fits t.token then counted t.role c else None
 
 -- the counts after a text, unless it exceeds a limit
-abbrev pub counted_all : Option Counts → List Tagged → Option Counts
+abbrev pub counted_all : Option TextCounts → List Tagged → Option TextCounts
 counted_all counts [] = counts
 counted_all counts (t ∷ text) = counted_all (counted_next counts t) text
 
-abbrev pub none_yet : Counts
+abbrev pub none_yet : TextCounts
 none_yet = record { nodes = 0; stages = 0; params = 0; tables = 0; cases = 0 }

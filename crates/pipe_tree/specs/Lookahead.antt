@@ -9,9 +9,9 @@ use Rattle.pipe_tokens.specs.declared.token.Token.{Token}
 use Rattle.pipe_tokens.specs.declared.token.Token.TheVariants as token
 use Rattle.pipe_tokens.specs.declared.token.Punct.TheVariants as mark
 use Rattle.pipe_tokens.specs.declared.token.Keyword.TheVariants as word
-use Rattle.pipe_tree.specs.declared.ahead.Call.{Call}
-use Rattle.pipe_tree.specs.declared.ahead.Start.{Start}
-use Rattle.pipe_tree.specs.declared.ahead.Start.TheVariants as start
+use Rattle.pipe_tree.specs.declared.ahead.CallOp.{CallOp}
+use Rattle.pipe_tree.specs.declared.ahead.UnaryStart.{UnaryStart}
+use Rattle.pipe_tree.specs.declared.ahead.UnaryStart.TheVariants as start
 use Rattle.pipe_tree.specs.declared.ahead.Opening.TheVariants as opening
 use Rattle.pipe_tree.specs.declared.ahead.ItemStart.{ItemStart}
 use Rattle.pipe_tree.specs.declared.ahead.ItemStart.TheVariants as item
@@ -31,7 +31,7 @@ is_number_at (Some token.TooBig) = true
 is_number_at _ = false
 
 -- what the token begins; a word that calls an operator is tested first
-abbrev pub start_by : Option Call → Option Token → Start
+abbrev pub start_by : Option CallOp → Option Token → UnaryStart
 start_by (Some c) h = start.Opening opening.Call
 start_by None (Some (token.Int n)) = start.Number
 start_by None (Some token.TooBig) = start.Number
@@ -42,7 +42,7 @@ start_by None (Some (token.Keyword word.Select)) = start.Opening opening.Select
 start_by None (Some (token.Keyword word.Stencil)) = start.Stencil
 start_by None _ = start.Nothing
 
-abbrev pub start_at : Option Token → Start
+abbrev pub start_at : Option Token → UnaryStart
 start_at h = start_by (call_at h) h
 
 abbrev pub item_at : Option Token → ItemStart

@@ -11,26 +11,26 @@ use Rattle.pipe_tokens.specs.declared.token.Keyword.{Keyword}
 use Rattle.pipe_tokens.specs.declared.token.Keyword.TheVariants as words
 use Rattle.pipe_tokens.specs.declared.token.Token.{Token}
 use Rattle.pipe_tokens.specs.declared.token.Token.TheVariants as token
-use Rattle.pipe_tree.specs.declared.fault.Kind.{Kind}
-use Rattle.pipe_tree.specs.declared.fault.Kind.TheVariants.{NotAscii, BadToken, Unexpected, NumberTooBig, TooDeep, TooMany}
+use Rattle.pipe_tree.specs.declared.fault.ParseFaultKind.{ParseFaultKind}
+use Rattle.pipe_tree.specs.declared.fault.ParseFaultKind.TheVariants.{NotAscii, BadToken, Unexpected, NumberTooBig, TooDeep, TooMany}
 use Rattle.pipe_tree.specs.declared.fault.Halt.{Halt}
-use Rattle.pipe_tree.specs.declared.limits.Counts.{Counts}
+use Rattle.pipe_tree.specs.declared.limits.TextCounts.{TextCounts}
 use Rattle.pipe_tree.specs.declared.limits.Role.{Role}
 use Rattle.pipe_tree.specs.declared.limits.Role.TheVariants as roles
-use Rattle.pipe_tree.specs.declared.ahead.Call.{Call}
-use Rattle.pipe_tree.specs.declared.ahead.Call.TheVariants as calls
-use Rattle.pipe_tree.specs.declared.ahead.Factor.{Factor}
-use Rattle.pipe_tree.specs.declared.ahead.Factor.TheVariants as factors
+use Rattle.pipe_tree.specs.declared.ahead.CallOp.{CallOp}
+use Rattle.pipe_tree.specs.declared.ahead.CallOp.TheVariants as calls
+use Rattle.pipe_tree.specs.declared.ahead.ProductOp.{ProductOp}
+use Rattle.pipe_tree.specs.declared.ahead.ProductOp.TheVariants as factors
 use Rattle.pipe_tree.specs.declared.ahead.ItemStart.{ItemStart}
 use Rattle.pipe_tree.specs.declared.ahead.ItemStart.TheVariants as item_start
 use Rattle.pipe_tree.specs.declared.ahead.Opening.{Opening}
 use Rattle.pipe_tree.specs.declared.ahead.Opening.TheVariants as opening
-use Rattle.pipe_tree.specs.declared.ahead.Start.{Start}
-use Rattle.pipe_tree.specs.declared.ahead.Start.TheVariants as start
+use Rattle.pipe_tree.specs.declared.ahead.UnaryStart.{UnaryStart}
+use Rattle.pipe_tree.specs.declared.ahead.UnaryStart.TheVariants as start
 use Rattle.pipe_tree.specs.declared.tree.AffineSpan.{AffineSpan}
 use Rattle.operators.specs.declared.operator.UnaryOp.TheVariants.{Neg}
 use Rattle.operators.specs.declared.operator.BinaryOp.TheVariants.{Mul}
-use Rattle.operators.specs.declared.operator.Fold.{Fold}
+use Rattle.operators.specs.declared.operator.ReductionOp.{ReductionOp}
 use Rattle.pipe_tree.specs.declared.tree.Image.{Image}
 use Rattle.pipe_tree.specs.declared.tree.Index.{Index}
 use Rattle.pipe_tree.specs.declared.tree.Names.{Names}
@@ -39,7 +39,7 @@ use Rattle.pipe_tree.specs.declared.tree.Output.{Output}
 use Rattle.pipe_tree.specs.declared.tree.Param.{Param}
 use Rattle.operators.specs.declared.operator.Relation.{Relation}
 use Rattle.pipe_tree.specs.declared.tree.Table.{Table}
-use Rattle.pipe_tree.specs.declared.tree.Term.{Term}
+use Rattle.pipe_tree.specs.declared.tree.AffineTerm.{AffineTerm}
 use Rattle.pipe_tree.specs.declared.tree.Test.{Test}
 use Rattle.pipe_tree.specs.declared.tree.Test.TheVariants.{Compare, Remainder}
 use Rattle.pipe_tree.specs.declared.tree.Variable.{Variable}
@@ -53,7 +53,7 @@ use Rattle.pipe_tree.specs.Tree.{Function, Accumulator, Declaration, param, imag
 
 -- where a reader is: what was counted so far, and the tokens that remain
 pub record At : Type 0 where
-  pub counts : Counts
+  pub counts : TextCounts
   pub rest : List Token
 
 abbrev pub Answer : Type 0 → Type 0
@@ -73,15 +73,15 @@ abbrev pub ◌>>=◌ : {X Y : Type 0} → Reader X → (X → Reader Y) → Read
 abbrev pub gives : {X : Type 0} → X → Reader X
 gives x s = Ok (x, s)
 
-abbrev pub halt_of : Kind → List Token → Halt
+abbrev pub halt_of : ParseFaultKind → List Token → Halt
 halt_of kind rest = record { kind = kind; remaining = length rest }
 
-abbrev pub kind_at : Option Token → Kind
+abbrev pub kind_at : Option Token → ParseFaultKind
 kind_at (Some token.NotAscii) = NotAscii
 kind_at (Some token.Bad) = BadToken
 kind_at _ = Unexpected
 
-abbrev pub stop : {X : Type 0} → Kind → Reader X
+abbrev pub stop : {X : Type 0} → ParseFaultKind → Reader X
 stop kind s = Err (halt_of kind s.rest)
 
 abbrev pub refuse : {X : Type 0} → Reader X
@@ -95,7 +95,7 @@ by_key key f s = f (key (head s.rest)) s
 abbrev pub choose : {X : Type 0} → (Option Token → Bool) → Reader X → Reader X → Reader X
 choose test r q s = if test (head s.rest) then r s else q s
 
-abbrev pub begun : Option Counts → Reader (Unit {0})
+abbrev pub begun : Option TextCounts → Reader (Unit {0})
 begun (Some counts) s = Ok (tt, record { counts = counts; rest = tail s.rest })
 begun None s = stop TooMany s
 
@@ -125,16 +125,16 @@ name = means name_at
 abbrev pub sign : Role → Reader Bool
 sign = means sign_at
 
-abbrev pub factor : Reader Factor
+abbrev pub factor : Reader ProductOp
 factor = means factor_at roles.Node
 
-abbrev pub call : Reader Call
+abbrev pub call : Reader CallOp
 call = means call_at roles.Node
 
 abbrev pub relation : Reader Relation
 relation = means relation_at roles.Plain
 
-abbrev pub fold : Reader Fold
+abbrev pub fold : Reader ReductionOp
 fold = means fold_at roles.Plain
 
 abbrev pub int_by : Role → Option Token → Reader ℕ
@@ -195,7 +195,7 @@ scaled_name = choose is_number_at
       x ← name roles.Plain
       gives (1, Some x))
 
-abbrev pub term : Bool → List Term → Reader (List Term)
+abbrev pub term : Bool → List AffineTerm → Reader (List AffineTerm)
 term negative terms = do
   f ← scaled_name
   gives (terms ++ record { negative = negative; factor = f.0; name = f.1 } ∷ [])
@@ -203,12 +203,12 @@ term negative terms = do
 abbrev pub is_sign_at : Option Token → Bool
 is_sign_at h = is_some (sign_at h)
 
-abbrev pub next_term : List Term → Reader (List Term)
+abbrev pub next_term : List AffineTerm → Reader (List AffineTerm)
 next_term terms = do
   negative ← sign roles.Plain
   term negative terms
 
-unfoldable pub affine : Reader (List Term)
+unfoldable pub affine : Reader (List AffineTerm)
 affine = do
   negative ← minus
   terms ← term negative []
@@ -338,7 +338,7 @@ literal_number = do
   n ← int roles.Node
   gives (number n)
 
-abbrev pub operand : Reader Node → Node → Factor → Reader Node
+abbrev pub operand : Reader Node → Node → ProductOp → Reader Node
 operand u a factors.Times = do
   b ← u
   gives (binary Mul a b)
@@ -384,7 +384,7 @@ group expression = do
   gives a
 
 -- the rest of a call, after its opening parenthesis
-abbrev pub arguments : Reader Node → Call → Reader Node
+abbrev pub arguments : Reader Node → CallOp → Reader Node
 arguments expression (calls.Unary op) = do
   a ← expression
   gives (unary op a)
@@ -439,7 +439,7 @@ entry_of expression x = do
   gives (lookup x a)
 
 -- a unary by what it begins with
-abbrev pub unary_by : (Opening → Reader Node) → (List ℕ → Reader Node) → Start → Reader Node
+abbrev pub unary_by : (Opening → Reader Node) → (List ℕ → Reader Node) → UnaryStart → Reader Node
 unary_by open_level entry start.Number = literal_number
 unary_by open_level entry start.Name = named entry
 unary_by open_level entry start.Stencil = a_stencil

@@ -9,7 +9,7 @@ use Rattle.operators.specs.declared.operator.BinaryOp.{BinaryOp}
 use Rattle.operators.specs.declared.operator.TernaryOp.{TernaryOp}
 use Rattle.operators.specs.declared.operator.LiteralOp.{LiteralOp}
 use Rattle.operators.specs.declared.operator.Relation.{Relation}
-use Rattle.operators.specs.declared.operator.Fold.{Fold}
+use Rattle.operators.specs.declared.operator.ReductionOp.{ReductionOp}
 use Rattle.pipe_tree.specs.declared.tree.AffineSpan.{AffineSpan}
 use Rattle.pipe_tree.specs.declared.tree.Variable.{Variable}
 use Rattle.pipe_tree.specs.declared.tree.Param.{Param}
@@ -57,7 +57,7 @@ pub record Accumulator : Type 0 where
   pub bins : AffineSpan
   pub row : Variable
   pub column : Variable
-  pub fold : Fold
+  pub fold : ReductionOp
   pub value : Node
   pub bin : Node
 

@@ -8,7 +8,7 @@ use pipe_tokens::{Keyword, Token};
 
 /// What a unary begins with.
 #[derive(Clone, Copy)]
-pub enum Start {
+pub enum UnaryStart {
     Number,
     Name,
     Stencil,
@@ -27,22 +27,22 @@ pub enum Opening {
 
 /// An operator that is called by a word, with its operands in parentheses.
 #[derive(Clone, Copy)]
-pub enum Call {
+pub enum CallOp {
     Unary(UnaryOp),
     Binary(BinaryOp),
     Ternary(TernaryOp),
 }
 
-impl Call {
+impl CallOp {
     /// The operator that the token calls, if it is the word of one.
-    pub fn at(token: Option<Token>) -> Option<Self>
+    pub fn from_token(token: Option<Token>) -> Option<Self>
         ensures { result ≡ call_at token }
     {
         match token {
-            Some(Token::Keyword(Keyword::Abs)) => Some(Call::Unary(UnaryOp::Abs)),
-            Some(Token::Keyword(Keyword::Min)) => Some(Call::Binary(BinaryOp::Min)),
-            Some(Token::Keyword(Keyword::Max)) => Some(Call::Binary(BinaryOp::Max)),
-            Some(Token::Keyword(Keyword::Clamp)) => Some(Call::Ternary(TernaryOp::Clamp)),
+            Some(Token::Keyword(Keyword::Abs)) => Some(CallOp::Unary(UnaryOp::Abs)),
+            Some(Token::Keyword(Keyword::Min)) => Some(CallOp::Binary(BinaryOp::Min)),
+            Some(Token::Keyword(Keyword::Max)) => Some(CallOp::Binary(BinaryOp::Max)),
+            Some(Token::Keyword(Keyword::Clamp)) => Some(CallOp::Ternary(TernaryOp::Clamp)),
             _ => None,
         }
     }
@@ -50,7 +50,7 @@ impl Call {
 
 /// An operator of a product.
 #[derive(Clone, Copy)]
-pub enum Factor {
+pub enum ProductOp {
     Times,
     Literal(LiteralOp),
 }

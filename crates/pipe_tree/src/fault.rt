@@ -76,7 +76,7 @@ impl From<AllocError> for ParseFault {
 
 /// What is wrong with a list of tokens.
 #[derive(Clone, Copy)]
-pub enum Kind {
+pub enum ParseFaultKind {
     NotAscii,
     BadToken,
     Unexpected,
@@ -88,6 +88,6 @@ pub enum Kind {
 /// A fault, and how many tokens remain at its place.
 #[derive(Clone, Copy)]
 pub struct Halt {
-    pub kind: Kind,
+    pub kind: ParseFaultKind,
     pub remaining: usize,
 }

@@ -9,12 +9,12 @@ mod sizes;
 mod tree;
 mod uniqueness;
 
-pub use ahead::{Call, Factor, ItemStart, Opening, Start};
-pub use fault::{Halt, Kind, ParseFault};
-pub use limits::{Counts, MAX_BYTES, MAX_LEVELS, Role};
+pub use ahead::{CallOp, ItemStart, Opening, ProductOp, UnaryStart};
+pub use fault::{Halt, ParseFault, ParseFaultKind};
+pub use limits::{MAX_BYTES, MAX_LEVELS, Role, TextCounts};
 pub use sizes::trees_keep_limits;
 pub use tree::{
-    Accum, Affine, AffineSpan, Case, Cases, Condition, Expr, Func, Image, Index, Item, Kernel,
-    Names, Output, Param, Row, Table, Term, Test, Tree, Variable,
+    Accum, Affine, AffineSpan, AffineTerm, Case, Cases, Condition, Expr, Func, Image, Index, Item,
+    Kernel, Names, Output, Param, StencilRow, Table, Test, Tree, Variable,
 };
 pub use uniqueness::{faults_are_determined, texts_have_one_tree};

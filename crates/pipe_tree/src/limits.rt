@@ -46,7 +46,7 @@ pub enum Role {
 
 /// The counts so far.
 #[derive(Clone, Copy)]
-pub struct Counts {
+pub struct TextCounts {
     pub nodes: u32,
     pub stages: u32,
     pub params: u32,
@@ -55,31 +55,31 @@ pub struct Counts {
     pub cases: u32,
 }
 
-impl Counts {
+impl TextCounts {
     // With one more, unless that exceeds its limit.
-    pub fn with(self, role: Role) -> Option<Counts>
+    pub fn count_within_limits(self, role: Role) -> Option<TextCounts>
         ensures { result ≡ counted role self }
     {
         match role {
             Role::Plain => Some(self),
-            Role::Node => (self.nodes < MAX_NODES).then(|| Counts {
+            Role::Node => (self.nodes < MAX_NODES).then(|| TextCounts {
                 nodes: self.nodes + 1,
                 ..self
             }),
-            Role::Stage => (self.stages < MAX_STAGES).then(|| Counts {
+            Role::Stage => (self.stages < MAX_STAGES).then(|| TextCounts {
                 stages: self.stages + 1,
                 ..self
             }),
-            Role::Param => (self.params < MAX_PARAMS).then(|| Counts {
+            Role::Param => (self.params < MAX_PARAMS).then(|| TextCounts {
                 params: self.params + 1,
                 ..self
             }),
-            Role::Table => (self.tables < MAX_TABLES).then(|| Counts {
+            Role::Table => (self.tables < MAX_TABLES).then(|| TextCounts {
                 tables: self.tables + 1,
                 ..self
             }),
-            Role::Function => Some(Counts { cases: 0, ..self }),
-            Role::Case => (self.cases < MAX_CASES).then(|| Counts {
+            Role::Function => Some(TextCounts { cases: 0, ..self }),
+            Role::Case => (self.cases < MAX_CASES).then(|| TextCounts {
                 cases: self.cases + 1,
                 ..self
             }),

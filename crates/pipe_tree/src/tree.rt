@@ -5,7 +5,7 @@ ghost use Rattle.std.specs.Prelude.{◌≡◌};
 ghost use Rattle.pipe_tree.specs.Tree.{cases_of, declarations};
 ghost use Rattle.pipe_tree.specs.Sizes.{KeepsLimits};
 
-use operators::{BinaryOp, Fold, LiteralOp, Relation, TernaryOp, UnaryOp};
+use operators::{BinaryOp, LiteralOp, ReductionOp, Relation, TernaryOp, UnaryOp};
 use pipe_tokens::Name;
 use std::marker::Model;
 
@@ -85,7 +85,7 @@ pub struct Accum {
     pub bins: AffineSpan,
     pub row: Variable,
     pub column: Variable,
-    pub fold: Fold,
+    pub fold: ReductionOp,
     /// The value that a point adds to its bin.
     pub value: Expr,
     /// The bin of a point.
@@ -123,12 +123,12 @@ pub struct AffineSpan {
 /// A sum of terms, of which there is at least one. Contracts see the list of its terms.
 #[derive(Debug, Drop)]
 pub struct Affine {
-    terms: Vec<Term>,
+    terms: Vec<AffineTerm>,
 }
 
 impl Model for Affine {
     ghost use Rattle.std.specs.Prelude.{List};
-    ghost use Rattle.pipe_tree.specs.declared.tree.Term.{Term as TermType};
+    ghost use Rattle.pipe_tree.specs.declared.tree.AffineTerm.{AffineTerm as TermType};
 
     ghost Value = { List TermType };
 
@@ -137,14 +137,14 @@ impl Model for Affine {
 
 impl Affine {
     /// The sum of these terms.
-    pub fn new(terms: Vec<Term>) -> Self
+    pub fn new(terms: Vec<AffineTerm>) -> Self
         ensures { result ≡ terms.items }
     {
         Affine { terms }
     }
 
     /// The terms in the order of the text.
-    pub fn terms(&self) -> &[Term]
+    pub fn terms(&self) -> &[AffineTerm]
         ensures { result.now ≡ self.now }
     {
         &self.terms
@@ -153,7 +153,7 @@ impl Affine {
 
 /// `factor`, times the parameter `name` if there is one; subtracted if `negative`.
 #[derive(Clone, Copy, Debug)]
-pub struct Term {
+pub struct AffineTerm {
     /// Whether a `-` comes before it.
     pub negative: bool,
     /// 1 where the text has a name alone.
@@ -176,7 +176,7 @@ impl Cases {
     }
 
     /// The cases in the order of the text, at most 16.
-    pub fn list(&self) -> &[Case]
+    pub fn case_list(&self) -> &[Case]
         ensures { result.now ≡ cases_of self.now }
     {
         &self.cases
@@ -267,7 +267,7 @@ pub struct Index {
 /// The weights of a stencil. Contracts see the list of its rows.
 #[derive(Debug, Drop)]
 pub struct Kernel {
-    rows: Vec<Row>,
+    rows: Vec<StencilRow>,
 }
 
 impl Model for Kernel {
@@ -280,14 +280,14 @@ impl Model for Kernel {
 
 impl Kernel {
     /// The kernel of these rows.
-    pub fn new(rows: Vec<Row>) -> Self
+    pub fn new(rows: Vec<StencilRow>) -> Self
         ensures { result ≡ rows.items }
     {
         Kernel { rows }
     }
 
     /// The rows in the order of the text, of which there is at least one. They need not be of one length.
-    pub fn rows(&self) -> &[Row]
+    pub fn rows(&self) -> &[StencilRow]
         ensures { result.now ≡ self.now }
     {
         &self.rows
@@ -296,11 +296,11 @@ impl Kernel {
 
 /// One row of a kernel. Contracts see the list of its entries.
 #[derive(Debug, Drop)]
-pub struct Row {
+pub struct StencilRow {
     entries: Vec<i32>,
 }
 
-impl Model for Row {
+impl Model for StencilRow {
     ghost use Rattle.std.specs.Prelude.{List, ℤ};
 
     ghost Value = { List ℤ };
@@ -308,12 +308,12 @@ impl Model for Row {
     ghost view = { λ r. r.entries.items };
 }
 
-impl Row {
+impl StencilRow {
     /// The row of these entries.
     pub fn new(entries: Vec<i32>) -> Self
         ensures { result ≡ entries.items }
     {
-        Row { entries }
+        StencilRow { entries }
     }
 
     /// The entries in the order of the text, of which there is at least one.

@@ -3,4 +3,4 @@
 
 mod samples;
 
-pub use samples::{Samples, SpacedBytes, SpacedPairs};
+pub use samples::{PlaneSamples, SpacedBytes, SpacedPairs};

@@ -21,13 +21,13 @@ pub struct SpacedPairs<'a> {
 
 /// The samples of a plane, row by row, as they lie in memory.
 #[derive(Clone, Copy, Debug)]
-pub enum Samples<'a> {
+pub enum PlaneSamples<'a> {
     Words(&'a [u16]),
     Bytes(SpacedBytes<'a>),
     Pairs(SpacedPairs<'a>),
 }
 
-impl Samples<'_> {
+impl PlaneSamples<'_> {
     ghost use Rattle.std.specs.Prelude.{◌≡◌, ◌<◌};
     ghost use Rattle.plane_samples.specs.Samples.{count_in, sample_in};
 
@@ -36,40 +36,40 @@ impl Samples<'_> {
         ensures { result ≡ count_in self.now }
     {
         match self {
-            Samples::Words(words) => words.len(),
-            Samples::Bytes(spaced) => spaced.count,
-            Samples::Pairs(spaced) => spaced.count,
+            PlaneSamples::Words(words) => words.len(),
+            PlaneSamples::Bytes(spaced) => spaced.count,
+            PlaneSamples::Pairs(spaced) => spaced.count,
         }
     }
 
     /// The sample at a place.
-    pub fn at(&self, place: usize) -> u16
+    pub fn load_sample(&self, place: usize) -> u16
         requires { place < count_in self.now }
         ensures { result ≡ sample_in self.now place }
     {
         match self {
-            Samples::Words(words) => word_at(words, place),
-            Samples::Bytes(spaced) => byte_at(spaced.bytes, spaced.step, place),
-            Samples::Pairs(spaced) => pair_at(spaced.bytes, spaced.step, place),
+            PlaneSamples::Words(words) => load_word_sample(words, place),
+            PlaneSamples::Bytes(spaced) => load_byte_sample(spaced.bytes, spaced.step, place),
+            PlaneSamples::Pairs(spaced) => load_pair_sample(spaced.bytes, spaced.step, place),
         }
     }
 }
 
-fn word_at(words: &[u16], place: usize) -> u16
+fn load_word_sample(words: &[u16], place: usize) -> u16
     requires { place < length words.now }
     ensures { result ≡ slice_index words.now place }
 {
     words[place]
 }
 
-fn byte_at(bytes: &[u8], step: usize, place: usize) -> u16
+fn load_byte_sample(bytes: &[u8], step: usize, place: usize) -> u16
     requires { place * step < length bytes.now }
     ensures { result ≡ slice_index bytes.now (place * step) }
 {
     u16::from(bytes[place * step])
 }
 
-fn pair_at(bytes: &[u8], step: usize, place: usize) -> u16
+fn load_pair_sample(bytes: &[u8], step: usize, place: usize) -> u16
     requires { place * step + 1 < length bytes.now }
     ensures { result
         ≡ 256 * slice_index bytes.now (place * step) + slice_index bytes.now (place * step + 1) }

@@ -6,6 +6,6 @@ mod parcel;
 mod post;
 mod rule;
 
-pub use line::Line;
-pub use parcel::{Moves, Parcel};
+pub use line::MailboxPort;
+pub use parcel::{Parcel, ParcelMoves};
 pub use post::{Pass, Post};

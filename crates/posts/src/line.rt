@@ -6,30 +6,30 @@ ghost use Rattle.posts.specs.Parcels.{IsTrueParcel, moves};
 
 use crate::parcel::Parcel;
 use crate::post::{Pass, Post};
-use named_catalogs::NamedCatalog;
+use catalog::NamedCatalog;
 use std::sync::Wait;
 
 /// One thread's way to a mailbox: the mailbox, and a pass for it.
 #[derive(Drop)]
-pub struct Line<'a, C: NamedCatalog> {
+pub struct MailboxPort<'a, C: NamedCatalog> {
     post: &'a Post<C>,
     pass: Pass<C>,
     ghost of_this: { IsPassOf post.now.queue pass.seat },
 }
 
-impl<'a, C: NamedCatalog> Line<'a, C> {
+impl<'a, C: NamedCatalog> MailboxPort<'a, C> {
     /// A way to this mailbox, by a new pass. No memory is allocated.
-    pub fn new(post: &'a Post<C>) -> Line<'a, C>
+    pub fn new(post: &'a Post<C>) -> MailboxPort<'a, C>
         ensures { view result.pass.seat ≡ moves [] [] }
     {
-        Line {
+        MailboxPort {
             post,
-            pass: post.open_pass(),
+            pass: post.issue_pass(),
         }
     }
 
     /// Puts a parcel of true updates in, as `Post::put` does.
-    pub fn put<R: Wait>(&mut self, rt: &R, parcel: Parcel) -> Result<(), Parcel>
+    pub fn put_parcel<R: Wait>(&mut self, rt: &R, parcel: Parcel) -> Result<(), Parcel>
         requires is_true { IsTrueParcel C.catalog parcel }
         ensures put { OnOk result (view self.new.pass.seat
             ≡ moves ((view self.old.pass.seat).puts ++ parcel ∷ []) (view self.old.pass.seat).takes) }
@@ -40,7 +40,7 @@ impl<'a, C: NamedCatalog> Line<'a, C> {
     }
 
     /// Takes a parcel out, as `Post::take` does. Its updates are true.
-    pub fn take<R: Wait>(&mut self, rt: &R) -> Option<Parcel>
+    pub fn take_parcel<R: Wait>(&mut self, rt: &R) -> Option<Parcel>
         ensures is_true { IfSome result (IsTrueParcel C.catalog) }
         ensures taken { IfSome result (λ parcel. view self.new.pass.seat
             ≡ moves (view self.old.pass.seat).puts ((view self.old.pass.seat).takes ++ parcel ∷ [])) }

@@ -11,7 +11,7 @@ pub struct Parcel {
 }
 
 /// What was put and taken by one pass, in order. It is used in contracts only: no value of it is made.
-pub struct Moves {
+pub struct ParcelMoves {
     pub puts: LinkedList<Parcel>,
     pub takes: LinkedList<Parcel>,
 }

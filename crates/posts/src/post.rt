@@ -4,28 +4,27 @@ ghost use Rattle.std.specs.Prelude.{◌≡◌, ◌<◌, ◌++◌, ◌∷◌, [],
 ghost use Rattle.crossbeam_queue.specs.Passes.{IsPassOf, ruled_capacity, view};
 ghost use Rattle.posts.specs.Parcels.{IsTrueParcel, moves};
 
-use crate::parcel::{Moves, Parcel};
-use crate::rule::{Taking, TrueParcels};
-use catalog::Catalog;
+use crate::parcel::{Parcel, ParcelMoves};
+use crate::rule::{ParcelTaking, TrueParcels};
+use catalog::{Catalog, NamedCatalog};
 use crossbeam_queue::RuledArrayQueue;
-use named_catalogs::NamedCatalog;
 use std::alloc::{AllocError, Global};
 use std::marker::PhantomData;
 use std::sync::Wait;
 
-type Queue<C> = RuledArrayQueue<Parcel, Moves, TrueParcels<C>>;
+type ParcelQueue<C> = RuledArrayQueue<Parcel, ParcelMoves, TrueParcels<C>>;
 
 /// A mailbox of bounded capacity that threads share. All updates in it are true in the catalog that its type names.
 #[derive(Drop)]
 pub struct Post<C: NamedCatalog> {
-    pub queue: Queue<C>,
+    pub queue: ParcelQueue<C>,
 }
 
 /// The right of one thread to put parcels into a mailbox and to take them out. Contracts see what was put and taken by it. It has
 /// no bytes.
 #[derive(Drop)]
 pub struct Pass<C: NamedCatalog> {
-    pub seat: crossbeam_queue::Pass<Parcel, Moves>,
+    pub seat: crossbeam_queue::Pass<Parcel, ParcelMoves>,
     pub of: PhantomData<C>,
 }
 
@@ -49,21 +48,21 @@ impl<C: NamedCatalog> Post<C> {
             (λ p. IsPassOf r.0.queue p.seat × (view p.seat ≡ moves [] [])) r.1.items) }
     {
         let _ = catalog;
-        let (queue, _) = Queue::<C>::ruled(alloc, capacity as usize)?;
+        let (queue, _) = ParcelQueue::<C>::ruled(alloc, capacity as usize)?;
         let post = Post { queue };
-        let passes = post.open_passes(alloc, passes)?;
+        let passes = post.issue_passes(alloc, passes)?;
         Ok((post, passes))
     }
 
     // `count` more passes.
-    fn open_passes(&self, alloc: Global, count: u32) -> Result<Vec<Pass<C>>, AllocError>
+    fn issue_passes(&self, alloc: Global, count: u32) -> Result<Vec<Pass<C>>, AllocError>
         ensures count { IfOk result (λ all. length all.items ≡ count) }
         ensures fresh { IfOk result (λ all. All
             (λ p. IsPassOf self.now.queue p.seat × (view p.seat ≡ moves [] [])) all.items) }
     {
         let mut all = Vec::new(alloc);
         for _ in 0..count {
-            let pass = self.open_pass();
+            let pass = self.issue_pass();
             all.reserve(1)?;
             all.push_reserved(pass);
         }
@@ -71,7 +70,7 @@ impl<C: NamedCatalog> Post<C> {
     }
 
     /// One more pass, by which nothing was put or taken. No memory is allocated.
-    pub fn open_pass(&self) -> Pass<C>
+    pub fn issue_pass(&self) -> Pass<C>
         ensures { IsPassOf self.now.queue result.seat × (view result.seat ≡ moves [] []) }
     {
         Pass {
@@ -105,6 +104,6 @@ impl<C: NamedCatalog> Post<C> {
             ≡ moves (view pass.old.seat).puts ((view pass.old.seat).takes ++ parcel ∷ [])) }
         ensures nothing { IfNone result (view pass.new.seat ≡ view pass.old.seat) }
     {
-        self.queue.pop_as::<Taking<C>, R>(rt, &mut pass.seat)
+        self.queue.pop_as::<ParcelTaking<C>, R>(rt, &mut pass.seat)
     }
 }

@@ -1,8 +1,8 @@
 //! What holds of a mailbox at each moment.
 
-use crate::parcel::{Moves, Parcel};
+use crate::parcel::{Parcel, ParcelMoves};
+use catalog::NamedCatalog;
 use crossbeam_queue::protocol::{Lesson, Outcome, Protocol};
-use named_catalogs::NamedCatalog;
 use std::marker::PhantomData;
 
 /// The parcels in a mailbox have only true updates. It is also what a put records on its pass: that the parcel is put.
@@ -10,7 +10,7 @@ pub struct TrueParcels<C> {
     of: PhantomData<C>,
 }
 
-impl<C: NamedCatalog> Protocol<Parcel, Moves> for TrueParcels<C> {
+impl<C: NamedCatalog> Protocol<Parcel, ParcelMoves> for TrueParcels<C> {
     ghost use Rattle.std.specs.Prelude.{[]};
     ghost use Rattle.posts.specs.Parcels.{moves, HasTrueParcels};
 
@@ -19,27 +19,27 @@ impl<C: NamedCatalog> Protocol<Parcel, Moves> for TrueParcels<C> {
     ghost first = { moves [] [] };
 }
 
-impl<C: NamedCatalog> Outcome<Parcel, Moves> for TrueParcels<C> {
+impl<C: NamedCatalog> Outcome<Parcel, ParcelMoves> for TrueParcels<C> {
     ghost use Rattle.posts.specs.Parcels.{Puts};
 
     ghost then = { Puts };
 }
 
-impl<C: NamedCatalog> Lesson<Parcel, Moves> for TrueParcels<C> {
+impl<C: NamedCatalog> Lesson<Parcel, ParcelMoves> for TrueParcels<C> {
     ghost fact = { λ v items. Unit {0} };
 }
 
 /// What a take records on its pass: that the parcel is taken, and that its updates are true.
-pub struct Taking<C> {
+pub struct ParcelTaking<C> {
     of: PhantomData<C>,
 }
 
-impl<C: NamedCatalog> Outcome<Parcel, Moves> for Taking<C> {
+impl<C: NamedCatalog> Outcome<Parcel, ParcelMoves> for ParcelTaking<C> {
     ghost use Rattle.posts.specs.Parcels.{Takes};
 
     ghost then = { Takes C.catalog };
 }
 
-impl<C: NamedCatalog> Lesson<Parcel, Moves> for Taking<C> {
+impl<C: NamedCatalog> Lesson<Parcel, ParcelMoves> for ParcelTaking<C> {
     ghost fact = { λ v items. Unit {0} };
 }

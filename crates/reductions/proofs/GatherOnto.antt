@@ -4,7 +4,7 @@ use Rattle.std.specs.Prelude.{map}
 use Rattle.std.proofs.lemmas.List.{length-map}
 use Rattle.domains.specs.Span.{len_of, numbers_of}
 use Rattle.domains.proofs.Spans.{length-numbers_from}
-use Rattle.operators.specs.declared.operator.Fold.{Fold}
+use Rattle.operators.specs.declared.operator.ReductionOp.{ReductionOp}
 use Rattle.job.specs.Totals.{start_of, total_of, joined}
 use Rattle.job.proofs.Joining.{total_of-append}
 use Rattle.job.proofs.TotalLaws.{map_same}
@@ -24,31 +24,31 @@ on_ok (Err e) p f = tt
 
 -- ---- one bin
 
-taken_out : (way : Fold) (x y : ℤ) (vs : List ℤ) → after_values way (joined way x y) vs ≡ joined way x (after_values way y vs)
+taken_out : (way : ReductionOp) (x y : ℤ) (vs : List ℤ) → after_values way (joined way x y) vs ≡ joined way x (after_values way y vs)
 taken_out way x y [] = refl
 taken_out way x y (v ∷ vs) = ap (λ (z : ℤ). after_values way z vs) (joined-assoc way x y v) ∙ taken_out way x (joined way y v) vs
 
 -- values that came in one after the other, as their total that came in at once, where the start leaves what was there
-pub came_at_once : (way : Fold) (x : ℤ) (vs : List ℤ) → joined way x (start_of way) ≡ x → after_values way x vs ≡ joined way x (total_of way vs)
+pub came_at_once : (way : ReductionOp) (x : ℤ) (vs : List ℤ) → joined way x (start_of way) ≡ x → after_values way x vs ≡ joined way x (total_of way vs)
 came_at_once way x vs kept =
     ap (λ (z : ℤ). after_values way z vs) (sym kept) ∙ taken_out way x (start_of way) vs ∙ ap (joined way x) (total_by_values way vs)
 
 -- ---- bins joined with bins
 
-joined_bins-comm : (way : Fold) (xs ys : List ℤ) → joined_bins way xs ys ≡ joined_bins way ys xs
+joined_bins-comm : (way : ReductionOp) (xs ys : List ℤ) → joined_bins way xs ys ≡ joined_bins way ys xs
 joined_bins-comm way [] [] = refl
 joined_bins-comm way [] (y ∷ ys) = refl
 joined_bins-comm way (x ∷ xs) [] = refl
 joined_bins-comm way (x ∷ xs) (y ∷ ys) = λ i. joined-comm way x y i ∷ joined_bins-comm way xs ys i
 
-pub joined_bins-assoc : (way : Fold) (xs ys zs : List ℤ)
+pub joined_bins-assoc : (way : ReductionOp) (xs ys zs : List ℤ)
     → joined_bins way (joined_bins way xs ys) zs ≡ joined_bins way xs (joined_bins way ys zs)
 joined_bins-assoc way [] ys zs = refl
 joined_bins-assoc way (x ∷ xs) [] zs = refl
 joined_bins-assoc way (x ∷ xs) (y ∷ ys) [] = refl
 joined_bins-assoc way (x ∷ xs) (y ∷ ys) (z ∷ zs) = λ i. joined-assoc way x y z i ∷ joined_bins-assoc way xs ys zs i
 
-at_joined : (way : Fold) (xs ys : List ℤ) (k : ℕ) → k < length xs → length ys ≡ length xs
+at_joined : (way : ReductionOp) (xs ys : List ℤ) (k : ℕ) → k < length xs → length ys ≡ length xs
     → at (joined_bins way xs ys) k ≡ joined way (at xs k) (at ys k)
 at_joined way [] ys k h e = absurd (omega arith)
 at_joined way (x ∷ xs) [] k h e = absurd (omega arith)
@@ -56,7 +56,7 @@ at_joined way (x ∷ xs) (y ∷ ys) zero h e = refl
 at_joined way (x ∷ xs) (y ∷ ys) (suc k) h e = at_joined way xs ys k (omega arith) (omega arith)
 
 -- bins that the start leaves are left by it once others were joined
-pub still_kept : (way : Fold) (first xs ys : List ℤ) → joined_bins way xs first ≡ xs
+pub still_kept : (way : ReductionOp) (first xs ys : List ℤ) → joined_bins way xs first ≡ xs
     → joined_bins way (joined_bins way xs ys) first ≡ joined_bins way xs ys
 still_kept way first xs ys kept =
     joined_bins-assoc way xs ys first

@@ -1,13 +1,13 @@
 -- Bins that are joined place by place.
 use Rattle.std.proofs.Common.{arith, suc, ◌≡◌, ℤ, List, [], ◌∷◌, length, ap, ◌∙◌, refl}
 use Rattle.std.specs.Prelude.{map, fold}
-use Rattle.operators.specs.declared.operator.Fold.{Fold}
+use Rattle.operators.specs.declared.operator.ReductionOp.{ReductionOp}
 use Rattle.job.specs.Totals.{joined}
 use Rattle.tile_eval.specs.Rows.{EachPlace, at}
 use Rattle.reductions.specs.Bins.{joined_bins}
 
 -- bins of which each is joined with the other of its place
-pub joined_by_places : (way : Fold) (xs ys zs : List ℤ) → length ys ≡ length xs → length zs ≡ length xs
+pub joined_by_places : (way : ReductionOp) (xs ys zs : List ℤ) → length ys ≡ length xs → length zs ≡ length xs
     → EachPlace (length xs) (λ k. at zs k ≡ joined way (at xs k) (at ys k)) → zs ≡ joined_bins way xs ys
 joined_by_places way [] [] [] e f each = refl
 joined_by_places way [] [] (z ∷ zs) e f each = absurd (omega arith)
@@ -20,13 +20,13 @@ joined_by_places way (x ∷ xs) (y ∷ ys) (z ∷ zs) e f each =
     (λ k h. each (suc k) (omega arith)))
 
 -- bins that are functions of the same numbers
-pub joined_maps : {X : Type 0} (way : Fold) (f g : X → ℤ) (bs : List X)
+pub joined_maps : {X : Type 0} (way : ReductionOp) (f g : X → ℤ) (bs : List X)
     → joined_bins way (map f bs) (map g bs) ≡ map (λ b. joined way (f b) (g b)) bs
 joined_maps way f g [] = refl
 joined_maps way f g (b ∷ bs) = ap (λ (vs : List ℤ). joined way (f b) (g b) ∷ vs) (joined_maps way f g bs)
 
 -- and so the bins once several came, each a function of the same numbers
-pub joined_all : {X T : Type 0} (way : Fold) (f : X → ℤ) (g : T → X → ℤ) (bs : List X) (ts : List T)
+pub joined_all : {X T : Type 0} (way : ReductionOp) (f : X → ℤ) (g : T → X → ℤ) (bs : List X) (ts : List T)
     → fold (λ xs t. joined_bins way xs (map (g t) bs)) (map f bs) ts ≡ map (λ b. fold (λ a t. joined way a (g t b)) (f b) ts) bs
 joined_all way f g bs [] = refl
 joined_all {X} {T} way f g bs (t ∷ ts) =

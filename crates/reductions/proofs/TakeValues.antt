@@ -14,7 +14,7 @@ use Rattle.domains.specs.Pairs.{pairs}
 use Rattle.domains.specs.Span.{Ends, Holds, IsSpan, len_of, numbers_from, numbers_of}
 use Rattle.domains.proofs.Lengths.{len_is}
 use Rattle.domains.proofs.Spans.{length-numbers_from}
-use Rattle.operators.specs.declared.operator.Fold.{Fold}
+use Rattle.operators.specs.declared.operator.ReductionOp.{ReductionOp}
 use Rattle.job.specs.Totals.{start_of, joined}
 use Rattle.tile_eval.specs.Rows.{EachPlace, at}
 use Rattle.reductions.specs.Bins.{starts}
@@ -40,7 +40,7 @@ at_number g b zero k h = absurd (omega arith)
 at_number g b (suc n) zero h = ap g (sym (+ℤ_idr b))
 at_number g b (suc n) (suc k) h = at_number g (b +ℤ pos 1) n k (omega arith) ∙ ap g (next b k)
 
-pub starts_long : (way : Fold) (bins : Ends) → length (starts way bins) ≡ len_of bins
+pub starts_long : (way : ReductionOp) (bins : Ends) → length (starts way bins) ≡ len_of bins
 starts_long way bins = length-map (numbers_of bins) (λ (b : ℤ). start_of way) ∙ length-numbers_from bins.lo (len_of bins)
 
 -- number k of a span, counted from 0, is one of its numbers
@@ -54,7 +54,7 @@ starts_are x b (suc n) = ap (λ (zs : List ℤ). x ∷ zs) (starts_are x (b +ℤ
 -- ---- one value
 
 -- a value that is of the bin, or of another
-pub came_one : (way : Fold) (here : Bool) (total v : ℤ) (vs : List ℤ)
+pub came_one : (way : ReductionOp) (here : Bool) (total v : ℤ) (vs : List ℤ)
     → after_values way (once_came way here total v) vs ≡ after_values way total (cond here (v ∷ vs) vs)
 came_one way true total v vs = refl
 came_one way false total v vs = refl
@@ -85,7 +85,7 @@ set_at f xs place lo bin new leaves there is e j h = by (cases_eq j place)
         ∙ ap (λ (b : Bool). f b (at xs j)) (sym (not_here (lo +ℤ pos j) bin (λ same. other_place lo j place ne (is ∙ same))))
 
 -- the bins once the one at a place took in a value
-pub taken_at : (way : Fold) (xs : List ℤ) (place : ℕ) (lo bin v new : ℤ) → place < length xs → lo +ℤ pos place ≡ bin
+pub taken_at : (way : ReductionOp) (xs : List ℤ) (place : ℕ) (lo bin v new : ℤ) → place < length xs → lo +ℤ pos place ≡ bin
     → new ≡ joined way (at xs place) v
     → EachPlace (length xs) (λ j. at (slice_set xs place new) j ≡ once_came way (int_eq bin (lo +ℤ pos j)) (at xs j) v)
 taken_at way xs place lo bin v new there is e =
@@ -106,7 +106,7 @@ values_left (v ∷ vs) (c ∷ cs) b zero h e = firsts (int_eq c b) v c (filter (
 values_left (v ∷ vs) (c ∷ cs) b (suc k) h e = values_left vs cs b k (omega arith) (omega arith)
 
 -- one value more of the rows is in
-pub one_more : (way : Fold) (vs cs : List ℤ) (b : ℤ) (k : ℕ) (old new first : ℤ) → k < length vs → length cs ≡ length vs
+pub one_more : (way : ReductionOp) (vs cs : List ℤ) (b : ℤ) (k : ℕ) (old new first : ℤ) → k < length vs → length cs ≡ length vs
     → new ≡ once_came way (int_eq (at cs k) b) old (at vs k)
     → after_values way old (values_of_bin (drop k vs) (drop k cs) b) ≡ first
     → after_values way new (values_of_bin (drop (suc k) vs) (drop (suc k) cs) b) ≡ first
@@ -148,7 +148,7 @@ of_one_bin (v ∷ vs) bin b =
     ∙ grown (int_eq bin b) v vs (values_of_bin vs (replicate (length vs) bin) b) (of_one_bin vs bin b)
 
 -- the bins once the one at a place took in a row of values
-pub row_at : (way : Fold) (xs vs : List ℤ) (place : ℕ) (lo bin new : ℤ) → place < length xs → lo +ℤ pos place ≡ bin
+pub row_at : (way : ReductionOp) (xs vs : List ℤ) (place : ℕ) (lo bin new : ℤ) → place < length xs → lo +ℤ pos place ≡ bin
     → new ≡ after_values way (at xs place) vs
     → EachPlace (length xs) (λ j. at (slice_set xs place new) j
     ≡ after_values way (at xs j) (values_of_bin vs (replicate (length vs) bin) (lo +ℤ pos j)))
@@ -157,7 +157,7 @@ row_at way xs vs place lo bin new there is e j h =
     ∙ ap (after_values way (at xs j)) (sym (of_one_bin vs bin (lo +ℤ pos j)))
 
 -- and where it is none of the bins
-pub row_nowhere : (way : Fold) (vs : List ℤ) (bin b x : ℤ) → (b ≡ bin → ⊥)
+pub row_nowhere : (way : ReductionOp) (vs : List ℤ) (bin b x : ℤ) → (b ≡ bin → ⊥)
     → x ≡ after_values way x (values_of_bin vs (replicate (length vs) bin) b)
 row_nowhere way vs bin b x ne =
     ap (λ (here : Bool). after_values way x (cond here vs [])) (sym (not_here b bin (λ e. ne (sym e))))
@@ -203,7 +203,7 @@ same_is g x number n each =
     row_is g x n (replicate n number) (same_long n number) (λ k h. at_same number n k h ∙ sym (each (x +ℤ pos k)))
 
 -- bins that took in a row of values took in its points
-pub row_took : (way : Fold) (value bin : ℤ → ℤ → ℤ) (lo r x : ℤ) (n : ℕ) (vs cs old new : List ℤ)
+pub row_took : (way : ReductionOp) (value bin : ℤ → ℤ → ℤ) (lo r x : ℤ) (n : ℕ) (vs cs old new : List ℤ)
     → vs ≡ map (value r) (numbers_from x n) → cs ≡ map (bin r) (numbers_from x n)
     → EachPlace (length old) (λ j. at new j ≡ after_values way (at old j) (values_of_bin vs cs (lo +ℤ pos j)))
     → TookIn way value bin lo (points_along r x n) old new
@@ -228,7 +228,7 @@ rows_left r c m n i h =
     ∙ ap (λ (z : ℤ). points_along (r +ℤ pos i) c n ++ points_from z (m - suc i) c n) below
 
 -- what was taken in so far and what is left, together with one row more
-module _ (way : Fold) (value bin : ℤ → ℤ → ℤ) where
+module _ (way : ReductionOp) (value bin : ℤ → ℤ → ℤ) where
   pub took_row : (b r c : ℤ) (m n i : ℕ) (old new : ℤ) → i < m
       → new ≡ after_values way old (values_among value bin (points_along (r +ℤ pos i) c n) b)
       → after_values way new (values_among value bin (points_from (r +ℤ pos (suc i)) (m - suc i) c n) b)

@@ -12,7 +12,7 @@ use Rattle.domains.specs.Span.{numbers_of}
 use Rattle.domains.specs.Tiles.{IsGrid, part_of, tile_area, tile_rows, tile_cols, tiles_of}
 use Rattle.domains.specs.declared.grid.Grid.{Grid}
 use Rattle.domains.proofs.PairLists.{row_of}
-use Rattle.operators.specs.declared.operator.Fold.{Fold}
+use Rattle.operators.specs.declared.operator.ReductionOp.{ReductionOp}
 use Rattle.job.specs.Totals.{start_of, joined}
 use Rattle.reductions.proofs.TotalsInAnyOrder.{total_by_values, total_of-none, joined-exchange, starts_join, total_among}
 use Rattle.reductions.proofs.TotalsInAnyOrder.{total_among-append, total_of-permuted}
@@ -31,7 +31,7 @@ flat_pairs {X} f (i ∷ is) js =
     flat_row i [] = refl
     flat_row i (j ∷ js) = ap (λ (xs : List X). f (i, j) ++ xs) (flat_row i js)
 
-module _ (way : Fold) (value : ℤ × ℤ → ℤ) (test : ℤ × ℤ → Bool) where
+module _ (way : ReductionOp) (value : ℤ × ℤ → ℤ) (test : ℤ × ℤ → Bool) where
   abbrev total : List (ℤ × ℤ) → ℤ
   total = total_among way value test
 

@@ -10,8 +10,8 @@ use Rattle.std.proofs.lemmas.List.{map-append}
 use Rattle.std.proofs.lemmas.List.Elements.{All-contains, filter-append}
 use Rattle.std.proofs.lemmas.List.Sorted.{IsPermutation-sym, Contains-permutation, sum_by-IsPermutation}
 use Rattle.domains.specs.Arithmetic.{wrapped_long}
-use Rattle.operators.specs.declared.operator.Fold.{Fold}
-use Rattle.operators.specs.declared.operator.Fold.TheVariants.{Sum, Min, Max}
+use Rattle.operators.specs.declared.operator.ReductionOp.{ReductionOp}
+use Rattle.operators.specs.declared.operator.ReductionOp.TheVariants.{Sum, Min, Max}
 use Rattle.job.specs.Totals.{start_of, total_of, joined}
 use Rattle.job.proofs.Joining.{total_of-append}
 
@@ -30,14 +30,14 @@ greatest_on_the_way a [] = refl
 greatest_on_the_way a (x ∷ xs) = greatest_on_the_way (int_max a x) xs
 
 -- a total is its values joined with the start, one after the other
-pub total_by_values : (way : Fold) (vs : List ℤ) → fold (joined way) (start_of way) vs ≡ total_of way vs
+pub total_by_values : (way : ReductionOp) (vs : List ℤ) → fold (joined way) (start_of way) vs ≡ total_of way vs
 unfolding int_wrap
 total_by_values Sum vs = wrapped_on_the_way (pos 0) vs
 total_by_values Min vs = least_on_the_way (start_of Min) vs
 total_by_values Max vs = greatest_on_the_way (start_of Max) vs
 
 -- no value leaves the start
-pub total_of-none : (way : Fold) → total_of way [] ≡ start_of way
+pub total_of-none : (way : ReductionOp) → total_of way [] ≡ start_of way
 unfolding int_wrap
 total_of-none Sum = refl
 total_of-none Min = refl
@@ -51,32 +51,32 @@ plus-comm a b = omega (arith, ints)
 plus-assoc : (a b x : ℤ) → a +ℤ b +ℤ x ≡ a +ℤ (b +ℤ x)
 plus-assoc a b x = omega (arith, ints)
 
-pub joined-comm : (way : Fold) (a b : ℤ) → joined way a b ≡ joined way b a
+pub joined-comm : (way : ReductionOp) (a b : ℤ) → joined way a b ≡ joined way b a
 joined-comm Sum a b = ap wrapped_long (plus-comm a b)
 joined-comm Min a b = omega (arith, ints, clamps)
 joined-comm Max a b = omega (arith, ints, clamps)
 
-pub joined-assoc : (way : Fold) (a b x : ℤ) → joined way (joined way a b) x ≡ joined way a (joined way b x)
+pub joined-assoc : (way : ReductionOp) (a b x : ℤ) → joined way (joined way a b) x ≡ joined way a (joined way b x)
 joined-assoc Sum a b x = int_wrap-add_left w64 (a +ℤ b) x ∙ ap wrapped_long (plus-assoc a b x) ∙ sym (int_wrap-add_right w64 a (b +ℤ x))
 joined-assoc Min a b x = omega (arith, ints, clamps)
 joined-assoc Max a b x = omega (arith, ints, clamps)
 
 -- the middle two of four change places
-pub joined-exchange : (way : Fold) (a b x y : ℤ)
+pub joined-exchange : (way : ReductionOp) (a b x y : ℤ)
     → joined way (joined way a b) (joined way x y) ≡ joined way (joined way a x) (joined way b y)
 joined-exchange way a b x y =
     joined-assoc way a b (joined way x y)
     ∙ ap (joined way a) (sym (joined-assoc way b x y) ∙ ap (λ (z : ℤ). joined way z y) (joined-comm way b x) ∙ joined-assoc way x b y)
     ∙ sym (joined-assoc way a x (joined way b y))
 
-pub starts_join : (way : Fold) → joined way (start_of way) (start_of way) ≡ start_of way
+pub starts_join : (way : ReductionOp) → joined way (start_of way) (start_of way) ≡ start_of way
 unfolding int_wrap
 starts_join Sum = refl
 starts_join Min = refl
 starts_join Max = refl
 
 -- the total of the values of the points that pass a test
-module _ {P : Type 0} (way : Fold) (value : P → ℤ) (test : P → Bool) where
+module _ {P : Type 0} (way : ReductionOp) (value : P → ℤ) (test : P → Bool) where
   abbrev pub total_among : List P → ℤ
   total_among ps = total_of way (map value (filter test ps))
 
@@ -137,7 +137,7 @@ antisym : (a b : ℤ) → a ≤ℤ b → b ≤ℤ a → a ≡ b
 antisym a b h k = omega (arith, ints)
 
 -- a total does not depend on the order of its values
-pub total_of-permuted : (way : Fold) (xs ys : List ℤ) → IsPermutation xs ys → total_of way ys ≡ total_of way xs
+pub total_of-permuted : (way : ReductionOp) (xs ys : List ℤ) → IsPermutation xs ys → total_of way ys ≡ total_of way xs
 total_of-permuted Sum xs ys moved = ap wrapped_long (same_sum xs ys moved)
 total_of-permuted Min xs ys moved =
     antisym _ _ (least_kept (start_of Min) ys xs (IsPermutation-sym xs ys moved)) (least_kept (start_of Min) xs ys moved)

@@ -15,10 +15,10 @@ use Rattle.job.specs.Values.{Valuation, value}
 use Rattle.job.specs.Views.{formula_view, body_view}
 use Rattle.job.specs.WellFormed.{IsFormula, IsStage, IsJob, InDomainRange}
 use Rattle.job.proofs.TotalLaws.{body_totals-agrees}
-use Rattle.tile_eval.specs.Buffer.{sample_in, IsKnownAt, AreTrue, AreKnownOf, BodyServed, IsServed}
-use Rattle.tile_eval.specs.declared.buffers.Buffer.{Buffer}
-use Rattle.tile_eval.proofs.Knowing.{known_there, sample_there, reads_known}
-use Rattle.tile_eval.proofs.TrueTiles.{tile_in_domain}
+use Rattle.whole_stages.specs.Known.{sample_in, IsKnownAt, AreTrue, AreKnownOf, BodyServed, IsServed}
+use Rattle.whole_stages.specs.declared.buffers.StageBuffer.{StageBuffer}
+use Rattle.whole_stages.proofs.Knowing.{known_there, sample_there, reads_known}
+use Rattle.whole_stages.proofs.TrueTiles.{tile_in_domain}
 use Rattle.tile_eval.proofs.NearAreas.{domain_is_area, near_inside}
 use Rattle.reductions.specs.TruePartials.{IsAccumulatorTile, IsDomainPart}
 use Rattle.reductions.specs.Accumulating.{HasFormulas}
@@ -35,14 +35,14 @@ pub stage_totals : (job : Pipeline) (g : ℕ) (s : Stage) → slice_get job.stag
 stage_totals job g s there = totals_over_is job g s s.domain there ∙ sym (totals_is job g s there)
 
 -- what serves for an accumulator is all that it reads
-pub accumulator_inputs : (job : Pipeline) (buffers : List (Option Buffer)) (g : ℕ) (s : Stage) (a : KeptAccumulator)
+pub accumulator_inputs : (job : Pipeline) (buffers : List (Option StageBuffer)) (g : ℕ) (s : Stage) (a : KeptAccumulator)
     → slice_get job.stages g ≡ Some s → s.body ≡ body_view (Accumulator a) → IsServed job buffers g
     → All (λ x. AreKnownOf job buffers (stage_read x)) (reads_of s.body)
 accumulator_inputs job buffers g s a there is served =
     subst (λ (b : Body). All (λ x. AreKnownOf job buffers (stage_read x)) (reads_of b)) (sym is)
     (subst (BodyServed job buffers g) is (served s there))
 
-module _ (job : Pipeline) (buffers : List (Option Buffer)) (g : ℕ) (s : Stage) (area : Area) (h : IsJob job)
+module _ (job : Pipeline) (buffers : List (Option StageBuffer)) (g : ℕ) (s : Stage) (area : Area) (h : IsJob job)
     (there : slice_get job.stages g ≡ Some s) (right : AreTrue job buffers) (part : IsDomainPart job g area)
     (inputs : All (λ x. AreKnownOf job buffers (stage_read x)) (reads_of s.body)) where
   -- all that is read of the points of the area is known

@@ -5,7 +5,7 @@ use Rattle.domains.specs.declared.area.Area.{Area}
 use Rattle.job.specs.Answers.{is_accumulator}
 use Rattle.job.specs.Pipeline.{Stage, Pipeline}
 use Rattle.job.specs.Totals.{totals_over}
-use Rattle.tile_eval.specs.Buffer.{IsTileOver}
+use Rattle.tile_eval.specs.Raster.{IsTileOver}
 
 -- the area is that of the tile of an accumulator in row i and column j
 pub record IsAccumulatorTile (job : Pipeline) (g i j : ℕ) (area : Area) : Type 0 where

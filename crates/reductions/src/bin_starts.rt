@@ -6,17 +6,17 @@ ghost use Rattle.job.specs.Totals.{start_of as start_by};
 ghost use Rattle.reductions.specs.Bins.{starts as starts_by};
 
 use domains::Span;
-use operators::Fold;
+use operators::ReductionOp;
 use std::alloc::{AllocError, Global};
 
 // The start value of a bin, which it keeps if no point has this bin.
-fn find_start_value(op: Fold) -> i64
+fn find_bin_start_value(op: ReductionOp) -> i64
     ensures { result ≡ start_by op }
 {
     match op {
-        Fold::Sum => 0,
-        Fold::Min => i64::MAX,
-        Fold::Max => i64::MIN,
+        ReductionOp::Sum => 0,
+        ReductionOp::Min => i64::MAX,
+        ReductionOp::Max => i64::MIN,
     }
 }
 
@@ -25,8 +25,12 @@ fn find_start_value(op: Fold) -> i64
 /// # Errors
 ///
 /// Fails only where memory is refused.
-pub fn create_start_bins(alloc: Global, op: Fold, bins: &Span) -> Result<Vec<i64>, AllocError>
+pub fn create_start_bins(
+    alloc: Global,
+    op: ReductionOp,
+    bins: &Span,
+) -> Result<Vec<i64>, AllocError>
     ensures { IfOk result (λ starts. starts.items ≡ starts_by op bins.now) }
 {
-    vec![in alloc; find_start_value(op); bins.len() as usize]
+    vec![in alloc; find_bin_start_value(op); bins.len() as usize]
 }

@@ -3,12 +3,12 @@
 
 ghost use Rattle.std.specs.Prelude.{◌≡◌, ◌≢◌, ◌<◌, ◌+ℤ◌, ℕ, ℤ, pos, length, replicate, IfSome, IfNone};
 ghost use Rattle.std.specs.Ordering.{int_eq};
-ghost use Rattle.operators.specs.declared.operator.Fold.TheVariants.{Sum};
+ghost use Rattle.operators.specs.declared.operator.ReductionOp.TheVariants.{Sum};
 ghost use Rattle.tile_eval.specs.Rows.{EachPlace, at};
 ghost use Rattle.reductions.specs.inside.Gathering.{once_came, after_values, values_of_bin};
 
-use crate::join::join_numbers;
-use operators::Fold;
+use crate::join::join_bin_numbers;
+use operators::ReductionOp;
 
 /// The place of a bin, if it is one of `count` bins from `lo` on.
 #[inline]
@@ -24,41 +24,47 @@ pub(crate) fn find_bin_place(lo: i32, count: usize, bin: i32) -> Option<usize>
 
 /// Accumulates a value in the bin at a place, whatever the first bin is.
 #[inline]
-pub(crate) fn accumulate_at_place(op: Fold, bins: &mut [i64], place: usize, value: i32)
+pub(crate) fn accumulate_at_bin_place(op: ReductionOp, bins: &mut [i64], place: usize, value: i32)
     requires { place < length bins.old }
     ensures { (lo : ℤ) → EachPlace (length bins.old) (λ j. at bins.new j
         ≡ once_came op (int_eq (lo +ℤ pos place) (lo +ℤ pos j)) (at bins.old j) value) }
 {
-    bins[place] = join_numbers(op, bins[place], i64::from(value));
+    bins[place] = join_bin_numbers(op, bins[place], i64::from(value));
 }
 
 // Accumulates a value in its bin; a value whose bin is none of these, from `lo` on, changes nothing.
 #[inline]
-fn accumulate_value(op: Fold, lo: i32, bins: &mut [i64], value: i32, bin: i32)
+fn accumulate_value_in_bin(op: ReductionOp, lo: i32, bins: &mut [i64], value: i32, bin: i32)
     ensures { EachPlace (length bins.old) (λ j. at bins.new j
         ≡ once_came op (int_eq bin (lo +ℤ pos j)) (at bins.old j) value) }
 {
     if let Some(place) = find_bin_place(lo, bins.len(), bin) {
-        accumulate_at_place(op, bins, place, value);
+        accumulate_at_bin_place(op, bins, place, value);
     }
 }
 
 // Accumulates a row of values in their bins by an operation.
 #[inline]
-fn accumulate_each_value(op: Fold, lo: i32, bins: &mut [i64], values: &[i32], bins_of: &[i32])
+fn accumulate_each_value_in_bins(
+    op: ReductionOp,
+    lo: i32,
+    bins: &mut [i64],
+    values: &[i32],
+    bins_of: &[i32],
+)
     requires { length bins_of.now ≡ length values.now }
     ensures { EachPlace (length bins.old) (λ j. at bins.new j
         ≡ after_values op (at bins.old j)
         (values_of_bin values.now bins_of.now (lo +ℤ pos j))) }
 {
     for k in 0..values.len() {
-        accumulate_value(op, lo, bins, values[k], bins_of[k]);
+        accumulate_value_in_bin(op, lo, bins, values[k], bins_of[k]);
     }
 }
 
 /// Accumulates a row of values in their bins, from `lo` on. A second row has the bin of each value.
-pub(crate) fn accumulate_values(
-    op: Fold,
+pub(crate) fn accumulate_values_in_bins(
+    op: ReductionOp,
     lo: i32,
     bins: &mut [i64],
     values: &[i32],
@@ -71,19 +77,37 @@ pub(crate) fn accumulate_values(
 {
     // each operation has a loop of its own, so that it is not selected again at each point
     match op {
-        Fold::Sum => accumulate_each_value(Fold::Sum, lo, bins, values, bins_of),
-        Fold::Min => accumulate_each_value(Fold::Min, lo, bins, values, bins_of),
-        Fold::Max => accumulate_each_value(Fold::Max, lo, bins, values, bins_of),
+        ReductionOp::Sum => accumulate_each_value_in_bins(
+            ReductionOp::Sum,
+            lo,
+            bins,
+            values,
+            bins_of,
+        ),
+        ReductionOp::Min => accumulate_each_value_in_bins(
+            ReductionOp::Min,
+            lo,
+            bins,
+            values,
+            bins_of,
+        ),
+        ReductionOp::Max => accumulate_each_value_in_bins(
+            ReductionOp::Max,
+            lo,
+            bins,
+            values,
+            bins_of,
+        ),
     }
 }
 
 /// Adds a number to the bin of each point of a row.
-pub(crate) fn add_number_to_bins(lo: i32, bins: &mut [i64], number: i32, bins_of: &[i32])
+pub(crate) fn add_number_to_point_bins(lo: i32, bins: &mut [i64], number: i32, bins_of: &[i32])
     ensures { EachPlace (length bins.old) (λ j. at bins.new j
         ≡ after_values Sum (at bins.old j)
         (values_of_bin (replicate (length bins_of.now) number) bins_of.now (lo +ℤ pos j))) }
 {
     for k in 0..bins_of.len() {
-        accumulate_value(Fold::Sum, lo, bins, number, bins_of[k]);
+        accumulate_value_in_bin(ReductionOp::Sum, lo, bins, number, bins_of[k]);
     }
 }

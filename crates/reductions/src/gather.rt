@@ -13,18 +13,18 @@ ghost use Rattle.reductions.specs.Accumulating.{HasFormulas, ReadsAt, HasRoomAlo
 ghost use Rattle.reductions.specs.inside.Gathering.{points_along};
 
 use crate::bin_starts::create_start_bins;
-use crate::bins::{accumulate_values, add_number_to_bins};
-use crate::row_bins::find_adjacent_bins;
-use crate::row_buffers::RowBuffers;
+use crate::bins::{accumulate_values_in_bins, add_number_to_point_bins};
+use crate::row_bins::find_adjacent_bins_place;
+use crate::row_buffers::AccumulatorBuffers;
 use crate::side_by_side::{accumulate_in_adjacent_bins, accumulate_in_one_bin};
 use domains::Area;
 use job::Accumulator;
-use operators::Fold;
+use operators::ReductionOp;
 use std::alloc::{AllocError, Global};
-use tile_eval::{RowSource, RowSpan, SourceRow, line_along, number_along};
+use tile_eval::{RowSource, RowSpan, SourceRow, borrow_or_evaluate_row, find_row_constant};
 
 // Accumulates a row of points in the bins.
-fn accumulate_row<S: RowSource>(
+fn accumulate_row_in_bins<S: RowSource>(
     row: &SourceRow<'_, S>,
     accumulator: &Accumulator,
     bins: &mut [i64],
@@ -46,26 +46,26 @@ fn accumulate_row<S: RowSource>(
     let (source, points) = (row.source, &row.points);
     let (value, bin) = (accumulator.value(), accumulator.bin());
     let (op, lo) = (accumulator.fold(), accumulator.bins().lo());
-    if let Some(place) = find_adjacent_bins(bin, points, accumulator.bins()) {
-        let line = line_along(source, points, value, values, temps);
+    if let Some(place) = find_adjacent_bins_place(bin, points, accumulator.bins()) {
+        let line = borrow_or_evaluate_row(source, points, value, values, temps);
         return accumulate_in_adjacent_bins(op, bins, place, line);
     }
-    if let Some(one) = number_along(bin, points) {
-        let line = line_along(source, points, value, values, temps);
+    if let Some(one) = find_row_constant(bin, points) {
+        let line = borrow_or_evaluate_row(source, points, value, values, temps);
         return accumulate_in_one_bin(op, lo, bins, line, one);
     }
-    let each = line_along(source, points, bin, bins_of, temps);
-    match (op, number_along(value, points)) {
-        (Fold::Sum, Some(number)) => add_number_to_bins(lo, bins, number, each),
+    let each = borrow_or_evaluate_row(source, points, bin, bins_of, temps);
+    match (op, find_row_constant(value, points)) {
+        (ReductionOp::Sum, Some(number)) => add_number_to_point_bins(lo, bins, number, each),
         _ => {
-            let line = line_along(source, points, value, values, temps);
-            accumulate_values(op, lo, bins, line, each);
+            let line = borrow_or_evaluate_row(source, points, value, values, temps);
+            accumulate_values_in_bins(op, lo, bins, line, each);
         }
     }
 }
 
 /// Accumulates the points of an area in the bins, row by row.
-pub(crate) fn accumulate_rows<S: RowSource>(
+pub(crate) fn accumulate_rows_in_bins<S: RowSource>(
     source: &S,
     accumulator: &Accumulator,
     area: &Area,
@@ -87,9 +87,9 @@ pub(crate) fn accumulate_rows<S: RowSource>(
         bins.new }
 {
     for i in 0..area.rows.len() as usize {
-        let points = RowSpan::at(area, i);
+        let points = RowSpan::from_area_row(area, i);
         let row = SourceRow { source, points };
-        accumulate_row(&row, accumulator, bins, values, bins_of, temps);
+        accumulate_row_in_bins(&row, accumulator, bins, values, bins_of, temps);
     }
 }
 
@@ -115,7 +115,7 @@ pub(crate) fn compute_area_totals<S: RowSource>(
         (formula_view accumulator.now.bin))) }
 {
     let mut bins = create_start_bins(alloc, accumulator.fold(), accumulator.bins())?;
-    let mut rows = RowBuffers::new(alloc);
+    let mut rows = AccumulatorBuffers::new(alloc);
     rows.grow_for_area(accumulator, area)?;
     rows.accumulate_area(source, accumulator, area, &mut bins);
     Ok(bins)

@@ -12,10 +12,10 @@ use crate::bins::find_bin_place;
 use domains::{LIMIT, Span};
 use job::{Axis, Formula};
 use operators::BinaryOp;
-use tile_eval::{RowSpan, number_along};
+use tile_eval::{RowSpan, find_row_constant};
 
 // The number, if it is in the range of the numbers of spans.
-fn check_span_limits(number: i32) -> Option<i32>
+fn check_adjacent_bin_limits(number: i32) -> Option<i32>
     ensures number { IfSome result (λ it. it ≡ number) }
     ensures least { IfSome result (λ it. negsuc 1048575 ≤ℤ it) }
     ensures most { IfSome result (λ it. it ≤ℤ pos 1048576) }
@@ -30,7 +30,7 @@ fn check_span_limits(number: i32) -> Option<i32>
 
 // The first number of a formula along a row of points, if it rises by one from each point to the next: the column, or the column
 // with a number added or subtracted.
-fn find_first_rising_number(formula: &Formula, points: &RowSpan) -> Option<i32>
+fn find_first_adjacent_bin(formula: &Formula, points: &RowSpan) -> Option<i32>
     ensures least { IfSome result (λ first. negsuc 1048575 ≤ℤ first) }
     ensures most { IfSome result (λ first. first ≤ℤ pos 1048576) }
     ensures values { IfSome result (λ first. (env : Valuation) (k : ℕ) → k < points.now.len
@@ -43,12 +43,12 @@ fn find_first_rising_number(formula: &Formula, points: &RowSpan) -> Option<i32>
     match formula {
         Formula::Coordinate(Axis::Column) => Some(points.col),
         Formula::Binary(BinaryOp::Add, a, b) => {
-            let first = find_first_rising_number(a, points)?;
-            check_span_limits(first.checked_add(number_along(b, points)?)?)
+            let first = find_first_adjacent_bin(a, points)?;
+            check_adjacent_bin_limits(first.checked_add(find_row_constant(b, points)?)?)
         }
         Formula::Binary(BinaryOp::Sub, a, b) => {
-            let first = find_first_rising_number(a, points)?;
-            check_span_limits(first.checked_sub(number_along(b, points)?)?)
+            let first = find_first_adjacent_bin(a, points)?;
+            check_adjacent_bin_limits(first.checked_sub(find_row_constant(b, points)?)?)
         }
         _ => None,
     }
@@ -57,7 +57,11 @@ fn find_first_rising_number(formula: &Formula, points: &RowSpan) -> Option<i32>
 /// The place of the first of the bins that a formula has along a row of points, if these are adjacent and each is one of `bins`.
 /// If the formula is the column and all columns are bins, the place is found.
 #[tactic(auto, using(std::proofs::lemmas::Int::ints))]
-pub(crate) fn find_adjacent_bins(formula: &Formula, points: &RowSpan, bins: &Span) -> Option<usize>
+pub(crate) fn find_adjacent_bins_place(
+    formula: &Formula,
+    points: &RowSpan,
+    bins: &Span,
+) -> Option<usize>
     ensures within { IfSome result (λ place. place + points.now.len ≤ len_of bins.now) }
     ensures values { IfSome result (λ place. (env : Valuation) (k : ℕ) → k < points.now.len
         → formula_value env (formula_view formula.now) points.now.row (points.now.col +ℤ pos k)
@@ -66,7 +70,7 @@ pub(crate) fn find_adjacent_bins(formula: &Formula, points: &RowSpan, bins: &Spa
         → (place : ℕ) → bins.now.lo +ℤ pos place ≡ points.now.col
         → ¬ (place + points.now.len ≤ len_of bins.now)) }
 {
-    let first = find_first_rising_number(formula, points)?;
+    let first = find_first_adjacent_bin(formula, points)?;
     let count = bins.len() as usize;
     let place = find_bin_place(bins.lo(), count, first)?;
     if points.len <= count - place {

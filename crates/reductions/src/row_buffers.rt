@@ -11,23 +11,23 @@ ghost use Rattle.job.specs.WellFormed.{InDomainRange};
 ghost use Rattle.reductions.specs.Bins.{joined_bins};
 ghost use Rattle.reductions.specs.Accumulating.{AreBins, HasFormulas, HasRoomAlong, ReadsAt};
 
-use crate::gather::accumulate_rows;
+use crate::gather::accumulate_rows_in_bins;
 use domains::Area;
 use job::Accumulator;
 use std::alloc::{AllocError, Global};
-use tile_eval::{RowSource, formula_room};
+use tile_eval::{RowSource, compute_formula_capacity};
 
 // The capacity for the operands of both formulas at `n` points, if it can be counted.
-fn count_accumulator_operands(accumulator: &Accumulator, n: usize) -> Option<usize>
+fn find_accumulator_operand_capacity(accumulator: &Accumulator, n: usize) -> Option<usize>
     ensures { IfSome result (HasRoomAlong accumulator.now n) }
 {
-    let value = formula_room(accumulator.value(), n)?;
-    let bin = formula_room(accumulator.bin(), n)?;
+    let value = compute_formula_capacity(accumulator.value(), n)?;
+    let bin = compute_formula_capacity(accumulator.bin(), n)?;
     Some(value.max(bin))
 }
 
 // Grows a row to at least `size` numbers.
-fn grow_row(row: &mut Vec<i32>, size: usize) -> Result<(), AllocError>
+fn grow_accumulator_row(row: &mut Vec<i32>, size: usize) -> Result<(), AllocError>
     ensures { OnOk result (size ≤ vec_len row.new) }
 {
     if row.len() < size {
@@ -38,18 +38,18 @@ fn grow_row(row: &mut Vec<i32>, size: usize) -> Result<(), AllocError>
 
 /// Row buffers for accumulators: values, the bins of these, and operands. Their content is unspecified between calls.
 #[derive(Drop)]
-pub struct RowBuffers {
+pub struct AccumulatorBuffers {
     pub(crate) values: Vec<i32>,
     pub(crate) bins_of: Vec<i32>,
     pub(crate) temps: Vec<i32>,
 }
 
-impl RowBuffers {
+impl AccumulatorBuffers {
     ghost use Rattle.reductions.specs.GatherRooms.{HasRowsOver};
 
     /// No rows yet.
-    pub fn new(alloc: Global) -> RowBuffers {
-        RowBuffers {
+    pub fn new(alloc: Global) -> AccumulatorBuffers {
+        AccumulatorBuffers {
             values: Vec::new(alloc),
             bins_of: Vec::new(alloc),
             temps: Vec::new(alloc),
@@ -69,10 +69,10 @@ impl RowBuffers {
         ensures { OnOk result (HasRowsOver accumulator.now area.now self.new) }
     {
         let n = area.cols.len() as usize;
-        let room = count_accumulator_operands(accumulator, n).ok_or(AllocError)?;
-        grow_row(&mut self.values, n)?;
-        grow_row(&mut self.bins_of, n)?;
-        grow_row(&mut self.temps, room)?;
+        let room = find_accumulator_operand_capacity(accumulator, n).ok_or(AllocError)?;
+        grow_accumulator_row(&mut self.values, n)?;
+        grow_accumulator_row(&mut self.bins_of, n)?;
+        grow_accumulator_row(&mut self.temps, room)?;
         Ok(())
     }
 
@@ -101,7 +101,7 @@ impl RowBuffers {
         let n = area.cols.len() as usize;
         let values = &mut self.values[..n];
         let bins_of = &mut self.bins_of[..n];
-        accumulate_rows(
+        accumulate_rows_in_bins(
             source,
             accumulator,
             area,

@@ -6,26 +6,31 @@ ghost use Rattle.domains.specs.Span.{numbers_from};
 ghost use Rattle.tile_eval.specs.Rows.{EachPlace, at};
 ghost use Rattle.reductions.specs.inside.Gathering.{after_values, values_of_bin};
 
-use crate::bins::{accumulate_at_place, find_bin_place};
-use crate::join::join_numbers;
-use operators::Fold;
+use crate::bins::{accumulate_at_bin_place, find_bin_place};
+use crate::join::join_bin_numbers;
+use operators::ReductionOp;
 
 // Accumulates a row of values by an operation, each in the bin after that of the one before.
 #[inline]
-fn accumulate_adjacent_values(op: Fold, bins: &mut [i64], place: usize, values: &[i32])
+fn accumulate_each_in_adjacent_bins(op: ReductionOp, bins: &mut [i64], place: usize, values: &[i32])
     requires { place + length values.now ≤ length bins.old }
     ensures { (lo : ℤ) → EachPlace (length bins.old) (λ j. at bins.new j
         ≡ after_values op (at bins.old j) (values_of_bin values.now
         (numbers_from (lo +ℤ pos place) (length values.now)) (lo +ℤ pos j))) }
 {
     for k in 0..values.len() {
-        accumulate_at_place(op, bins, place + k, values[k]);
+        accumulate_at_bin_place(op, bins, place + k, values[k]);
     }
 }
 
 /// Accumulates a row of values in the bins from a place on, whatever the first bin is: each in the bin after that of the one
 /// before.
-pub(crate) fn accumulate_in_adjacent_bins(op: Fold, bins: &mut [i64], place: usize, values: &[i32])
+pub(crate) fn accumulate_in_adjacent_bins(
+    op: ReductionOp,
+    bins: &mut [i64],
+    place: usize,
+    values: &[i32],
+)
     requires { place + length values.now ≤ length bins.old }
     ensures { (lo : ℤ) → EachPlace (length bins.old) (λ j. at bins.new j
         ≡ after_values op (at bins.old j) (values_of_bin values.now
@@ -33,42 +38,48 @@ pub(crate) fn accumulate_in_adjacent_bins(op: Fold, bins: &mut [i64], place: usi
 {
     // each operation has a loop of its own, over adjacent numbers
     match op {
-        Fold::Sum => accumulate_adjacent_values(Fold::Sum, bins, place, values),
-        Fold::Min => accumulate_adjacent_values(Fold::Min, bins, place, values),
-        Fold::Max => accumulate_adjacent_values(Fold::Max, bins, place, values),
+        ReductionOp::Sum => accumulate_each_in_adjacent_bins(ReductionOp::Sum, bins, place, values),
+        ReductionOp::Min => accumulate_each_in_adjacent_bins(ReductionOp::Min, bins, place, values),
+        ReductionOp::Max => accumulate_each_in_adjacent_bins(ReductionOp::Max, bins, place, values),
     }
 }
 
 // The content of a bin after it accumulated a row of values by an operation.
 #[inline]
-fn reduce_each_value(op: Fold, total: i64, values: &[i32]) -> i64
+fn reduce_each_row_value(op: ReductionOp, total: i64, values: &[i32]) -> i64
     ensures { result ≡ after_values op total values.now }
 {
     let mut so_far = total;
     for k in 0..values.len() {
-        so_far = join_numbers(op, so_far, i64::from(values[k]));
+        so_far = join_bin_numbers(op, so_far, i64::from(values[k]));
     }
     so_far
 }
 
 // The content of a bin after it accumulated a row of values.
-fn reduce_row(op: Fold, total: i64, values: &[i32]) -> i64
+fn reduce_row_values(op: ReductionOp, total: i64, values: &[i32]) -> i64
     ensures { result ≡ after_values op total values.now }
 {
     match op {
-        Fold::Sum => reduce_each_value(Fold::Sum, total, values),
-        Fold::Min => reduce_each_value(Fold::Min, total, values),
-        Fold::Max => reduce_each_value(Fold::Max, total, values),
+        ReductionOp::Sum => reduce_each_row_value(ReductionOp::Sum, total, values),
+        ReductionOp::Min => reduce_each_row_value(ReductionOp::Min, total, values),
+        ReductionOp::Max => reduce_each_row_value(ReductionOp::Max, total, values),
     }
 }
 
 /// Accumulates a row of values in one bin, if it is one of these, from `lo` on.
-pub(crate) fn accumulate_in_one_bin(op: Fold, lo: i32, bins: &mut [i64], values: &[i32], bin: i32)
+pub(crate) fn accumulate_in_one_bin(
+    op: ReductionOp,
+    lo: i32,
+    bins: &mut [i64],
+    values: &[i32],
+    bin: i32,
+)
     ensures { EachPlace (length bins.old) (λ j. at bins.new j
         ≡ after_values op (at bins.old j) (values_of_bin values.now
         (replicate (length values.now) bin) (lo +ℤ pos j))) }
 {
     if let Some(place) = find_bin_place(lo, bins.len(), bin) {
-        bins[place] = reduce_row(op, bins[place], values);
+        bins[place] = reduce_row_values(op, bins[place], values);
     }
 }

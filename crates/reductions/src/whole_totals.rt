@@ -6,17 +6,17 @@ ghost use Rattle.domains.specs.Area.{IsArea};
 ghost use Rattle.domains.specs.declared.area.Area.{Area};
 ghost use Rattle.job.specs.Kept.{pipeline_in};
 ghost use Rattle.job.specs.Totals.{totals, totals_over};
-ghost use Rattle.tile_eval.specs.Buffer.{IsServed};
+ghost use Rattle.whole_stages.specs.Known.{IsServed};
 ghost use Rattle.reductions.specs.TruePartials.{IsAccumulatorTile, IsTruePartial, IsDomainPart};
 
 use crate::gather::compute_area_totals;
 use domains::{Area, Grid};
 use job::{Body, Job};
 use std::alloc::{AllocError, Global};
-use tile_eval::TrueStages;
+use whole_stages::TrueStages;
 
 // What a stage accumulates over a part of its domain; nothing if it is no accumulator.
-fn compute_stage_totals(
+fn compute_true_area_totals(
     alloc: Global,
     stages: &TrueStages<'_>,
     stage: usize,
@@ -34,7 +34,7 @@ fn compute_stage_totals(
     match found.body() {
         Body::Accumulator(accumulator) => compute_area_totals(
             alloc,
-            stages.known(),
+            stages.known_buffers(),
             accumulator,
             area,
         ),
@@ -44,7 +44,7 @@ fn compute_stage_totals(
 
 /// The area of an accumulator's tile in this row and column of its grid; none where it has no such tile, or no accumulator has this
 /// number.
-pub fn find_accumulator_tile(job: &Job, stage: usize, row: u32, col: u32) -> Option<Area>
+pub fn find_accumulator_tile_area(job: &Job, stage: usize, row: u32, col: u32) -> Option<Area>
     ensures some { IfSome result (IsAccumulatorTile (pipeline_in job.now) stage row col) }
     ensures area { IfSome result IsArea }
     ensures none { IfNone result
@@ -69,8 +69,8 @@ pub fn whole(alloc: Global, job: &Job, stage: usize) -> Result<Vec<i64>, AllocEr
     let Some(domain) = job.domain(stage) else {
         return Ok(Vec::new(alloc));
     };
-    let stages = TrueStages::of(alloc, job, &[stage])?;
-    compute_stage_totals(alloc, &stages, stage, &domain)
+    let stages = TrueStages::from_job(alloc, job, &[stage])?;
+    compute_true_area_totals(alloc, &stages, stage, &domain)
 }
 
 /// What an accumulator accumulates in its bins, rising, over its tile in this row and column of its grid. It reads stages that
@@ -92,8 +92,8 @@ pub fn compute_true_partial(
     ensures none { IfOk result (λ found. IfNone found
         ((bins : List ℤ) → ¬ (IsTruePartial (pipeline_in stages.now.job.now) stage row col bins))) }
 {
-    match find_accumulator_tile(stages.job(), stage, row, col) {
-        Some(area) => Ok(Some(compute_stage_totals(alloc, stages, stage, &area)?)),
+    match find_accumulator_tile_area(stages.job(), stage, row, col) {
+        Some(area) => Ok(Some(compute_true_area_totals(alloc, stages, stage, &area)?)),
         None => Ok(None),
     }
 }

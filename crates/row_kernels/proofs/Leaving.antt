@@ -1,7 +1,7 @@
 -- What divisions leave of numbers that follow one another.
 use Rattle.std.proofs.Common.{ℕ, ℤ, pos, Bool, true, false, refl, ◌≡◌, ◌≢◌, ◌+◌, ◌-◌, ◌/◌, ◌%◌, ◌<◌, ◌≤◌, ◌+ℤ◌, ◌*ℤ◌, ◌<ℤ◌, ◌∙◌, ◌⊎◌, inl, inr}
 use Rattle.std.proofs.Common.{sym, ap, arith, subst, List, length, slice_set, get_or-set_other, get_or-set_same}
-use Rattle.row_kernels.specs.Rows.{at}
+use Rattle.row_loops.specs.Rows.{at}
 use Rattle.std.proofs.lemmas.Bool.{cases_lt}
 use Rattle.std.proofs.Math.IntN.{suc_ℤ, suc_ℤ-*ℤ}
 use Rattle.std.specs.Prelude.{if◌then◌else◌, ◌==◌}

@@ -1,4 +1,3 @@
-pub mod Writing
 pub mod Columns
 pub mod Dividing
 pub mod Places
@@ -6,8 +5,3 @@ pub mod Testing
 pub mod Leaving
 pub mod Reciprocals
 pub mod LastBits
-pub mod Taps
-pub mod Pieces
-pub mod Gaps
-pub mod ProductLaws
-pub mod Separating

@@ -9,7 +9,7 @@ use Rattle.domains.specs.Span.{Ends, Holds, len_of}
 use Rattle.domains.specs.Area.{HoldsPoint, point_count}
 use Rattle.domains.specs.declared.area.Area.{Area}
 use Rattle.domains.proofs.Lengths.{gap_is}
-use Rattle.row_kernels.specs.Rows.{EachPlace}
+use Rattle.row_loops.specs.Rows.{EachPlace}
 use Rattle.row_kernels.specs.Places.{place_of}
 
 -- a number of a span lies less far after its first number than the span is long

@@ -1,7 +1,7 @@
 -- Clamped differences of the numbers of two lines, each times a factor.
 use Rattle.std.specs.Prelude.{ℕ, ℤ, ◌≡◌, ◌-ℤ◌, ◌*ℤ◌, length}
 use Rattle.domains.specs.Arithmetic.{wrapped, clamped}
-use Rattle.row_kernels.specs.Rows.{at}
+use Rattle.row_loops.specs.Rows.{at}
 use Rattle.row_kernels.specs.declared.differences.ClampedDifference.{ClampedDifference}
 
 -- each of its lines has n numbers

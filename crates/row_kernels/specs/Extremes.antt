@@ -1,7 +1,7 @@
 -- Least and greatest numbers.
 use Rattle.std.specs.Prelude.{ℕ, ℤ, ◌≡◌, length}
 use Rattle.std.specs.Int.{int_min, int_max}
-use Rattle.row_kernels.specs.Rows.{at}
+use Rattle.row_loops.specs.Rows.{at}
 use Rattle.row_kernels.specs.declared.extreme.Extreme.{Extreme}
 use Rattle.row_kernels.specs.declared.extreme.Extreme.TheVariants.{Least, Greatest}
 use Rattle.row_kernels.specs.declared.line_pair.LinePair.{LinePair}

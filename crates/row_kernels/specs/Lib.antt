@@ -1,4 +1,3 @@
-pub mod Rows
 pub mod Operands
 pub mod Added
 pub mod Finishes
@@ -8,7 +7,5 @@ pub mod Extremes
 pub mod Places
 pub mod Columns
 pub mod RowMask
-pub mod Stencil
-pub mod Separable
 pub mod Lookup
 pub mod inside

@@ -1,6 +1,6 @@
 -- The operands of an operator along a row.
 use Rattle.std.specs.Prelude.{ℕ, ℤ, ◌≡◌, List, length}
-use Rattle.row_kernels.specs.Rows.{at}
+use Rattle.row_loops.specs.Rows.{at}
 use Rattle.row_kernels.specs.declared.operand.Operand.{Operand}
 use Rattle.row_kernels.specs.declared.operand.Operand.TheVariants.{Line, Number, Written}
 

@@ -1,4 +1,3 @@
 -- What clauses of inner functions cite, and no public clause does.
 pub mod Divided
 pub mod Reciprocal
-pub mod Triples

@@ -6,10 +6,10 @@ ghost use Rattle.std.specs.Int.{int_gap};
 ghost use Rattle.domains.specs.Area.{HoldsPoint, point_count};
 ghost use Rattle.domains.specs.Index.{index_at};
 ghost use Rattle.domains.specs.Span.{Holds, len_of};
-ghost use Rattle.row_kernels.specs.Rows.{EachPlace, at};
+ghost use Rattle.row_loops.specs.Rows.{EachPlace, at};
 ghost use Rattle.row_kernels.specs.Places.{place_of};
 
-use crate::gathering::gather_along;
+use crate::gathering::gather_index_columns;
 use crate::row_span::RowSpan;
 use domains::{Area, Index, Span};
 
@@ -22,7 +22,7 @@ pub struct BufferView<'a> {
 }
 
 // How far a number of a span lies after the first.
-pub(crate) fn distance(span: &Span, v: i32) -> usize
+pub(crate) fn offset_in_span(span: &Span, v: i32) -> usize
     requires { Holds span.now v }
     ensures number { result ≡ int_gap span.now.lo v }
     ensures below { result < len_of span.now }
@@ -32,7 +32,7 @@ pub(crate) fn distance(span: &Span, v: i32) -> usize
 }
 
 // `count` numbers from a place on.
-fn part_of(values: &[i32], place: usize, count: usize) -> &[i32]
+fn borrow_buffer_values(values: &[i32], place: usize, count: usize) -> &[i32]
     requires { place + count ≤ length values.now }
     ensures count { length result.now ≡ count }
     ensures values { EachPlace count (λ k. at result.now k ≡ at values.now (place + k)) }
@@ -40,7 +40,7 @@ fn part_of(values: &[i32], place: usize, count: usize) -> &[i32]
     &values[place..place + count]
 }
 
-fn value_at(values: &[i32], place: usize) -> i32
+fn read_buffer_value(values: &[i32], place: usize) -> i32
     requires { place < length values.now }
     ensures { result ≡ at values.now place }
 {
@@ -70,11 +70,11 @@ impl<'a> BufferView<'a> {
         ensures { EachPlace (length out.old) (λ k. at out.new k
             ≡ at self.now.values.now (place_of self.now.area row (first +ℤ pos k))) }
     {
-        out.copy_from_slice(self.slice(row, first, out.len()));
+        out.copy_from_slice(self.slice_row(row, first, out.len()));
     }
 
     /// `count` values along a row, from a column on.
-    pub fn slice(&self, row: i32, first: i32, count: usize) -> &'a [i32]
+    pub fn slice_row(&self, row: i32, first: i32, count: usize) -> &'a [i32]
         requires { EachPlace count (λ k. HoldsPoint self.now.area row (first +ℤ pos k)) }
         ensures count { length result.now ≡ count }
         ensures values { EachPlace count (λ k. at result.now k
@@ -83,11 +83,11 @@ impl<'a> BufferView<'a> {
         if count == 0 {
             return &[];
         }
-        part_of(self.values, self.place(row, first), count)
+        borrow_buffer_values(self.values, self.locate_point(row, first), count)
     }
 
     /// Writes the values along a row, at the columns that an index takes at the columns of some points.
-    pub fn gather(&self, row: i32, col: &Index, points: &RowSpan, out: &mut [i32])
+    pub fn gather_row(&self, row: i32, col: &Index, points: &RowSpan, out: &mut [i32])
         requires fits { length out.old ≡ points.now.len }
         requires there { EachPlace (length out.old)
             (λ k. HoldsPoint self.now.area row (index_at col.now (points.now.col +ℤ pos k))) }
@@ -98,24 +98,24 @@ impl<'a> BufferView<'a> {
         if out.is_empty() {
             return;
         }
-        let place = self.place(row, col.at(points.col));
-        gather_along(self.values, place, col, points, out);
+        let place = self.locate_point(row, col.at(points.col));
+        gather_index_columns(self.values, place, col, points, out);
     }
 
     /// One value.
-    pub fn sample(&self, row: i32, col: i32) -> i32
+    pub fn read_sample(&self, row: i32, col: i32) -> i32
         requires { HoldsPoint self.now.area row col }
         ensures { result ≡ at self.now.values.now (place_of self.now.area row col) }
     {
-        value_at(self.values, self.place(row, col))
+        read_buffer_value(self.values, self.locate_point(row, col))
     }
 
     // The place of a point among the values.
-    fn place(&self, row: i32, col: i32) -> usize
+    fn locate_point(&self, row: i32, col: i32) -> usize
         requires { HoldsPoint self.now.area row col }
         ensures { result ≡ place_of self.now.area row col }
     {
         let cols = &self.area.cols;
-        distance(&self.area.rows, row) * cols.len() as usize + distance(cols, col)
+        offset_in_span(&self.area.rows, row) * cols.len() as usize + offset_in_span(cols, col)
     }
 }

@@ -21,7 +21,7 @@ pub struct DividedColumns {
 
 // What an index multiplies by.
 #[tactic(auto, using(std::proofs::lemmas::Int::ints))]
-fn factor_of(index: &Index) -> u32
+fn get_index_multiplier(index: &Index) -> u32
     ensures number { index.now.mul ≡ pos result }
     ensures most { result ≤ 16 }
 {
@@ -30,7 +30,7 @@ fn factor_of(index: &Index) -> u32
 
 // What it divides by.
 #[tactic(auto, using(std::proofs::lemmas::Int::ints))]
-fn divisor_of(index: &Index) -> u32
+fn get_index_divisor(index: &Index) -> u32
     ensures number { index.now.div ≡ pos result }
     ensures most { result ≤ 16 }
 {
@@ -39,7 +39,7 @@ fn divisor_of(index: &Index) -> u32
 
 // The remainder of the division at a column.
 #[tactic(auto, using(std::proofs::lemmas::Int::ints))]
-fn rest_at(index: &Index, col: i32) -> u32
+fn find_index_remainder(index: &Index, col: i32) -> u32
     requires least { negsuc 32767 ≤ℤ col }
     requires most { col ≤ℤ pos 32768 }
     ensures rest { floor_rem (index.now.mul *ℤ col +ℤ index.now.add) index.now.div ≡ pos result }
@@ -51,26 +51,26 @@ fn rest_at(index: &Index, col: i32) -> u32
 
 impl DividedColumns {
     ghost use Rattle.domains.specs.Index.{index_at};
-    ghost use Rattle.row_kernels.specs.inside.Divided.{steps_to};
+    ghost use Rattle.row_kernels.specs.inside.Divided.{column_steps};
 
     /// Those of an index from a column on.
     #[tactic(auto, using(std::proofs::lemmas::Int::ints))]
-    pub fn from(index: &Index, col: i32) -> DividedColumns
+    pub fn from_index(index: &Index, col: i32) -> DividedColumns
         requires divides { pos 1 <ℤ index.now.div }
         requires least { negsuc 32767 ≤ℤ col }
         requires most { col ≤ℤ pos 32768 }
         ensures { (k : ℕ) → index_at index.now (col +ℤ pos k)
-            ≡ index_at index.now col +ℤ pos (steps_to result k) }
+            ≡ index_at index.now col +ℤ pos (column_steps result k) }
     {
         DividedColumns {
-            left: rest_at(index, col),
-            step: factor_of(index),
-            reciprocal: Reciprocal::new(divisor_of(index)),
+            left: find_index_remainder(index, col),
+            step: get_index_multiplier(index),
+            reciprocal: Reciprocal::new(get_index_divisor(index)),
         }
     }
 
     /// The remainder of the division at the first column.
-    pub fn left(&self) -> usize
+    pub fn first_remainder(&self) -> usize
         ensures number { result ≡ self.now.left }
         ensures below { result < self.now.reciprocal.divisor }
     {
@@ -78,7 +78,7 @@ impl DividedColumns {
     }
 
     /// Whether the index only adds, and divides by 2.
-    pub fn are_halved(&self) -> bool
+    pub fn is_halving(&self) -> bool
         ensures { result ≡ (self.now.step == 1) && (self.now.reciprocal.divisor == 2) }
     {
         self.step == 1 && self.reciprocal.divisor() == 2
@@ -86,9 +86,9 @@ impl DividedColumns {
 
     /// How far the column at point number `k` lies after the first.
     #[inline]
-    pub fn steps_to(&self, k: usize) -> usize
+    pub fn column_steps(&self, k: usize) -> usize
         requires { k < 65536 }
-        ensures { result ≡ steps_to self.now k }
+        ensures { result ≡ column_steps self.now k }
     {
         self.reciprocal.quotient(self.left + k as u32 * self.step) as usize
     }

@@ -4,17 +4,17 @@
 
 ghost use Rattle.std.specs.Prelude.{◌≡◌, length};
 ghost use Rattle.row_kernels.specs.Extremes.{extreme_value, extreme_at, opposite, HaveLength};
-ghost use Rattle.row_kernels.specs.Finishes.{finish_value};
+ghost use Rattle.row_kernels.specs.Finishes.{epilogue_value};
 ghost use Rattle.row_kernels.specs.Operands.{operand_at, Serves, IsGiven};
-ghost use Rattle.row_kernels.specs.Rows.{EachPlace, at};
+ghost use Rattle.row_loops.specs.Rows.{EachPlace, at};
 
 use crate::extreme::Extreme;
-use crate::finish::Finish;
-use crate::finishes::finish_row;
+use crate::finish::Epilogue;
+use crate::finishes::apply_epilogue_to_row;
 use crate::line_pair::LinePair;
 use crate::operand::Operand;
-use crate::pairs::{Greatest, Least, Pair};
-use crate::sums::make_of_three;
+use crate::sums::apply_two_pair_maps_to_row;
+use row_loops::{Greatest, Least, PairMap};
 
 impl Extreme {
     /// The greatest for the least, and the least for the greatest.
@@ -29,7 +29,7 @@ impl Extreme {
 }
 
 // Writes what a pair makes of the results of another one at two lines and at two other lines.
-fn write_pairs<P: Pair<Made = i32>>(
+fn combine_row_pairs<P: PairMap<Made = i32>>(
     out: &mut [i32],
     first: &[i32],
     second: &[i32],
@@ -46,14 +46,14 @@ fn write_pairs<P: Pair<Made = i32>>(
         (P.value make (at third.now k) (at fourth.now k))) }
 {
     for k in 0..out.len() {
-        let left = make.of(first[k], second[k]);
-        out[k] = make.of(left, make.of(third[k], fourth[k]));
+        let left = make.apply_to_pair(first[k], second[k]);
+        out[k] = make.apply_to_pair(left, make.apply_to_pair(third[k], fourth[k]));
     }
 }
 
 // Writes what an outer pair makes of the results of an inner one: at the first two lines, and at what the outer pair makes of the
 // next two and the fifth.
-fn write_middles<P: Pair<Made = i32>, Q: Pair<Made = i32>>(
+fn combine_median_rows<P: PairMap<Made = i32>, Q: PairMap<Made = i32>>(
     out: &mut [i32],
     first: &[i32],
     second: &[i32],
@@ -73,9 +73,9 @@ fn write_middles<P: Pair<Made = i32>, Q: Pair<Made = i32>>(
         (P.value inner (Q.value outer (at third.now k) (at fourth.now k)) (at fifth.now k))) }
 {
     for k in 0..out.len() {
-        let left = inner.of(first[k], second[k]);
-        let right = inner.of(outer.of(third[k], fourth[k]), fifth[k]);
-        out[k] = outer.of(left, right);
+        let left = inner.apply_to_pair(first[k], second[k]);
+        let right = inner.apply_to_pair(outer.apply_to_pair(third[k], fourth[k]), fifth[k]);
+        out[k] = outer.apply_to_pair(left, right);
     }
 }
 
@@ -86,20 +86,22 @@ pub fn write_extremes_of_three(
     first: Operand,
     second: Operand,
     third: Operand,
-    finish: Finish,
+    finish: Epilogue,
 )
     requires serve { Serves (length out.old) first × Serves (length out.old) second
         × Serves (length out.old) third }
     requires given { IsGiven third }
-    ensures { EachPlace (length out.old) (λ k. at out.new k ≡ finish_value finish
+    ensures { EachPlace (length out.old) (λ k. at out.new k ≡ epilogue_value finish
         (extreme_value extreme (extreme_value extreme (operand_at first.entry out.old k)
         (operand_at second.entry out.old k)) (operand_at third.entry out.old k))) }
 {
     match extreme {
-        Extreme::Least => make_of_three(out, first, second, third, Least, Least),
-        Extreme::Greatest => make_of_three(out, first, second, third, Greatest, Greatest),
+        Extreme::Least => apply_two_pair_maps_to_row(out, first, second, third, Least, Least),
+        Extreme::Greatest => apply_two_pair_maps_to_row(
+            out, first, second, third, Greatest, Greatest,
+        ),
     }
-    finish_row(out, Operand::Written, finish);
+    apply_epilogue_to_row(out, Operand::Written, finish);
 }
 
 /// Writes the least or the greatest number of two pairs of lines, with an epilogue.
@@ -108,19 +110,19 @@ pub fn write_extremes_of_pairs(
     out: &mut [i32],
     pair: LinePair,
     other: LinePair,
-    finish: Finish,
+    finish: Epilogue,
 )
     requires pair { HaveLength (length out.old) pair }
     requires other { HaveLength (length out.old) other }
-    ensures { EachPlace (length out.old) (λ k. at out.new k ≡ finish_value finish
+    ensures { EachPlace (length out.old) (λ k. at out.new k ≡ epilogue_value finish
         (extreme_value extreme (extreme_at extreme pair.entry k) (extreme_at extreme other.entry k))) }
 {
     let (a, b, c, d) = (pair.left, pair.right, other.left, other.right);
     match extreme {
-        Extreme::Least => write_pairs(out, a, b, c, d, Least),
-        Extreme::Greatest => write_pairs(out, a, b, c, d, Greatest),
+        Extreme::Least => combine_row_pairs(out, a, b, c, d, Least),
+        Extreme::Greatest => combine_row_pairs(out, a, b, c, d, Greatest),
     }
-    finish_row(out, Operand::Written, finish);
+    apply_epilogue_to_row(out, Operand::Written, finish);
 }
 
 /// For the greatest, writes the greater of two numbers: the lesser of the first pair, and the lesser of the fifth line and the
@@ -132,19 +134,19 @@ pub fn write_medians(
     pair: LinePair,
     other: LinePair,
     fifth: &[i32],
-    finish: Finish,
+    finish: Epilogue,
 )
     requires pair { HaveLength (length out.old) pair }
     requires other { HaveLength (length out.old) other }
     requires fifth { length fifth.now ≡ length out.old }
-    ensures { EachPlace (length out.old) (λ k. at out.new k ≡ finish_value finish
+    ensures { EachPlace (length out.old) (λ k. at out.new k ≡ epilogue_value finish
         (extreme_value extreme (extreme_at (opposite extreme) pair.entry k)
         (extreme_value (opposite extreme) (extreme_at extreme other.entry k) (at fifth.now k)))) }
 {
     let (a, b, c, d) = (pair.left, pair.right, other.left, other.right);
     match extreme {
-        Extreme::Least => write_middles(out, a, b, c, d, fifth, Greatest, Least),
-        Extreme::Greatest => write_middles(out, a, b, c, d, fifth, Least, Greatest),
+        Extreme::Least => combine_median_rows(out, a, b, c, d, fifth, Greatest, Least),
+        Extreme::Greatest => combine_median_rows(out, a, b, c, d, fifth, Least, Greatest),
     }
-    finish_row(out, Operand::Written, finish);
+    apply_epilogue_to_row(out, Operand::Written, finish);
 }

@@ -1,11 +1,11 @@
 #![tactic(auto)]
 //! Epilogues: what is applied to the results of an operator in the same pass over the row.
 
-use crate::changes::{Cut, RoundedShift};
+use crate::changes::{Clamping, RoundedShift};
 
 /// What is applied to the results of an operator, in the same pass over the row.
 #[derive(Clone, Copy, Debug)]
-pub enum Finish {
+pub enum Epilogue {
     /// They stay as they are.
     Nothing,
     /// Their absolute values.
@@ -13,7 +13,7 @@ pub enum Finish {
     /// A number is added, and the sums are divided by a power of two, rounded down.
     Shift(RoundedShift),
     /// They are clamped to at least a number, and then to at most another one.
-    Cut(Cut),
+    Clamping(Clamping),
     /// They are shifted first, and the result is clamped.
-    ShiftAndCut(RoundedShift, Cut),
+    ShiftAndClamping(RoundedShift, Clamping),
 }

@@ -3,51 +3,51 @@
 
 ghost use Rattle.std.specs.Prelude.{◌≡◌, ◌<◌, ◌+◌, ◌*◌, ◌/◌, ◌^◌, ℕ, pos, length};
 ghost use Rattle.row_kernels.specs.Columns.{column_gap};
-ghost use Rattle.row_kernels.specs.Rows.{EachPlace, at};
-ghost use Rattle.row_kernels.specs.inside.Divided.{steps_to};
+ghost use Rattle.row_loops.specs.Rows.{EachPlace, at};
+ghost use Rattle.row_kernels.specs.inside.Divided.{column_steps};
 
 use crate::divided_columns::DividedColumns;
 use crate::row_span::RowSpan;
-use crate::values::Values;
+use crate::values::RowNumbers;
 use domains::Index;
 
 // What an index multiplies by.
 #[tactic(auto, using(std::proofs::lemmas::Int::ints))]
-fn step_of(index: &Index) -> usize
+fn get_index_step(index: &Index) -> usize
     ensures { index.now.mul ≡ pos result }
 {
     index.mul() as usize
 }
 
 // Takes every second number from a place on. (A constant step allows vector code.)
-fn take_every_second<V: Values>(numbers: V, place: usize, out: &mut [i32])
+fn gather_every_second<V: RowNumbers>(numbers: V, place: usize, out: &mut [i32])
     requires few { (j : ℕ) → V.has numbers j → j < 2 ^ 64 }
     requires there { EachPlace (length out.old) (λ k. V.has numbers (place + k * 2)) }
     ensures { EachPlace (length out.old)
         (λ k. at out.new k ≡ V.number numbers (place + k * 2)) }
 {
     for k in 0..out.len() {
-        out[k] = numbers.at(place + k * 2);
+        out[k] = numbers.read_number(place + k * 2);
     }
 }
 
 // Takes the numbers from a place on, at steps of one length.
-fn take_every<V: Values>(numbers: V, place: usize, step: usize, out: &mut [i32])
+fn gather_every_nth<V: RowNumbers>(numbers: V, place: usize, step: usize, out: &mut [i32])
     requires few { (j : ℕ) → V.has numbers j → j < 2 ^ 64 }
     requires there { EachPlace (length out.old) (λ k. V.has numbers (place + k * step)) }
     ensures { EachPlace (length out.old)
         (λ k. at out.new k ≡ V.number numbers (place + k * step)) }
 {
     if step == 2 {
-        return take_every_second(numbers, place, out);
+        return gather_every_second(numbers, place, out);
     }
     for k in 0..out.len() {
-        out[k] = numbers.at(place + k * step);
+        out[k] = numbers.read_number(place + k * step);
     }
 }
 
 // Takes each number from a place on twice; the first of them only once if `left` is 1.
-fn take_twice<V: Values>(numbers: V, place: usize, left: usize, out: &mut [i32])
+fn gather_each_twice<V: RowNumbers>(numbers: V, place: usize, left: usize, out: &mut [i32])
     requires left { left < 2 }
     requires few { (j : ℕ) → V.has numbers j → j < 2 ^ 64 }
     requires there { EachPlace (length out.old) (λ k. V.has numbers (place + (left + k) / 2)) }
@@ -58,34 +58,39 @@ fn take_twice<V: Values>(numbers: V, place: usize, left: usize, out: &mut [i32])
         return;
     }
     let last = out.len() - 1;
-    out[0] = numbers.at(place);
+    out[0] = numbers.read_number(place);
     for k in 0..(out.len() - left) / 2 {
-        let number = numbers.at(place + left + k);
+        let number = numbers.read_number(place + left + k);
         out[left + 2 * k] = number;
         out[left + 2 * k + 1] = number;
     }
-    out[last] = numbers.at(place + (left + last) / 2);
+    out[last] = numbers.read_number(place + (left + last) / 2);
 }
 
 // Takes the numbers from a place on, at the columns of a dividing index.
-fn take_divided<V: Values>(numbers: V, place: usize, columns: &DividedColumns, out: &mut [i32])
+fn gather_divided_columns<V: RowNumbers>(
+    numbers: V,
+    place: usize,
+    columns: &DividedColumns,
+    out: &mut [i32],
+)
     requires short { length out.old < 65536 }
     requires few { (j : ℕ) → V.has numbers j → j < 2 ^ 64 }
     requires there { EachPlace (length out.old)
-        (λ k. V.has numbers (place + steps_to columns.now k)) }
+        (λ k. V.has numbers (place + column_steps columns.now k)) }
     ensures { EachPlace (length out.old)
-        (λ k. at out.new k ≡ V.number numbers (place + steps_to columns.now k)) }
+        (λ k. at out.new k ≡ V.number numbers (place + column_steps columns.now k)) }
 {
-    if columns.are_halved() {
-        return take_twice(numbers, place, columns.left(), out);
+    if columns.is_halving() {
+        return gather_each_twice(numbers, place, columns.first_remainder(), out);
     }
     for k in 0..out.len() {
-        out[k] = numbers.at(place + columns.steps_to(k));
+        out[k] = numbers.read_number(place + columns.column_steps(k));
     }
 }
 
 /// Writes the numbers from a place on, at the columns that an index takes at the columns of some points.
-pub fn gather_along<V: Values>(
+pub fn gather_index_columns<V: RowNumbers>(
     numbers: V,
     place: usize,
     col: &Index,
@@ -101,8 +106,13 @@ pub fn gather_along<V: Values>(
 {
     if col.div() == 1 {
         // the places of the columns lie at steps of one length
-        take_every(numbers, place, step_of(col), out);
+        gather_every_nth(numbers, place, get_index_step(col), out);
     } else {
-        take_divided(numbers, place, &DividedColumns::from(col, points.col), out);
+        gather_divided_columns(
+            numbers,
+            place,
+            &DividedColumns::from_index(col, points.col),
+            out,
+        );
     }
 }

@@ -8,15 +8,15 @@ ghost use Rattle.operators.specs.Values.{along, is_related, is_passed, all_passe
 ghost use Rattle.operators.specs.Bounds.{BoundsHold};
 ghost use Rattle.operators.specs.Limits.{IsDivisor, IsTest};
 ghost use Rattle.operators.specs.Views.{axis_view, test_view};
-ghost use Rattle.row_kernels.specs.Rows.{EachPlace, at};
+ghost use Rattle.row_loops.specs.Rows.{EachPlace, at};
 ghost use Rattle.row_kernels.specs.RowMask.{HoldsWhere};
 
-use crate::loops::choose;
 use crate::row_span::RowSpan;
 use domains::arithmetic::floor_rem;
-use operators::{Axis, Relation, Test};
+use operators::{Axis, PointTest, Relation};
+use row_loops::choose_number;
 
-fn coordinate(axis: Axis, row: i32, col: i32) -> i32
+fn select_point_coordinate(axis: Axis, row: i32, col: i32) -> i32
     ensures { result ≡ along (axis_view axis) row col }
 {
     match axis {
@@ -35,7 +35,7 @@ fn is_related(relation: Relation, v: i128, bound: i128) -> bool
     }
 }
 
-fn leaves(v: i32, modulus: u32, rest: u32) -> bool
+fn has_remainder(v: i32, modulus: u32, rest: u32) -> bool
     requires modulus { IsDivisor modulus }
     requires rest { rest < modulus }
     ensures { result ≡ int_eq (floor_rem v (pos modulus)) (pos rest) }
@@ -44,16 +44,20 @@ fn leaves(v: i32, modulus: u32, rest: u32) -> bool
 }
 
 // Whether a test holds at the point.
-fn passes(test: &Test, row: i32, col: i32) -> bool
+fn is_point_test_passed(test: &PointTest, row: i32, col: i32) -> bool
     requires { IsTest (test_view test.now) }
     ensures { result ≡ is_passed (test_view test.now) row col }
 {
     match test {
-        Test::Compare(axis, relation, bound) => {
-            is_related(*relation, i128::from(coordinate(*axis, row, col)), *bound)
+        PointTest::Compare(axis, relation, bound) => {
+            is_related(
+                *relation,
+                i128::from(select_point_coordinate(*axis, row, col)),
+                *bound,
+            )
         }
-        Test::Remainder(axis, modulus, rest) => leaves(
-            coordinate(*axis, row, col),
+        PointTest::Remainder(axis, modulus, rest) => has_remainder(
+            select_point_coordinate(*axis, row, col),
             *modulus,
             *rest,
         ),
@@ -61,12 +65,12 @@ fn passes(test: &Test, row: i32, col: i32) -> bool
 }
 
 // Whether all tests hold at the point.
-fn all_pass(tests: &[Test], row: i32, col: i32) -> bool
+fn is_every_point_test_passed(tests: &[PointTest], row: i32, col: i32) -> bool
     requires { All (λ t. IsTest (test_view t)) tests.now }
     ensures { result ≡ all_passed (map test_view tests.now) row col }
 {
     for test in tests {
-        if !passes(test, row, col) {
+        if !is_point_test_passed(test, row, col) {
             return false;
         }
     }
@@ -85,22 +89,22 @@ pub enum RowMask {
 }
 
 /// Where in a row of points in the bounds all tests hold, as far as this is known without testing each point.
-pub fn where_passed(tests: &[Test], points: &RowSpan) -> RowMask
+pub fn find_row_mask(tests: &[PointTest], points: &RowSpan) -> RowMask
     requires { All (λ t. IsTest (test_view t)) tests.now }
     ensures { HoldsWhere result (map test_view tests.now) points.now.row }
 {
     match tests {
         [] => RowMask::Everywhere,
-        [Test::Compare(_, _, _), more @ ..] => where_passed(more, points),
-        [Test::Remainder(Axis::Row, modulus, rest), more @ ..] => {
-            if leaves(points.row, *modulus, *rest) {
-                where_passed(more, points)
+        [PointTest::Compare(_, _, _), more @ ..] => find_row_mask(more, points),
+        [PointTest::Remainder(Axis::Row, modulus, rest), more @ ..] => {
+            if has_remainder(points.row, *modulus, *rest) {
+                find_row_mask(more, points)
             } else {
                 RowMask::Nowhere
             }
         }
-        [Test::Remainder(Axis::Column, modulus, rest), more @ ..] => {
-            match where_passed(more, points) {
+        [PointTest::Remainder(Axis::Column, modulus, rest), more @ ..] => {
+            match find_row_mask(more, points) {
                 RowMask::Nowhere => RowMask::Nowhere,
                 RowMask::Everywhere => RowMask::Leaving(*modulus, *rest),
                 _ => RowMask::Unknown,
@@ -110,7 +114,7 @@ pub fn where_passed(tests: &[Test], points: &RowSpan) -> RowMask
 }
 
 // The remainder of the division of a number.
-fn left_of(v: i32, modulus: u32) -> u32
+fn compute_floor_remainder(v: i32, modulus: u32) -> u32
     requires { IsDivisor modulus }
     ensures number { pos result ≡ floor_rem v (pos modulus) }
     ensures below { result < modulus }
@@ -119,7 +123,7 @@ fn left_of(v: i32, modulus: u32) -> u32
 }
 
 // How far after a number with the remainder `left` the first number with the remainder `rest` lies.
-fn gap_to_rest(left: u32, modulus: u32, rest: u32) -> usize
+fn count_columns_to_remainder(left: u32, modulus: u32, rest: u32) -> usize
     requires modulus { IsDivisor modulus }
     requires left { left < modulus }
     requires rest { rest < modulus }
@@ -138,7 +142,7 @@ fn gap_to_rest(left: u32, modulus: u32, rest: u32) -> usize
 }
 
 // Takes the numbers of the other row at every second place. (Each place is written, which allows vector code.)
-fn take_alternate(out: &mut [i32], other: &[i32], first: u32)
+fn copy_alternate_columns(out: &mut [i32], other: &[i32], first: u32)
     requires other { length other.now ≡ length out.old }
     requires short { length out.old < 65536 }
     ensures { EachPlace (length out.old) (λ k. at out.new k
@@ -146,12 +150,12 @@ fn take_alternate(out: &mut [i32], other: &[i32], first: u32)
 {
     for k in 0..out.len() {
         let (mine, its) = (out[k], other[k]);
-        out[k] = choose(k as u32 % 2 == first, its, mine);
+        out[k] = choose_number(k as u32 % 2 == first, its, mine);
     }
 }
 
 // Takes the numbers of the other row in the columns whose remainder by `modulus` is `rest`.
-fn take_leaving(out: &mut [i32], other: &[i32], modulus: u32, rest: u32, points: &RowSpan)
+fn copy_remainder_columns(out: &mut [i32], other: &[i32], modulus: u32, rest: u32, points: &RowSpan)
     requires other { length other.now ≡ length out.old }
     requires modulus { IsDivisor modulus }
     requires fits { length out.old ≡ points.now.len }
@@ -162,9 +166,13 @@ fn take_leaving(out: &mut [i32], other: &[i32], modulus: u32, rest: u32, points:
     if rest >= modulus {
         return;
     }
-    let first = gap_to_rest(left_of(points.col, modulus), modulus, rest);
+    let first = count_columns_to_remainder(
+        compute_floor_remainder(points.col, modulus),
+        modulus,
+        rest,
+    );
     if modulus == 2 {
-        return take_alternate(out, other, first as u32);
+        return copy_alternate_columns(out, other, first as u32);
     }
     let mut k = first;
     while k < out.len() {
@@ -174,7 +182,7 @@ fn take_leaving(out: &mut [i32], other: &[i32], modulus: u32, rest: u32, points:
 }
 
 // Takes the numbers of the other row where all tests hold, by testing each point.
-fn take_passed(out: &mut [i32], other: &[i32], tests: &[Test], points: &RowSpan)
+fn copy_passing_points(out: &mut [i32], other: &[i32], tests: &[PointTest], points: &RowSpan)
     requires other { length other.now ≡ length out.old }
     requires tests { All (λ t. IsTest (test_view t)) tests.now }
     requires fits { length out.old ≡ points.now.len }
@@ -183,14 +191,20 @@ fn take_passed(out: &mut [i32], other: &[i32], tests: &[Test], points: &RowSpan)
         then at other.now k else at out.old k)) }
 {
     for k in 0..out.len() {
-        if all_pass(tests, points.row, points.column(k)) {
+        if is_every_point_test_passed(tests, points.row, points.column(k)) {
             out[k] = other[k];
         }
     }
 }
 
 /// Takes the numbers of the other row where all tests hold, in a row of points that lie in the bounds.
-pub fn take_where(out: &mut [i32], other: &[i32], tests: &[Test], passed: RowMask, points: &RowSpan)
+pub fn copy_masked_row(
+    out: &mut [i32],
+    other: &[i32],
+    tests: &[PointTest],
+    passed: RowMask,
+    points: &RowSpan,
+)
     requires other { length other.now ≡ length out.old }
     requires tests { All (λ t. IsTest (test_view t)) tests.now }
     requires fits { length out.old ≡ points.now.len }
@@ -202,7 +216,9 @@ pub fn take_where(out: &mut [i32], other: &[i32], tests: &[Test], passed: RowMas
         then at other.now k else at out.old k)) }
 {
     match passed {
-        RowMask::Leaving(modulus, rest) => take_leaving(out, other, modulus, rest, points),
-        _ => take_passed(out, other, tests, points),
+        RowMask::Leaving(modulus, rest) => copy_remainder_columns(
+            out, other, modulus, rest, points,
+        ),
+        _ => copy_passing_points(out, other, tests, points),
     }
 }

@@ -3,41 +3,43 @@
 
 ghost use Rattle.std.specs.Prelude.{◌≡◌, length, if◌then◌else◌};
 ghost use Rattle.row_kernels.specs.Operands.{operand_at, Serves, IsGiven};
-ghost use Rattle.row_kernels.specs.Rows.{EachPlace, at};
+ghost use Rattle.row_loops.specs.Rows.{EachPlace, at};
 
-use crate::changes::{After, Change, Twice};
-use crate::loops::{change, fill, join, keep, write_changed, write_joined};
+use crate::changes::{FixedLeftOperand, SameOperands};
 use crate::operand::Operand;
-use crate::pairs::{Exchanged, Pair};
-use crate::values::Values;
+use crate::values::RowNumbers;
+use row_loops::{
+    NumberMap, PairMap, SwappedOperands, choose_number, combine_row_in_place, fill_row,
+    map_row_in_place, write_combined_rows, write_mapped_row,
+};
 
 /// Writes the numbers of an operand.
-pub(crate) fn place(out: &mut [i32], of: Operand)
+pub(crate) fn write_operand_to_row(out: &mut [i32], of: Operand)
     requires { Serves (length out.old) of }
     ensures { EachPlace (length out.old) (λ k. at out.new k ≡ operand_at of.entry out.old k) }
 {
     match of {
         Operand::Line(line) => out.copy_from_slice(line),
-        Operand::Number(number) => fill(out, number),
+        Operand::Number(number) => fill_row(out, number),
         Operand::Written => {}
     }
 }
 
 /// Writes what a change makes of an operand.
-pub(crate) fn make_of<C: Change>(out: &mut [i32], of: Operand, make: C)
+pub(crate) fn map_operand_to_row<C: NumberMap>(out: &mut [i32], of: Operand, make: C)
     requires { Serves (length out.old) of }
     ensures { EachPlace (length out.old)
         (λ k. at out.new k ≡ C.value make (operand_at of.entry out.old k)) }
 {
     match of {
-        Operand::Line(line) => write_changed(out, line, make),
-        Operand::Number(number) => fill(out, make.of(number)),
-        Operand::Written => change(out, make),
+        Operand::Line(line) => write_mapped_row(out, line, make),
+        Operand::Number(number) => fill_row(out, make.apply_to_number(number)),
+        Operand::Written => map_row_in_place(out, make),
     }
 }
 
 /// Writes what a pair makes of two operands.
-pub(crate) fn make_of_both<P: Pair<Made = i32>>(
+pub(crate) fn combine_operands_to_row<P: PairMap<Made = i32>>(
     out: &mut [i32],
     left: Operand,
     right: Operand,
@@ -49,17 +51,54 @@ pub(crate) fn make_of_both<P: Pair<Made = i32>>(
         ≡ P.value make (operand_at left.entry out.old k) (operand_at right.entry out.old k)) }
 {
     match (left, right) {
-        (Operand::Line(left), Operand::Line(right)) => write_joined(out, left, right, make),
-        (Operand::Line(left), Operand::Written) => join(out, left, Exchanged(make)),
-        (Operand::Written, Operand::Line(right)) => join(out, right, make),
-        (Operand::Written, Operand::Written) => change(out, Twice(make)),
-        (Operand::Number(left), right) => make_of(out, right, After(left, make)),
-        (left, Operand::Number(right)) => make_of(out, left, After(right, Exchanged(make))),
+        (Operand::Line(left), Operand::Line(right)) => write_combined_rows(out, left, right, make),
+        (Operand::Line(left), Operand::Written) => combine_row_in_place(
+            out,
+            left,
+            SwappedOperands(make),
+        ),
+        (Operand::Written, Operand::Line(right)) => combine_row_in_place(out, right, make),
+        (Operand::Written, Operand::Written) => map_row_in_place(out, SameOperands(make)),
+        (Operand::Number(left), right) => map_operand_to_row(
+            out,
+            right,
+            FixedLeftOperand(left, make),
+        ),
+        (left, Operand::Number(right)) => map_operand_to_row(
+            out,
+            left,
+            FixedLeftOperand(right, SwappedOperands(make)),
+        ),
+    }
+}
+
+// Keeps its own number where that of a line is related to one, and takes the other number elsewhere.
+fn select_row_where_related<R: PairMap<Made = bool>, V: RowNumbers, W: RowNumbers>(
+    out: &mut [i32],
+    other: W,
+    left: &[i32],
+    right: V,
+    relate: R,
+)
+    requires left { length left.now ≡ length out.old }
+    requires right { EachPlace (length out.old) (V.has right) }
+    requires other { EachPlace (length out.old) (W.has other) }
+    ensures { EachPlace (length out.old) (λ k. at out.new k
+        ≡ (if R.value relate (at left.now k) (V.number right k) then at out.old k
+        else W.number other k)) }
+{
+    for k in 0..out.len() {
+        let (mine, its) = (out[k], other.read_number(k));
+        out[k] = choose_number(
+            relate.apply_to_pair(left[k], right.read_number(k)),
+            mine,
+            its,
+        );
     }
 }
 
 // Keeps a number where that of a line is related to another one, and takes the operand elsewhere.
-fn keep_or<R: Pair<Made = bool>, V: Values>(
+fn select_row_or_operand<R: PairMap<Made = bool>, V: RowNumbers>(
     out: &mut [i32],
     left: &[i32],
     right: V,
@@ -74,14 +113,14 @@ fn keep_or<R: Pair<Made = bool>, V: Values>(
         else operand_at other.entry out.old k)) }
 {
     match other {
-        Operand::Line(other) => keep(out, other, left, right, relate),
-        Operand::Number(other) => keep(out, other, left, right, relate),
+        Operand::Line(other) => select_row_where_related(out, other, left, right, relate),
+        Operand::Number(other) => select_row_where_related(out, other, left, right, relate),
         Operand::Written => {}
     }
 }
 
 /// Keeps a number where two operands are related, and takes that of another operand elsewhere.
-pub(crate) fn keep_where<R: Pair<Made = bool>>(
+pub(crate) fn select_operand_where_related<R: PairMap<Made = bool>>(
     out: &mut [i32],
     left: Operand,
     right: Operand,
@@ -96,14 +135,18 @@ pub(crate) fn keep_where<R: Pair<Made = bool>>(
         then at out.old k else operand_at other.entry out.old k)) }
 {
     match (left, right) {
-        (Operand::Line(left), Operand::Line(right)) => keep_or(out, left, right, other, relate),
-        (Operand::Line(left), Operand::Number(right)) => keep_or(out, left, right, other, relate),
+        (Operand::Line(left), Operand::Line(right)) => select_row_or_operand(
+            out, left, right, other, relate,
+        ),
+        (Operand::Line(left), Operand::Number(right)) => select_row_or_operand(
+            out, left, right, other, relate,
+        ),
         (Operand::Number(left), Operand::Line(right)) => {
-            keep_or(out, right, left, other, Exchanged(relate))
+            select_row_or_operand(out, right, left, other, SwappedOperands(relate))
         }
         (Operand::Number(left), Operand::Number(right)) => {
-            if !relate.of(left, right) {
-                place(out, other);
+            if !relate.apply_to_pair(left, right) {
+                write_operand_to_row(out, other);
             }
         }
         _ => {}

@@ -3,7 +3,7 @@
 
 ghost use Rattle.std.specs.Prelude.{◌≡◌, ◌<◌, ◌≤◌, ◌*◌, ◌/◌, ◌^◌, ◌+ℤ◌, pos};
 ghost use Rattle.domains.specs.Arithmetic.{floor_div, floor_rem};
-ghost use Rattle.row_kernels.specs.inside.Reciprocal.{IsReciprocal, distance, on_side};
+ghost use Rattle.row_kernels.specs.inside.Reciprocal.{IsReciprocal, complement_negative_dividend, restore_sign};
 
 /// A divisor, with a factor. The product with the factor, without its last `shift` bits, is used instead of a division.
 #[derive(Clone, Copy, Debug)]
@@ -54,15 +54,15 @@ impl Reciprocal {
     pub fn floor_quotient(&self, a: i32) -> i32
         ensures { result ≡ floor_div a (pos self.now.divisor) }
     {
-        on_side(a, self.quotient(distance(a)))
+        restore_sign(a, self.quotient(complement_negative_dividend(a)))
     }
 
     /// The remainder of that division, from 0 up to below the divisor.
     #[inline]
-    pub fn floor_rest(&self, a: i32) -> i32
+    pub fn floor_remainder(&self, a: i32) -> i32
         ensures { result ≡ floor_rem a (pos self.now.divisor) }
     {
-        let n = distance(a);
+        let n = complement_negative_dividend(a);
         let rest = n - self.quotient(n) * self.divisor;
         (if a < 0 { self.divisor - 1 - rest } else { rest }) as i32
     }
@@ -71,8 +71,8 @@ impl Reciprocal {
 // How far a number lies from 0, and one below 0 from -1.
 #[inline]
 #[tactic(auto, using(std::proofs::lemmas::Int::ints))]
-fn distance(a: i32) -> u32
-    ensures is { result ≡ distance a }
+fn complement_negative_dividend(a: i32) -> u32
+    ensures is { result ≡ complement_negative_dividend a }
     ensures most { result < 2 ^ 31 }
 {
     if a < 0 { (-1 - a) as u32 } else { a as u32 }
@@ -81,9 +81,9 @@ fn distance(a: i32) -> u32
 // `n` if `a` is at least 0, else -1 - `n`.
 #[inline]
 #[tactic(auto, using(std::proofs::lemmas::Int::ints))]
-fn on_side(a: i32, n: u32) -> i32
+fn restore_sign(a: i32, n: u32) -> i32
     requires { n < 2 ^ 31 }
-    ensures { result ≡ on_side a n }
+    ensures { result ≡ restore_sign a n }
 {
     if a < 0 { -1 - n as i32 } else { n as i32 }
 }

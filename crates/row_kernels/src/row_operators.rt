@@ -5,84 +5,109 @@ ghost use Rattle.std.specs.Prelude.{◌≡◌, ◌<ℤ◌, ◌*ℤ◌, length, p
 ghost use Rattle.domains.specs.Arithmetic.{wrapped, floor_div, floor_rem};
 ghost use Rattle.operators.specs.Values.{unary_value, binary_value, ternary_value, literal_value, is_related};
 ghost use Rattle.operators.specs.Limits.{IsDivisor, IsLiteral};
-ghost use Rattle.row_kernels.specs.Finishes.{finish_value};
+ghost use Rattle.row_kernels.specs.Finishes.{epilogue_value};
 ghost use Rattle.row_kernels.specs.Operands.{operand_at, Serves, IsGiven};
-ghost use Rattle.row_kernels.specs.Rows.{EachPlace, at};
+ghost use Rattle.row_loops.specs.Rows.{EachPlace, at};
 
 use crate::changes::{
-    AbsoluteValue, Change, Count, LastBits, Negation, Rest, ShiftedLeft, ShiftedRight,
+    AbsoluteValue, DivisionRemainder, LastBits, LeftShift, Negation, RightShift, ShiftCount,
 };
-use crate::finish::Finish;
-use crate::finishes::{finish_both, finish_row};
+use crate::finish::Epilogue;
+use crate::finishes::{apply_epilogue_to_row, combine_operands_with_epilogue};
 use crate::operand::Operand;
-use crate::operand_rows::{keep_where, make_of, make_of_both, place};
-use crate::pairs::{AtMost, Difference, Equal, Exchanged, Greatest, Least, Product, Scaled, Sum};
+use crate::operand_rows::{
+    combine_operands_to_row, map_operand_to_row, select_operand_where_related, write_operand_to_row,
+};
 use crate::reciprocal::Reciprocal;
 use operators::{BinaryOp, LiteralOp, Relation, TernaryOp, UnaryOp};
+use row_loops::{
+    AtMost, Difference, Equal, Greatest, Least, NumberMap, Product, ScaledOperand, Sum,
+    SwappedOperands,
+};
 
 /// Writes the results of an operator, with an epilogue. (For the lesser and the greater number the epilogue is a second pass,
 /// so that fewer loops are compiled.)
-pub fn combine(op: BinaryOp, out: &mut [i32], left: Operand, right: Operand, finish: Finish)
+pub fn apply_binary_to_row(
+    op: BinaryOp,
+    out: &mut [i32],
+    left: Operand,
+    right: Operand,
+    finish: Epilogue,
+)
     requires left { Serves (length out.old) left }
     requires right { Serves (length out.old) right }
-    ensures { EachPlace (length out.old) (λ k. at out.new k ≡ finish_value finish
+    ensures { EachPlace (length out.old) (λ k. at out.new k ≡ epilogue_value finish
         (binary_value op (operand_at left.entry out.old k) (operand_at right.entry out.old k))) }
 {
     match op {
-        BinaryOp::Add => return finish_both(out, left, right, Sum, finish),
-        BinaryOp::Sub => return finish_both(out, left, right, Difference, finish),
-        BinaryOp::Mul => return finish_both(out, left, right, Product, finish),
-        BinaryOp::Min => make_of_both(out, left, right, Least),
-        BinaryOp::Max => make_of_both(out, left, right, Greatest),
+        BinaryOp::Add => return combine_operands_with_epilogue(out, left, right, Sum, finish),
+        BinaryOp::Sub => return combine_operands_with_epilogue(
+            out, left, right, Difference, finish,
+        ),
+        BinaryOp::Mul => return combine_operands_with_epilogue(out, left, right, Product, finish),
+        BinaryOp::Min => combine_operands_to_row(out, left, right, Least),
+        BinaryOp::Max => combine_operands_to_row(out, left, right, Greatest),
     }
-    finish_row(out, Operand::Written, finish);
+    apply_epilogue_to_row(out, Operand::Written, finish);
 }
 
 /// Writes the results of an operator whose right operand is multiplied by a factor, with an epilogue.
-pub fn combine_scaled(
+pub fn apply_scaled_binary_to_row(
     op: BinaryOp,
     out: &mut [i32],
     left: Operand,
     factor: i32,
     right: Operand,
-    finish: Finish,
+    finish: Epilogue,
 )
     requires left { Serves (length out.old) left }
     requires right { Serves (length out.old) right }
-    ensures { EachPlace (length out.old) (λ k. at out.new k ≡ finish_value finish
+    ensures { EachPlace (length out.old) (λ k. at out.new k ≡ epilogue_value finish
         (binary_value op (operand_at left.entry out.old k)
         (wrapped (factor *ℤ operand_at right.entry out.old k)))) }
 {
     match op {
-        BinaryOp::Add => return finish_both(out, left, right, Scaled(Sum, factor), finish),
-        BinaryOp::Sub => return finish_both(out, left, right, Scaled(Difference, factor), finish),
-        BinaryOp::Mul => make_of_both(out, left, right, Scaled(Product, factor)),
-        BinaryOp::Min => make_of_both(out, left, right, Scaled(Least, factor)),
-        BinaryOp::Max => make_of_both(out, left, right, Scaled(Greatest, factor)),
+        BinaryOp::Add => return combine_operands_with_epilogue(
+            out,
+            left,
+            right,
+            ScaledOperand(Sum, factor),
+            finish,
+        ),
+        BinaryOp::Sub => return combine_operands_with_epilogue(
+            out,
+            left,
+            right,
+            ScaledOperand(Difference, factor),
+            finish,
+        ),
+        BinaryOp::Mul => combine_operands_to_row(out, left, right, ScaledOperand(Product, factor)),
+        BinaryOp::Min => combine_operands_to_row(out, left, right, ScaledOperand(Least, factor)),
+        BinaryOp::Max => combine_operands_to_row(out, left, right, ScaledOperand(Greatest, factor)),
     }
-    finish_row(out, Operand::Written, finish);
+    apply_epilogue_to_row(out, Operand::Written, finish);
 }
 
 /// Writes the quotients by a literal, rounded down.
-pub fn divide_by(out: &mut [i32], of: Operand, number: u32)
+pub fn divide_row(out: &mut [i32], of: Operand, number: u32)
     requires of { Serves (length out.old) of }
     requires number { IsDivisor number }
     ensures { EachPlace (length out.old)
         (λ k. at out.new k ≡ floor_div (operand_at of.entry out.old k) (pos number)) }
 {
     if number == 1 {
-        return place(out, of);
+        return write_operand_to_row(out, of);
     }
     let bits = number.ilog2();
     if number == 1 << bits {
-        make_of(out, of, ShiftedRight(Count { bits }));
+        map_operand_to_row(out, of, RightShift(ShiftCount { bits }));
     } else {
-        make_of(out, of, Reciprocal::new(number));
+        map_operand_to_row(out, of, Reciprocal::new(number));
     }
 }
 
 /// Writes the remainders of the division by a literal, rounded down.
-fn leave_remainder(out: &mut [i32], of: Operand, number: u32)
+fn write_row_remainders(out: &mut [i32], of: Operand, number: u32)
     requires of { Serves (length out.old) of }
     requires number { IsDivisor number }
     ensures { EachPlace (length out.old)
@@ -90,57 +115,57 @@ fn leave_remainder(out: &mut [i32], of: Operand, number: u32)
 {
     let bits = number.ilog2();
     if number == 1 << bits {
-        make_of(
+        map_operand_to_row(
             out,
             of,
             LastBits {
-                count: Count { bits },
+                count: ShiftCount { bits },
             },
         );
     } else {
-        make_of(out, of, Rest(Reciprocal::new(number)));
+        map_operand_to_row(out, of, DivisionRemainder(Reciprocal::new(number)));
     }
 }
 
 /// Writes the results of an operator whose right operand is a literal.
-pub fn combine_literal(op: LiteralOp, out: &mut [i32], left: Operand, number: u32)
+pub fn apply_literal_op_to_row(op: LiteralOp, out: &mut [i32], left: Operand, number: u32)
     requires left { Serves (length out.old) left }
     requires number { IsLiteral op number }
     ensures { EachPlace (length out.old)
         (λ k. at out.new k ≡ literal_value op (operand_at left.entry out.old k) number) }
 {
     match op {
-        LiteralOp::Div => divide_by(out, left, number),
-        LiteralOp::Rem => leave_remainder(out, left, number),
-        LiteralOp::Shl => make_of(out, left, ShiftedLeft(Count { bits: number })),
-        LiteralOp::Shr => make_of(out, left, ShiftedRight(Count { bits: number })),
+        LiteralOp::Div => divide_row(out, left, number),
+        LiteralOp::Rem => write_row_remainders(out, left, number),
+        LiteralOp::Shl => map_operand_to_row(out, left, LeftShift(ShiftCount { bits: number })),
+        LiteralOp::Shr => map_operand_to_row(out, left, RightShift(ShiftCount { bits: number })),
     }
 }
 
 /// The number that an operator gives.
-pub fn unary_number(op: UnaryOp, number: i32) -> i32
+pub fn apply_unary_to_number(op: UnaryOp, number: i32) -> i32
     ensures { result ≡ unary_value op number }
 {
     match op {
-        UnaryOp::Neg => Negation.of(number),
-        UnaryOp::Abs => AbsoluteValue.of(number),
+        UnaryOp::Neg => Negation.apply_to_number(number),
+        UnaryOp::Abs => AbsoluteValue.apply_to_number(number),
     }
 }
 
 /// Writes the results of an operator.
-pub fn apply_unary(op: UnaryOp, out: &mut [i32], of: Operand)
+pub fn apply_unary_to_row(op: UnaryOp, out: &mut [i32], of: Operand)
     requires { Serves (length out.old) of }
     ensures { EachPlace (length out.old)
         (λ k. at out.new k ≡ unary_value op (operand_at of.entry out.old k)) }
 {
     match op {
-        UnaryOp::Neg => make_of(out, of, Negation),
-        UnaryOp::Abs => make_of(out, of, AbsoluteValue),
+        UnaryOp::Neg => map_operand_to_row(out, of, Negation),
+        UnaryOp::Abs => map_operand_to_row(out, of, AbsoluteValue),
     }
 }
 
 /// Writes the results of an operator. (If the second and the third operand are numbers, an epilogue may do its work.)
-pub fn apply_ternary(
+pub fn apply_ternary_to_row(
     op: TernaryOp,
     out: &mut [i32],
     first: Operand,
@@ -156,14 +181,14 @@ pub fn apply_ternary(
 {
     match op {
         TernaryOp::Clamp => {
-            make_of_both(out, first, second, Greatest);
-            make_of_both(out, Operand::Written, third, Least);
+            combine_operands_to_row(out, first, second, Greatest);
+            combine_operands_to_row(out, Operand::Written, third, Least);
         }
     }
 }
 
 /// Keeps a number where the left operand is in the relation to the right one, and takes the other operand elsewhere.
-pub fn keep_related(
+pub fn select_row_by_relation(
     out: &mut [i32],
     left: Operand,
     relation: Relation,
@@ -179,8 +204,14 @@ pub fn keep_related(
         else operand_at other.entry out.old k)) }
 {
     match relation {
-        Relation::AtMost => keep_where(out, left, right, other, AtMost),
-        Relation::AtLeast => keep_where(out, left, right, other, Exchanged(AtMost)),
-        Relation::Equals => keep_where(out, left, right, other, Equal),
+        Relation::AtMost => select_operand_where_related(out, left, right, other, AtMost),
+        Relation::AtLeast => select_operand_where_related(
+            out,
+            left,
+            right,
+            other,
+            SwappedOperands(AtMost),
+        ),
+        Relation::Equals => select_operand_where_related(out, left, right, other, Equal),
     }
 }

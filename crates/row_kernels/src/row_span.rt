@@ -24,7 +24,7 @@ pub struct RowSpan {
 /// The number `k` after `first`.
 #[inline]
 #[tactic(auto, using(std::proofs::lemmas::Int::ints))]
-pub fn number_after(first: i32, k: usize) -> i32
+pub fn offset_coordinate(first: i32, k: usize) -> i32
     requires least { negsuc 1048575 ≤ℤ first }
     requires most { (first +ℤ pos k) ≤ℤ pos 1048576 }
     ensures { result ≡ first +ℤ pos k }
@@ -34,7 +34,7 @@ pub fn number_after(first: i32, k: usize) -> i32
 
 impl RowSpan {
     /// Row number `row` of an area.
-    pub fn at(area: &Area, row: usize) -> RowSpan
+    pub fn from_area_row(area: &Area, row: usize) -> RowSpan
         requires rows { InDomainRange area.now.rows }
         requires cols { InDomainRange area.now.cols }
         requires row { row < len_of area.now.rows }
@@ -43,14 +43,14 @@ impl RowSpan {
         ensures len { result.len ≡ len_of area.now.cols }
     {
         RowSpan {
-            row: number_after(area.rows.lo(), row),
+            row: offset_coordinate(area.rows.lo(), row),
             col: area.cols.lo(),
             len: area.cols.len() as usize,
         }
     }
 
     /// The first row of an area.
-    pub fn top(area: &Area) -> RowSpan
+    pub fn from_area_top(area: &Area) -> RowSpan
         requires rows { InDomainRange area.now.rows }
         requires cols { InDomainRange area.now.cols }
         ensures row { result.row ≡ area.now.rows.lo }
@@ -69,11 +69,11 @@ impl RowSpan {
         requires { k < self.now.len }
         ensures { result ≡ self.now.col +ℤ pos k }
     {
-        number_after(self.col, k)
+        offset_coordinate(self.col, k)
     }
 
     /// The first `n` points.
-    pub fn first(&self, n: usize) -> RowSpan
+    pub fn first_points(&self, n: usize) -> RowSpan
         requires { n ≤ self.now.len }
         ensures row { result.row ≡ self.now.row }
         ensures col { result.col ≡ self.now.col }
@@ -87,7 +87,7 @@ impl RowSpan {
     }
 
     /// The points from number `from` up to before number `to`.
-    pub fn part(&self, from: usize, to: usize) -> RowSpan
+    pub fn slice_points(&self, from: usize, to: usize) -> RowSpan
         requires order { from ≤ to }
         requires most { to ≤ self.now.len }
         ensures row { result.row ≡ self.now.row }
@@ -96,20 +96,20 @@ impl RowSpan {
     {
         RowSpan {
             row: self.row,
-            col: number_after(self.col, from),
+            col: offset_coordinate(self.col, from),
             len: to - from,
         }
     }
 
     /// The row that an index takes.
-    pub fn row_at(&self, index: &Index) -> i32
+    pub fn row_at_index(&self, index: &Index) -> i32
         ensures { result ≡ index_at index.now self.now.row }
     {
         index.at(self.row)
     }
 
     /// The first column that an index takes.
-    pub fn col_at(&self, index: &Index) -> i32
+    pub fn first_column_at_index(&self, index: &Index) -> i32
         ensures { result ≡ index_at index.now self.now.col }
     {
         index.at(self.col)
@@ -117,7 +117,7 @@ impl RowSpan {
 
     /// The row that row number `a` of a kernel of `rows` rows reads.
     #[tactic(auto, using(std::proofs::lemmas::Int::ints))]
-    pub fn row_under(&self, rows: usize, a: usize) -> i32
+    pub fn row_under_kernel(&self, rows: usize, a: usize) -> i32
         requires rows { rows ≤ 15 }
         requires a { a < rows }
         ensures { result ≡ under self.now.row rows a }
@@ -127,7 +127,7 @@ impl RowSpan {
 
     /// The first column that a kernel of `cols` columns reads.
     #[tactic(auto, using(std::proofs::lemmas::Int::ints))]
-    pub fn col_under(&self, cols: usize) -> i32
+    pub fn first_column_under_kernel(&self, cols: usize) -> i32
         requires { cols ≤ 15 }
         ensures { result ≡ under self.now.col cols 0 }
     {
@@ -145,7 +145,7 @@ impl RowSpan {
 
     /// How far a column lies after the first.
     #[tactic(auto, using(std::proofs::lemmas::Int::ints))]
-    pub fn gap(&self, col: i32) -> usize
+    pub fn column_offset(&self, col: i32) -> usize
         requires least { self.now.col ≤ℤ col }
         requires most { col ≤ℤ pos 1048576 }
         ensures { self.now.col +ℤ pos result ≡ col }
@@ -154,14 +154,14 @@ impl RowSpan {
     }
 
     /// The points that lie `rows` further down.
-    pub fn below(&self, rows: usize) -> RowSpan
+    pub fn move_down(&self, rows: usize) -> RowSpan
         requires { (self.now.row +ℤ pos rows) ≤ℤ pos 16384 }
         ensures row { result.row ≡ self.now.row +ℤ pos rows }
         ensures col { result.col ≡ self.now.col }
         ensures len { result.len ≡ self.now.len }
     {
         RowSpan {
-            row: number_after(self.row, rows),
+            row: offset_coordinate(self.row, rows),
             col: self.col,
             len: self.len,
         }

@@ -5,7 +5,7 @@ use crate::operand::Operand;
 
 /// An operand of a sum, which may have a factor.
 #[derive(Clone, Copy, Debug)]
-pub struct Term<'a> {
+pub struct Addend<'a> {
     pub factor: Option<i32>,
     pub of: Operand<'a>,
 }

@@ -4,10 +4,10 @@ ghost use Rattle.std.specs.Prelude.{◌≡◌, ◌≤◌, ◌-◌, vec_len, take
 ghost use Rattle.std.specs.Borrow.{sem};
 ghost use Rattle.scratch.specs.VecParts.{LendsVec, LendsVecPart};
 
-use crate::parts::parts;
+use crate::parts::split_slice_at_range;
 
 /// All the numbers of a `Vec`.
-fn numbers(all: &mut Vec<i32>) -> &mut [i32]
+fn borrow_vec_numbers(all: &mut Vec<i32>) -> &mut [i32]
     ensures value { result.now ≡ all.old.items }
     ensures* writes_back { sem 𝓛 (LendsVec all.entry result) }
 {
@@ -15,7 +15,11 @@ fn numbers(all: &mut Vec<i32>) -> &mut [i32]
 }
 
 /// The numbers of a `Vec` before a range, in it and after it.
-pub fn vec_parts(all: &mut Vec<i32>, start: usize, end: usize) -> (&[i32], &mut [i32], &[i32])
+pub fn split_vec_at_range(
+    all: &mut Vec<i32>,
+    start: usize,
+    end: usize,
+) -> (&[i32], &mut [i32], &[i32])
     requires ordered { start ≤ end }
     requires inside { end ≤ vec_len all.old }
     ensures before { result.0.now ≡ take start all.old.items }
@@ -23,5 +27,5 @@ pub fn vec_parts(all: &mut Vec<i32>, start: usize, end: usize) -> (&[i32], &mut 
     ensures behind { result.2.now ≡ drop end all.old.items }
     ensures* writes_back { sem 𝓛 (LendsVecPart all.entry start end result.1) }
 {
-    parts(numbers(all), start, end)
+    split_slice_at_range(borrow_vec_numbers(all), start, end)
 }

@@ -7,7 +7,11 @@ ghost use Rattle.scratch.specs.Parts.{LendsPart};
 use std::slice;
 
 /// The numbers before a range, in it and after it.
-pub fn parts(all: &mut [i32], start: usize, end: usize) -> (&[i32], &mut [i32], &[i32])
+pub fn split_slice_at_range(
+    all: &mut [i32],
+    start: usize,
+    end: usize,
+) -> (&[i32], &mut [i32], &[i32])
     requires ordered { start ≤ end }
     requires inside { end ≤ length all.old }
     ensures before { result.0.now ≡ take start all.old }

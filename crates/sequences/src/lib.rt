@@ -4,5 +4,5 @@
 mod numbers;
 mod sequence;
 
-pub use numbers::Numbers;
+pub use numbers::SharedSequence;
 pub use sequence::Sequence;

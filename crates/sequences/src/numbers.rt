@@ -11,11 +11,11 @@ use std::sync::ArcSlice;
 
 /// Numbers in order, which copies share. Contracts see the list of them.
 #[derive(Debug, Drop)]
-pub struct Numbers<T> {
+pub struct SharedSequence<T> {
     items: ArcSlice<T>,
 }
 
-impl<T> Model for Numbers<T> {
+impl<T> Model for SharedSequence<T> {
     ghost use Rattle.std.specs.Arc.{arc_slice_items};
     ghost use Rattle.std.specs.Coded.{coded_list};
     ghost use Rattle.std.specs.Prelude.{List};
@@ -27,17 +27,17 @@ impl<T> Model for Numbers<T> {
     ghost view = { λ numbers. arc_slice_items numbers.items };
 }
 
-impl<T: Drop> Numbers<T> {
+impl<T: Drop> SharedSequence<T> {
     /// These numbers. Spare capacity of the `Vec` is kept.
     pub fn new(items: Vec<T>) -> Result<Self, AllocError>
         ensures { IfOk result (λ numbers. numbers ≡ items.items) }
     {
         let items = ArcSlice::from_vec(items)?;
-        Ok(Numbers { items })
+        Ok(SharedSequence { items })
     }
 }
 
-impl<T> Numbers<T> {
+impl<T> SharedSequence<T> {
     /// The numbers, in order.
     pub fn as_slice(&self) -> &[T]
         ensures { result.now ≡ self.now }
@@ -47,16 +47,16 @@ impl<T> Numbers<T> {
 }
 
 /// A copy shares the numbers and allocates no memory. It fails only if there are too many copies to count.
-impl<T: Drop> Clone for Numbers<T> {
+impl<T: Drop> Clone for SharedSequence<T> {
     ghost is_clone = { λ it copy. copy ≡ it };
 
     fn clone(&self) -> Result<Self, AllocError> {
         let items = self.items.clone()?;
-        Ok(Numbers { items })
+        Ok(SharedSequence { items })
     }
 }
 
-impl<T: PartialEq> PartialEq for Numbers<T> {
+impl<T: PartialEq> PartialEq for SharedSequence<T> {
     ghost eq = { pointwise T.eq };
 
     ghost laws = { lists_per T.laws };
@@ -66,11 +66,11 @@ impl<T: PartialEq> PartialEq for Numbers<T> {
     }
 }
 
-impl<T: Eq> Eq for Numbers<T> {
+impl<T: Eq> Eq for SharedSequence<T> {
     ghost laws = { lists_equiv T.Eq.laws };
 }
 
-impl<T: PartialOrd> PartialOrd for Numbers<T> {
+impl<T: PartialOrd> PartialOrd for SharedSequence<T> {
     ghost partial_cmp = { slice_partial_cmp T.partial_cmp };
 
     ghost laws = { lists_po T.PartialOrd.laws };
@@ -80,7 +80,7 @@ impl<T: PartialOrd> PartialOrd for Numbers<T> {
     }
 }
 
-impl<T: Ord> Ord for Numbers<T> {
+impl<T: Ord> Ord for SharedSequence<T> {
     ghost cmp = { slice_cmp T.cmp };
 
     ghost total = { lists_total T.total };

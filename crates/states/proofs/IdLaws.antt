@@ -12,7 +12,7 @@ use Rattle.std.specs.Cmp.Lexicographic.{slice_cmp, nat_list_cmp_total}
 use Rattle.std.specs.Ordering.{eq_by_cmp, nat_cmp, ordering_then}
 use Rattle.std.proofs.lemmas.Map.Lookups.{exact_bytes}
 use Rattle.states.specs.IdSets.{IdSet, has, ids_in_set, no_ids, union, with_all, with_ids}
-use Rattle.identity.specs.declared.job_ids.Ids.{Ids}
+use Rattle.identity.specs.declared.job_ids.JobId.{JobId}
 use Rattle.identity.specs.Keys.{ids_cmp}
 
 pub ids_order : IsTotalOrder ids_cmp
@@ -23,10 +23,10 @@ tied Less b h = absurd (search rules)
 tied Equal b h = (refl, h)
 tied Greater b h = absurd (search rules)
 
-one_pair : (a b : Ids) → a.program ≡ b.program → a.input ≡ b.input → a ≡ b
+one_pair : (a b : JobId) → a.program ≡ b.program → a.input ≡ b.input → a ≡ b
 one_pair a b p q i = record { program = p i; input = q i }
 
-pub same_ids : (a b : Ids) → ids_cmp a b ≡ Equal → a ≡ b
+pub same_ids : (a b : JobId) → ids_cmp a b ≡ Equal → a ≡ b
 same_ids a b h =
     let parts = tied (slice_cmp nat_cmp a.program b.program) _ h in one_pair a b (exact_bytes _ _ parts.0) (exact_bytes _ _ parts.1)
 
@@ -41,19 +41,19 @@ mark None (Some u) e = cc
 mark (Some u) None e = cc
 mark (Some u) (Some v) e = refl
 
-pub same_id_set : (s t : IdSet) → ((i : Ids) → has s i ≡ has t i) → s ≡ t
+pub same_id_set : (s t : IdSet) → ((i : JobId) → has s i ≡ has t i) → s ≡ t
 unfolding has
 same_id_set s t h = same_map ids_order same_ids s t (λ i. mark (map_.get s i) (map_.get t i) (h i))
 
-pub has-no_ids : (i : Ids) → has no_ids i ≡ false
+pub has-no_ids : (i : JobId) → has no_ids i ≡ false
 unfolding has no_ids
 has-no_ids i = ap is_some (get-empty ids_cmp i)
 
-pub has-with_ids : (s : IdSet) (i j : Ids) → has (with_ids s i) j ≡ (eq_by_cmp ids_cmp j i || has s j)
+pub has-with_ids : (s : IdSet) (i j : JobId) → has (with_ids s i) j ≡ (eq_by_cmp ids_cmp j i || has s j)
 unfolding has with_ids
 has-with_ids s i j = ap is_some (get-insert ids_order s i tt j) ∙ marked (eq_by_cmp ids_cmp j i) (map_.get s j)
 
-pub has-ids_in_set : (s : IdSet) (i : Ids) → has s i ≡ list_any (eq_by_cmp ids_cmp i) (ids_in_set s)
+pub has-ids_in_set : (s : IdSet) (i : JobId) → has s i ≡ list_any (eq_by_cmp ids_cmp i) (ids_in_set s)
 unfolding has ids_in_set
 has-ids_in_set s i = contains_key-keys s i
 
@@ -66,13 +66,13 @@ or_swap true true c = refl
 or_swap true false c = refl
 or_swap false b c = refl
 
-pub has-with_all : (s : IdSet) (is : List Ids) (j : Ids) → has (with_all s is) j ≡ (has s j || list_any (eq_by_cmp ids_cmp j) is)
+pub has-with_all : (s : IdSet) (is : List JobId) (j : JobId) → has (with_all s is) j ≡ (has s j || list_any (eq_by_cmp ids_cmp j) is)
 unfolding with_all
 has-with_all s [] j = sym (or_false (has s j))
 has-with_all s (i ∷ is) j =
     has-with_ids (with_all s is) i j ∙ ap (λ b. eq_by_cmp ids_cmp j i || b) (has-with_all s is j)
     ∙ or_swap (eq_by_cmp ids_cmp j i) (has s j) (list_any (eq_by_cmp ids_cmp j) is)
 
-pub has-union : (s t : IdSet) (i : Ids) → has (union s t) i ≡ (has s i || has t i)
+pub has-union : (s t : IdSet) (i : JobId) → has (union s t) i ≡ (has s i || has t i)
 unfolding union
 has-union s t i = has-with_all s (ids_in_set t) i ∙ ap (λ b. has s i || b) (sym (has-ids_in_set t i))

@@ -10,7 +10,7 @@ use Rattle.tile_fact.specs.declared.fact.Fact.{Fact}
 use Rattle.fact_store.specs.Facts as sets
 use Rattle.fact_store.specs.Facts.{FactSet}
 use Rattle.fact_store.proofs.SetLaws as laws
-use Rattle.identity.specs.declared.job_ids.Ids.{Ids}
+use Rattle.identity.specs.declared.job_ids.JobId.{JobId}
 use Rattle.identity.specs.Keys.{ids_in}
 use Rattle.states.specs.IdSets.{IdSet, union}
 use Rattle.states.specs.States.{State, IsBelow, IsState, holds, is_of, join, nothing, retires, without}
@@ -88,7 +88,7 @@ both_ways false true h k = k refl
 both_ways false false h k = refl
 
 -- ---- states are what they have
-pub same_state : (s t : State) → ((f : Fact) → holds s f ≡ holds t f) → ((i : Ids) → retires s i ≡ retires t i) → s ≡ t
+pub same_state : (s t : State) → ((f : Fact) → holds s f ≡ holds t f) → ((i : JobId) → retires s i ≡ retires t i) → s ≡ t
 same_state s t facts ids =
     let p : s.facts ≡ t.facts = laws.same_set s.facts t.facts facts in
     let q : s.retired ≡ t.retired = same_id_set s.retired t.retired ids in
@@ -108,7 +108,7 @@ holds-without s ids f = ap is_some (get-retain_keys s left f (λ g e. ap left (s
     left : Fact → Bool
     left g = not (is_of ids g)
 
-pub retires-join : (s t : State) (i : Ids) → retires (join s t) i ≡ (retires s i || retires t i)
+pub retires-join : (s t : State) (i : JobId) → retires (join s t) i ≡ (retires s i || retires t i)
 retires-join s t i = has-union s.retired t.retired i
 
 pub holds-join : (s t : State) (f : Fact)
@@ -147,9 +147,9 @@ join_assoc s t u =
     ∙ or_assoc (retires s i) (retires t i) (retires u i)
     ∙ sym (retires-join s (join t u) i ∙ ap (λ b. retires s i || b) (retires-join t u i)))
   where
-    by : (f : Fact) (i : Ids) → holds (join (join s t) u) f ≡ holds (join s (join t u)) f
+    by : (f : Fact) (i : JobId) → holds (join (join s t) u) f ≡ holds (join s (join t u)) f
     by f i =
-        let j : Ids = ids_in f.key in
+        let j : JobId = ids_in f.key in
         holds-join (join s t) u f
         ∙ ap (λ a. (a || holds u f) && not (retires (join s t) j || retires u j)) (holds-join s t f)
         ∙ ap (λ b. (((holds s f || holds t f) && not (retires s j || retires t j)) || holds u f) && not (b || retires u j))
@@ -237,6 +237,6 @@ below_both s t one other p q =
     (λ i. both_ways (retires s i) (retires t i) (p.retired i) (q.retired i))
 
 pub same_members : (s t : State) → ((f : Fact) → holds s f ≡ true → holds t f ≡ true) → ((f : Fact) → holds t f ≡ true → holds s f ≡ true)
-    → ((i : Ids) → retires s i ≡ true → retires t i ≡ true) → ((i : Ids) → retires t i ≡ true → retires s i ≡ true) → s ≡ t
+    → ((i : JobId) → retires s i ≡ true → retires t i ≡ true) → ((i : JobId) → retires t i ≡ true → retires s i ≡ true) → s ≡ t
 same_members s t f g i j =
     same_state s t (λ x. both_ways (holds s x) (holds t x) (f x) (g x)) (λ x. both_ways (retires s x) (retires t x) (i x) (j x))

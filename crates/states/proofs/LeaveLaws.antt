@@ -2,7 +2,7 @@
 use Rattle.std.specs.Prelude.{◌≡◌, ◌⊎◌, ◌↔◌, Bool, true, false, refl}
 use Rattle.std.proofs.Common.{sym, ◌∙◌, inl, inr}
 use Rattle.tile_fact.specs.declared.fact.Fact.{Fact}
-use Rattle.identity.specs.declared.job_ids.Ids.{Ids}
+use Rattle.identity.specs.declared.job_ids.JobId.{JobId}
 use Rattle.identity.specs.Keys.{ids_in}
 use Rattle.tile_fact.specs.declared.update.Update.{Update}
 use Rattle.tile_fact.specs.declared.update.Update.TheVariants.{Fact as fact, Retire as retirement}
@@ -42,28 +42,28 @@ module _ (P Q : Update → Type 0) (s t : State) (is : IsLeftBy P s) (from : IsF
   abbrev Either : Update → Type 0
   Either u = P u ⊎ Q u
 
-  retired : (i : Ids) → retires (join s t) i ≡ true → Either (retirement i)
+  retired : (i : JobId) → retires (join s t) i ≡ true → Either (retirement i)
   retired i h = elim (or_cases _ _ (sym (retires-join s t i) ∙ h)) [ inl e ↦ inl ((is (retirement i)).0 e) | inr e ↦ inr (from.only (retirement i) e) ]
 
-  retires_it : (i : Ids) → Either (retirement i) → retires (join s t) i ≡ true
+  retires_it : (i : JobId) → Either (retirement i) → retires (join s t) i ≡ true
   retires_it i (inl p) = retires-join s t i ∙ or_left _ _ ((is (retirement i)).1 p)
   retires_it i (inr q) = elim (from.each (retirement i) q) [ inl e ↦ retires-join s t i ∙ or_right _ _ e | inr none ↦ absurd none ]
 
   held : (f : Fact) → holds (join s t) f ≡ true → Leave Either (fact f)
   held f h =
       let parts = joined_parts s t f h in
-      let i : Ids = ids_in f.key in (
+      let i : JobId = ids_in f.key in (
         elim parts.0 [ inl e ↦ inl ((is (fact f)).0 e).0 | inr e ↦ inr (from.only (fact f) e) ],
         λ r. elim (or_cases _ _ (sym (retires-join s t i) ∙ retires_it i r)) [ inl e ↦ clash _ e parts.1 | inr e ↦ clash _ e parts.2 ],
       )
 
-  off : (i : Ids) (v : State) → ((e : retires v i ≡ true) → ⊥) → (b : Bool) → retires v i ≡ b → retires v i ≡ false
+  off : (i : JobId) (v : State) → ((e : retires v i ≡ true) → ⊥) → (b : Bool) → retires v i ≡ b → retires v i ≡ false
   off i v none true e = absurd (none e)
   off i v none false e = e
 
   holds_it : (f : Fact) → Leave Either (fact f) → holds (join s t) f ≡ true
   holds_it f (some, none) =
-      let i : Ids = ids_in f.key in
+      let i : JobId = ids_in f.key in
       let x = off i s (λ e. none (inl ((is (retirement i)).0 e))) (retires s i) refl in
       let y = off i t (λ e. none (inr (from.only (retirement i) e))) (retires t i) refl in
       joined_has s t f

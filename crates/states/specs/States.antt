@@ -1,7 +1,7 @@
 -- The state of a node: facts, and the identities of retired jobs, of which it has no fact.
 use Rattle.std.specs.FinMap as map
 use Rattle.std.specs.Prelude.{◌≡◌, ◌⊎◌, Bool, true, false, not}
-use Rattle.identity.specs.declared.job_ids.Ids.{Ids}
+use Rattle.identity.specs.declared.job_ids.JobId.{JobId}
 use Rattle.identity.specs.Keys.{ids_in}
 use Rattle.tile_fact.specs.declared.fact.Fact.{Fact}
 use Rattle.fact_store.specs.Facts as sets
@@ -15,7 +15,7 @@ pub record State : Type 0 where
 abbrev pub holds : State → Fact → Bool
 holds s f = sets.holds s.facts f
 
-abbrev pub retires : State → Ids → Bool
+abbrev pub retires : State → JobId → Bool
 retires s i = has s.retired i
 
 -- whether the fact's job is among the retired ones
@@ -32,7 +32,7 @@ nothing = record { facts = sets.nothing; retired = no_ids }
 abbrev pub of_fact : Fact → State
 of_fact f = record { facts = sets.with_fact sets.nothing f; retired = no_ids }
 
-abbrev pub of_retirement : Ids → State
+abbrev pub of_retirement : JobId → State
 of_retirement i = record { facts = sets.nothing; retired = with_ids no_ids i }
 
 -- both unions, but for the facts of retired jobs
@@ -46,5 +46,5 @@ IsState s = (f : Fact) → holds s f ≡ true → retires s (ids_in f.key) ≡ f
 
 -- t has all that s has, but for facts of jobs that are retired in t
 pub record IsBelow (s t : State) : Type 0 where
-  pub retired : (i : Ids) → retires s i ≡ true → retires t i ≡ true
+  pub retired : (i : JobId) → retires s i ≡ true → retires t i ≡ true
   pub facts : (f : Fact) → holds s f ≡ true → (holds t f ≡ true) ⊎ (retires t (ids_in f.key) ≡ true)

@@ -5,4 +5,4 @@ mod stream;
 mod whole;
 
 pub use stream::{Metered, Sink, Source};
-pub use whole::{SourceFault, WriteFailed, read_whole, write_whole};
+pub use whole::{SourceFault, WriteFailed, read_all_bytes, write_all_bytes};

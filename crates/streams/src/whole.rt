@@ -28,7 +28,7 @@ pub struct WriteFailed;
 const PIECE: usize = 65536;
 
 /// Reads to the end, if it comes after at most `limit` bytes.
-pub fn read_whole<R: Source>(
+pub fn read_all_bytes<R: Source>(
     alloc: Global,
     reader: &mut R,
     limit: usize,
@@ -59,7 +59,7 @@ pub fn read_whole<R: Source>(
 }
 
 /// Writes all of the bytes, in as many calls as the writer needs.
-pub fn write_whole<W: Sink>(writer: &mut W, bytes: &[u8]) -> Result<(), WriteFailed>
+pub fn write_all_bytes<W: Sink>(writer: &mut W, bytes: &[u8]) -> Result<(), WriteFailed>
     ensures ok { OnOk result (Appends (W.contents writer.old) (W.contents writer.new) bytes.now) }
     ensures part { OnErr result
         (AppendsPart (W.contents writer.old) (W.contents writer.new) bytes.now) }

@@ -8,18 +8,18 @@ ghost use Rattle.tables.specs.Entries.{AreEntries, IsEntries, entry_at, span_fro
 
 use crate::table::{MOST_ENTRIES, MOST_INDEX, Table};
 use domains::Span;
-use sequences::Numbers;
+use sequences::SharedSequence;
 use std::alloc::AllocError;
 use std::marker::Model;
 
 /// The entries of a table, one for each number of a span of indices. Copies share them.
 #[derive(Debug, Drop)]
-pub struct Entries {
+pub struct TableEntries {
     span: Span,
-    values: Numbers<i32>,
+    values: SharedSequence<i32>,
 }
 
-impl Model for Entries {
+impl Model for TableEntries {
     ghost use Rattle.std.specs.Prelude.{length};
     ghost use Rattle.tables.specs.Entries.{Entries as Shown, AreEntries};
 
@@ -30,14 +30,14 @@ impl Model for Entries {
     ghost invariant = { λ e. AreEntries e.span (length e.values) };
 }
 
-impl Entries {
+impl TableEntries {
     /// The entries of a table, which are shared and not copied. None if there are no entries, more than 4,096, or an index
     /// farther than 16,384 from 0.
     ///
     /// # Errors
     ///
     /// Fails only if there are too many copies to count.
-    pub fn of(table: &Table) -> Result<Option<Entries>, AllocError>
+    pub fn from_table(table: &Table) -> Result<Option<TableEntries>, AllocError>
         ensures some { IfOk result (λ found. IfSome found (λ e. e
             ≡ record {
               span =
@@ -52,8 +52,8 @@ impl Entries {
         let Some(span) = table.span() else {
             return Ok(None);
         };
-        fit_numbers(table.values.as_slice());
-        Ok(Some(Entries {
+        prove_entries_fit_int32(table.values.as_slice());
+        Ok(Some(TableEntries {
             span,
             values: table.values.clone()?,
         }))
@@ -71,24 +71,24 @@ impl Entries {
         ensures values { result.now ≡ self.now.values }
         ensures within { IsEntries self.now }
     {
-        fit_numbers(self.values.as_slice());
+        prove_entries_fit_int32(self.values.as_slice());
         self.values.as_slice()
     }
 
     /// The entry at an index, which is clamped to the span.
-    pub fn entry(&self, index: i32) -> i32
+    pub fn look_up_entry(&self, index: i32) -> i32
         ensures { result ≡ entry_at self.now index }
     {
-        self.values.as_slice()[distance(&self.span, cut_into(&self.span, index))]
+        self.values.as_slice()[offset_in_span(&self.span, clamp_to_span(&self.span, index))]
     }
 }
 
 /// A copy shares the entries.
-impl Clone for Entries {
+impl Clone for TableEntries {
     ghost is_clone = { λ it copy. copy ≡ it };
 
     fn clone(&self) -> Result<Self, AllocError> {
-        Ok(Entries {
+        Ok(TableEntries {
             span: self.span,
             values: self.values.clone()?,
         })
@@ -97,7 +97,7 @@ impl Clone for Entries {
 
 // The number of the span that is nearest to v.
 #[inline]
-fn cut_into(span: &Span, v: i32) -> i32
+fn clamp_to_span(span: &Span, v: i32) -> i32
     ensures holds { Holds span.now result }
     ensures value { result ≡ clamped v span.now.lo span.now.hi }
 {
@@ -106,7 +106,7 @@ fn cut_into(span: &Span, v: i32) -> i32
 
 // How far a number of a span lies after the first.
 #[inline]
-fn distance(span: &Span, v: i32) -> usize
+fn offset_in_span(span: &Span, v: i32) -> usize
     requires { Holds span.now v }
     ensures number { result ≡ int_gap span.now.lo v }
     ensures below { result < len_of span.now }
@@ -115,7 +115,7 @@ fn distance(span: &Span, v: i32) -> usize
 }
 
 // All numbers fit in 32 bits.
-fn fit_numbers(numbers: &[i32])
+fn prove_entries_fit_int32(numbers: &[i32])
     ensures { All (FitsSigned w32) numbers.now }
 {
     for number in numbers {

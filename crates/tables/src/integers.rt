@@ -9,7 +9,7 @@ use crate::fault::TableFault;
 use std::alloc::{AllocError, Global};
 
 /// The number that the word spells in digits, with or without a `-` before them, within 64 bits.
-pub fn integer(word: &[u8]) -> Option<i64>
+pub fn parse_table_integer(word: &[u8]) -> Option<i64>
     ensures some { IfSome result (SpellsInteger word.now) }
     ensures none { IfNone result ((z : ℤ) → ¬ SpellsInteger word.now z) }
 {
@@ -21,14 +21,14 @@ pub fn integer(word: &[u8]) -> Option<i64>
 }
 
 // The number clamped to the least and the greatest of 32 bits.
-fn cut_to_32(number: i64) -> i32
+fn clamp_entry_to_int32(number: i64) -> i32
     ensures { result ≡ cut_to_32 number }
 {
     number.max(i64::from(i32::MIN)).min(i64::from(i32::MAX)) as i32
 }
 
 /// The numbers that the words spell, each clamped to 32 bits.
-pub fn entries_of(alloc: Global, words: &[&[u8]]) -> Result<Vec<i32>, TableFault>
+pub fn parse_table_entries(alloc: Global, words: &[&[u8]]) -> Result<Vec<i32>, TableFault>
     ensures some { IfOk result (λ entries. (zs : List ℤ) × SpellIntegers (map (λ w. w.now) words.now) zs
         × (entries.items ≡ map cut_to_32 zs)) }
     ensures none { IfErr result (λ fault. fault ≡ BadLine
@@ -36,10 +36,12 @@ pub fn entries_of(alloc: Global, words: &[&[u8]]) -> Result<Vec<i32>, TableFault
 {
     let mut entries = Vec::with_capacity(alloc, words.len())?;
     for word in words {
-        let Some(number) = integer(word) else {
+        let Some(number) = parse_table_integer(word) else {
             return Err(TableFault::BadLine);
         };
-        entries.push(cut_to_32(number)).map_err(AllocError::from)?;
+        entries
+            .push(clamp_entry_to_int32(number))
+            .map_err(AllocError::from)?;
     }
     Ok(entries)
 }

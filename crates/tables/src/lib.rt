@@ -9,7 +9,7 @@ mod line;
 mod table;
 mod words;
 
-pub use entries::Entries;
+pub use entries::TableEntries;
 pub use fault::TableFault;
 pub use table::{MOST_ENTRIES, MOST_INDEX, Table};
 

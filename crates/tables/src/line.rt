@@ -8,85 +8,94 @@ ghost use Rattle.tables.specs.declared.fault.TableFault.TheVariants.{BadLine};
 ghost use Rattle.tables.specs.declared.table.Table.{Table as TableType};
 
 use crate::fault::TableFault;
-use crate::integers::{entries_of, integer};
+use crate::integers::{parse_table_entries, parse_table_integer};
 use crate::table::{MOST_ENTRIES, MOST_INDEX, Table};
-use crate::words::{at_colons, at_dots};
+use crate::words::{split_span_at_colons, split_span_at_dots};
 use domains::Span;
 use pipe_tokens::{Keyword, Name};
-use sequences::Numbers;
+use sequences::SharedSequence;
 use std::alloc::Global;
 
 /// The table that the words of a line describe.
-pub fn table_in(alloc: Global, words: &[&[u8]]) -> Result<Table, TableFault>
+pub fn parse_table_words(alloc: Global, words: &[&[u8]]) -> Result<Table, TableFault>
     ensures found { IfOk result (TellTable (map (λ w. w.now) words.now)) }
     ensures fault { IfErr result (λ fault. fault ≡ BadLine
         → (table : TableType) → ¬ TellTable (map (λ w. w.now) words.now) table) }
 {
     match words {
-        [name, ends, entries @ ..] => table_of(alloc, name, ends, entries),
+        [name, ends, entries @ ..] => parse_table_fields(alloc, name, ends, entries),
         _ => Err(TableFault::BadLine),
     }
 }
 
 // The table of this name, these ends and these entries.
-fn table_of(alloc: Global, name: &[u8], ends: &[u8], entries: &[&[u8]]) -> Result<Table, TableFault>
+fn parse_table_fields(
+    alloc: Global,
+    name: &[u8],
+    ends: &[u8],
+    entries: &[&[u8]],
+) -> Result<Table, TableFault>
     ensures found { IfOk result (TellsTable name.now ends.now (map (λ w. w.now) entries.now)) }
     ensures fault { IfErr result (λ fault. fault ≡ BadLine
         → (table : TableType) → ¬ TellsTable name.now ends.now (map (λ w. w.now) entries.now) table) }
 {
-    let Some(name) = table_name(name) else {
+    let Some(name) = parse_table_name(name) else {
         return Err(TableFault::BadLine);
     };
-    let span = span_of(alloc, ends)?;
+    let span = parse_table_span(alloc, ends)?;
     if entries.len() > MOST_ENTRIES || entries.len() != span.len() as usize {
         return Err(TableFault::BadLine);
     }
-    let values = entries_of(alloc, entries)?;
+    let values = parse_table_entries(alloc, entries)?;
     Ok(Table {
         name,
         lo: span.lo(),
-        values: Numbers::new(values)?,
+        values: SharedSequence::new(values)?,
     })
 }
 
 // The name that a word is, unless it is reserved.
-fn table_name(word: &[u8]) -> Option<Name>
+fn parse_table_name(word: &[u8]) -> Option<Name>
     ensures some { IfSome result (λ name. name ≡ word.now) }
     ensures named { IfSome result (λ _. IsTableName word.now) }
     ensures none { IfNone result (¬ (IsTableName word.now)) }
 {
-    match Keyword::of(word) {
+    match Keyword::from_bytes(word) {
         Some(_) => None,
-        None => Name::of(word),
+        None => Name::from_bytes(word),
     }
 }
 
 // The indices that `LO..HI:` spells.
-fn span_of(alloc: Global, word: &[u8]) -> Result<Span, TableFault>
+fn parse_table_span(alloc: Global, word: &[u8]) -> Result<Span, TableFault>
     ensures found { IfOk result (SpellSpan (parts 58 word.now)) }
     ensures within { IfOk result AreIndices }
     ensures fault { IfErr result (λ fault. fault ≡ BadLine → (span : Ends)
         → ¬ SpellSpan (parts 58 word.now) span) }
 {
-    let halves = at_colons(alloc, word)?;
-    span_in(alloc, &halves)
+    let halves = split_span_at_colons(alloc, word)?;
+    parse_table_span_halves(alloc, &halves)
 }
 
 // The same, from the parts between colons.
-fn span_in(alloc: Global, halves: &[&[u8]]) -> Result<Span, TableFault>
+fn parse_table_span_halves(alloc: Global, halves: &[&[u8]]) -> Result<Span, TableFault>
     ensures found { IfOk result (SpellSpan (map (λ h. h.now) halves.now)) }
     ensures within { IfOk result AreIndices }
     ensures fault { IfErr result (λ fault. fault ≡ BadLine → (span : Ends)
         → ¬ SpellSpan (map (λ h. h.now) halves.now) span) }
 {
     match halves {
-        [ends, behind] => span_before(alloc, ends, behind),
+        [ends, behind] => parse_table_span_before_colon(alloc, ends, behind),
         _ => Err(TableFault::BadLine),
     }
 }
 
 // The same, from what is before the colon and after it.
-fn span_before(alloc: Global, ends: &[u8], behind: &[u8]) -> Result<Span, TableFault>
+fn parse_table_span_before_colon(
+    alloc: Global,
+    ends: &[u8],
+    behind: &[u8],
+) -> Result<Span, TableFault>
     ensures found { IfOk result (SpellSpan (ends.now ∷ behind.now ∷ [])) }
     ensures within { IfOk result AreIndices }
     ensures fault { IfErr result (λ fault. fault ≡ BadLine → (span : Ends)
@@ -95,28 +104,28 @@ fn span_before(alloc: Global, ends: &[u8], behind: &[u8]) -> Result<Span, TableF
     if !behind.is_empty() {
         return Err(TableFault::BadLine);
     }
-    let ends = at_dots(alloc, ends)?;
-    match ends_in(&ends) {
+    let ends = split_span_at_dots(alloc, ends)?;
+    match parse_table_span_ends(&ends) {
         Some(span) => Ok(span),
         None => Err(TableFault::BadLine),
     }
 }
 
 // The indices whose ends are spelled by the parts of `LO..HI` between dots.
-fn ends_in(ends: &[&[u8]]) -> Option<Span>
+fn parse_table_span_ends(ends: &[&[u8]]) -> Option<Span>
     ensures some { IfSome result (SpellEnds (map (λ e. e.now) ends.now)) }
     ensures within { IfSome result AreIndices }
     ensures none { IfNone result ((span : Ends)
         → ¬ SpellEnds (map (λ e. e.now) ends.now) span) }
 {
     match ends {
-        [first, between, last] => ends_round(first, between, last),
+        [first, between, last] => parse_table_ends_around_dots(first, between, last),
         _ => None,
     }
 }
 
 // The same, from what is before two dots, between them, and after them.
-fn ends_round(first: &[u8], between: &[u8], last: &[u8]) -> Option<Span>
+fn parse_table_ends_around_dots(first: &[u8], between: &[u8], last: &[u8]) -> Option<Span>
     ensures some { IfSome result (SpellEnds (first.now ∷ between.now ∷ last.now ∷ [])) }
     ensures within { IfSome result AreIndices }
     ensures none { IfNone result ((span : Ends)
@@ -125,11 +134,11 @@ fn ends_round(first: &[u8], between: &[u8], last: &[u8]) -> Option<Span>
     if !between.is_empty() {
         return None;
     }
-    index_span(integer(first)?, integer(last)?)
+    check_table_span(parse_table_integer(first)?, parse_table_integer(last)?)
 }
 
 // The indices from the first to the last.
-fn index_span(lo: i64, hi: i64) -> Option<Span>
+fn check_table_span(lo: i64, hi: i64) -> Option<Span>
     ensures some { IfSome result (λ span. span ≡ record { lo = lo; hi = hi }) }
     ensures within { IfSome result AreIndices }
     ensures none { IfNone result (¬ (AreIndices (record { lo = lo; hi = hi }))) }

@@ -6,11 +6,11 @@ ghost use Rattle.tables.specs.Lines.{IsTableLine};
 ghost use Rattle.tables.specs.declared.fault.TableFault.TheVariants.{BadLine};
 
 use crate::fault::TableFault;
-use crate::line::table_in;
-use crate::words::words_of;
+use crate::line::parse_table_words;
+use crate::words::split_table_line;
 use domains::Span;
 use pipe_tokens::Name;
-use sequences::Numbers;
+use sequences::SharedSequence;
 use std::alloc::Global;
 
 /// The most entries that a table has.
@@ -24,7 +24,7 @@ pub const MOST_INDEX: i32 = 16_384;
 pub struct Table {
     pub name: Name,
     pub lo: i32,
-    pub values: Numbers<i32>,
+    pub values: SharedSequence<i32>,
 }
 
 impl Table {
@@ -39,8 +39,8 @@ impl Table {
         ensures fault { IfErr result (λ fault. fault ≡ BadLine
             → (table : TableType) → ¬ IsTableLine line.now table) }
     {
-        let words = words_of(alloc, line)?;
-        table_in(alloc, &words)
+        let words = split_table_line(alloc, line)?;
+        parse_table_words(alloc, &words)
     }
 
     /// The indices. None if there are no entries, more than 4,096, or an index farther than 16,384 from 0.

@@ -1,7 +1,7 @@
 //! What a node answers from the partials that it holds, and what it lacks before.
 
-use crate::checks::{holds, tells};
-use crate::jobs::{ONE_TO_NINE, REMAINDERS, job_of};
+use crate::checks::{assert_condition, assert_debug_text};
+use crate::jobs::{ONE_TO_NINE, REMAINDERS, bind_example_job};
 use job::Job;
 use node_state::NodeState;
 use std::alloc::Global;
@@ -17,21 +17,27 @@ const PARTIALS: [(u32, u32, [i64; 4]); 4] = [
 ];
 
 // The fact of a partial of the job.
-fn partial(alloc: Global, job: &Job, row: u32, col: u32, bins: &[i64]) -> Result<Fact, Fail> {
+fn make_example_partial_fact(
+    alloc: Global,
+    job: &Job,
+    row: u32,
+    col: u32,
+    bins: &[i64],
+) -> Result<Fact, Fail> {
     let key = job.key(1, row, col).ok_or("no key")?;
     let body = Body::Partial(Bins::new(bins.to_vec(alloc)?)?);
     Ok(Fact::new(key, body).ok().ok_or("no fact")?)
 }
 
-fn is_answered(alloc: Global, job: &Job) -> Result<(), Fail> {
+fn assert_answer_of_partials(alloc: Global, job: &Job) -> Result<(), Fail> {
     let mut state: NodeState = NodeState::new(alloc);
-    holds(Some(state.missing(job)?.len() == 4), "all are missing")?;
+    assert_condition(Some(state.missing(job)?.len() == 4), "all are missing")?;
     for (row, col, bins) in PARTIALS {
-        let fact = partial(alloc, job, row, col, &bins)?;
-        holds(Some(state.take(fact).is_ok()), "memory for a fact")?;
+        let fact = make_example_partial_fact(alloc, job, row, col, &bins)?;
+        assert_condition(Some(state.take(fact).is_ok()), "memory for a fact")?;
     }
     let answer = state.answer(job).ok().ok_or("no answer")?;
-    tells(
+    assert_debug_text(
         alloc,
         &answer,
         "Answer { picture: None, totals: [Total { stage: 1, lo: 0, bins: [2, 3, 2, 2] }] }",
@@ -40,6 +46,6 @@ fn is_answered(alloc: Global, job: &Job) -> Result<(), Fail> {
 
 #[test]
 fn totals_of_partials(rt: HostRuntime) -> Result<(), Fail> {
-    let job = job_of(rt.alloc(), REMAINDERS, ONE_TO_NINE, (2, 2))?;
-    is_answered(rt.alloc(), &job)
+    let job = bind_example_job(rt.alloc(), REMAINDERS, ONE_TO_NINE, (2, 2))?;
+    assert_answer_of_partials(rt.alloc(), &job)
 }

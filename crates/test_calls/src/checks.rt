@@ -6,7 +6,7 @@ use std::fmt::Debug;
 use std::test::Fail;
 
 /// Fails if the text is not the expected one.
-pub fn says(told: &str, wanted: &str) -> Result<(), Fail> {
+pub fn assert_text(told: &str, wanted: &str) -> Result<(), Fail> {
     if told == wanted {
         return Ok(());
     }
@@ -14,12 +14,12 @@ pub fn says(told: &str, wanted: &str) -> Result<(), Fail> {
 }
 
 /// Fails if the `Debug` form of a value is not the expected text.
-pub fn tells<T: Debug>(alloc: Global, value: &T, wanted: &str) -> Result<(), Fail> {
-    says(&format!(in alloc; "{value:?}")?, wanted)
+pub fn assert_debug_text<T: Debug>(alloc: Global, value: &T, wanted: &str) -> Result<(), Fail> {
+    assert_text(&format!(in alloc; "{value:?}")?, wanted)
 }
 
 /// Fails if this does not hold, or if no result was found of which it could hold.
-pub fn holds(found: Option<bool>, what: &str) -> Result<(), Fail> {
+pub fn assert_condition(found: Option<bool>, what: &str) -> Result<(), Fail> {
     if found == Some(true) {
         return Ok(());
     }

@@ -5,7 +5,7 @@ ghost use Rattle.grouping.specs.Inlining.{IsScheduleOf};
 ghost use Rattle.job.specs.Kept.{pipeline_in};
 ghost use Rattle.job.specs.WellFormed.{IsJob};
 
-use catalog::{Catalog, ids_of};
+use catalog::{Catalog, compute_job_ids};
 use domains::TileSides;
 use grouping::Schedule;
 use identity::Key;
@@ -16,7 +16,6 @@ use pipe_checks::{Checked, check};
 use pipe_lang::parse;
 use std::alloc::Global;
 use std::test::Fail;
-use tile_fact::{Body, Fact, Samples};
 
 /// A program that copies a grey picture.
 pub const COPY: &str =
@@ -39,14 +38,14 @@ pub const ONE_TO_NINE: &[u8] = b"P2 3 3 255 1 2 3 4 5 6 7 8 9";
 pub const ONES: &[u8] =
     b"P2 6 6 1 1 1 1 1 1 1 1 1 1 1 1 1 1 1 1 1 1 1 1 1 1 1 1 1 1 1 1 1 1 1 1 1 1 1 1 1";
 
-fn checked_of(alloc: Global, text: &str) -> Result<Checked, Fail> {
+fn parse_and_check_example(alloc: Global, text: &str) -> Result<Checked, Fail> {
     match check(alloc, parse(alloc, text.as_bytes())?) {
         Ok(checked) => Ok(checked),
         Err((_, fault)) => Err(Fail::new(fault)),
     }
 }
 
-fn bound(
+fn bind_example_program(
     alloc: Global,
     checked: Checked,
     params: &Params,
@@ -62,18 +61,23 @@ fn bound(
 }
 
 /// The job of a text, a file of a picture and the sides of tiles.
-pub fn job_of(alloc: Global, text: &str, file: &[u8], sides: (u32, u32)) -> Result<Job, Fail>
+pub fn bind_example_job(
+    alloc: Global,
+    text: &str,
+    file: &[u8],
+    sides: (u32, u32),
+) -> Result<Job, Fail>
     ensures { IfOk result (λ job. IsJob (pipeline_in job)) }
 {
     let sides = TileSides::new(sides.0, sides.1).ok_or("no sides")?;
     let picture = read(alloc, file)?;
-    let checked = checked_of(alloc, text)?;
+    let checked = parse_and_check_example(alloc, text)?;
     let params = Params::of(alloc, &checked)?;
-    bound(alloc, checked, &params, picture, sides)
+    bind_example_program(alloc, checked, &params, picture, sides)
 }
 
 /// Fails where a job has more stages than the tests' programs have.
-pub fn has_few_stages(job: &Job) -> Result<(), Fail>
+pub fn assert_few_stages(job: &Job) -> Result<(), Fail>
     ensures { IfOk result (λ _. length (pipeline_in job.now).stages ≤ 64) }
 {
     if job.stages().len() > 64 {
@@ -83,14 +87,14 @@ pub fn has_few_stages(job: &Job) -> Result<(), Fail>
 }
 
 /// The schedule that stores each function.
-pub fn stored(alloc: Global, job: &Job) -> Result<Schedule, Fail>
+pub fn make_example_stored_schedule(alloc: Global, job: &Job) -> Result<Schedule, Fail>
     ensures { IfOk result (IsScheduleOf (pipeline_in job.now)) }
 {
     Ok(Schedule::stored(alloc, job)?)
 }
 
 /// The catalog of one job.
-pub fn catalog_of(alloc: Global, job: Job) -> Result<Catalog, Fail> {
+pub fn make_example_catalog(alloc: Global, job: Job) -> Result<Catalog, Fail> {
     let mut jobs = Catalog::new(alloc);
     match jobs.admit(job) {
         Ok(_) => Ok(jobs),
@@ -99,8 +103,14 @@ pub fn catalog_of(alloc: Global, job: Job) -> Result<Catalog, Fail> {
 }
 
 /// The key of a tile of the job at this index.
-pub fn key_at(jobs: &Catalog, index: usize, stage: u16, row: u32, col: u32) -> Option<Key> {
-    let ids = ids_of(jobs.job(index)?);
+pub fn find_example_tile_key(
+    jobs: &Catalog,
+    index: usize,
+    stage: u16,
+    row: u32,
+    col: u32,
+) -> Option<Key> {
+    let ids = compute_job_ids(jobs.job(index)?);
     Some(Key {
         program: ids.program,
         input: ids.input,
@@ -108,12 +118,4 @@ pub fn key_at(jobs: &Catalog, index: usize, stage: u16, row: u32, col: u32) -> O
         row,
         col,
     })
-}
-
-/// The fact that the tile of this key has these numbers.
-pub fn tile(alloc: Global, key: Key, numbers: &[i32]) -> Result<Fact, Fail> {
-    match Fact::new(key, Body::Tile(Samples::new(numbers.to_vec(alloc)?)?)) {
-        Ok(fact) => Ok(fact),
-        Err(_) => Err(Fail::new("no fact")),
-    }
 }

@@ -13,8 +13,6 @@ mod jobs;
 #[cfg(test)]
 mod makes;
 #[cfg(test)]
-mod node_states;
-#[cfg(test)]
 mod totals;
 #[cfg(test)]
 mod worlds_run;

@@ -11,12 +11,12 @@ use Rattle.domains.specs.Area.{point_count}
 use Rattle.domains.specs.declared.area.Area.{Area}
 use Rattle.job.specs.Pipeline.{Stage}
 use Rattle.job.specs.Reads.{Read, stage_read, reads_of}
-use Rattle.tile_boxes.specs.Schedules.{is_inlined, is_function}
-use Rattle.tile_boxes.specs.Order.{greatest_rank, in_order, backward}
+use Rattle.tile_boxes.specs.Schedules.{is_inlined, is_function_stage}
+use Rattle.tile_boxes.specs.Order.{greatest_rank, order_stages_by_rank, backward}
 use Rattle.tile_boxes.specs.Demands.{hull_of_all, areas_of}
 use Rattle.tile_boxes.specs.Targets.{Target, region_by, stage_demands, demands_by, cut_to, box_within, box}
 use Rattle.tile_boxes.specs.Costs.{scratch}
-use Rattle.tile_boxes.specs.Tallies.{inner_points, reads_stored}
+use Rattle.tile_boxes.specs.Tallies.{count_inlined_points, has_only_stored_reads}
 use Rattle.tile_boxes.proofs.DemandsFall.{OfReads, none_of, of_stage}
 use Rattle.tile_boxes.proofs.BoxesFollowTheRule.{areas_of-append}
 use Rattle.tile_boxes.proofs.CostsAddUp.{scratch_is, sum_cons}
@@ -75,8 +75,8 @@ no_box : (t : Target) (g : ℕ) → IsAlone t → is_inlined t.inlining g ≡ tr
 unfolding box
 no_box t g alone inlined other = no_box_within t alone (suc (greatest_rank t.job.stages)) g inlined other
 
-no_points : (t : Target) → IsAlone t → (g : ℕ) → inner_points t g ≡ 0
-no_points t alone g = by (is_inlined t.inlining g) refl (is_function t.job g) (nat_eq g t.stage) refl
+no_points : (t : Target) → IsAlone t → (g : ℕ) → count_inlined_points t g ≡ 0
+no_points t alone g = by (is_inlined t.inlining g) refl (is_function_stage t.job g) (nat_eq g t.stage) refl
   where
     by : (a : Bool) → is_inlined t.inlining g ≡ a → (b c : Bool) → nat_eq g t.stage ≡ c
         → ◌≡◌ {A = ℕ} (if a && (b && not c) then option_map_or point_count (box t g) 0 else 0) 0
@@ -85,15 +85,15 @@ no_points t alone g = by (is_inlined t.inlining g) refl (is_function t.job g) (n
     by true e true true f = refl
     by true e true false f = ap (λ o. option_map_or point_count o 0) (no_box t g alone e f)
 
-no_sum : (t : Target) → IsAlone t → (gs : List ℕ) → sum (map (inner_points t) gs) ≡ 0
+no_sum : (t : Target) → IsAlone t → (gs : List ℕ) → sum (map (count_inlined_points t) gs) ≡ 0
 no_sum t alone [] = refl
-no_sum t alone (g ∷ gs) = sum_cons (inner_points t) g gs ∙ (λ i. no_points t alone g i + no_sum t alone gs i)
+no_sum t alone (g ∷ gs) = sum_cons (count_inlined_points t) g gs ∙ (λ i. no_points t alone g i + no_sum t alone gs i)
 
-pub alone_takes_none : (t : Target) (s : Stage) → slice_get t.job.stages t.stage ≡ Some s → reads_stored t.inlining (reads_of s.body) ≡ true
+pub alone_takes_none : (t : Target) (s : Stage) → slice_get t.job.stages t.stage ≡ Some s → has_only_stored_reads t.inlining (reads_of s.body) ≡ true
     → scratch t ≡ 0
 alone_takes_none t s there stored =
     let passed = AllPass-from_list_all (λ (x : Read). not (is_inlined t.inlining (stage_read x))) (reads_of s.body) stored in
     let reads : OfReads (λ h. is_inlined t.inlining h ≡ false) (reads_of s.body) = λ k d below. not-true _ (passed k d below) in
     let alone : IsAlone t = λ other is. subst (λ (x : Stage). OfReads (λ h. is_inlined t.inlining h ≡ false) (reads_of x.body))
     (let same : s ≡ other = cc in same) reads in
-    sym (scratch_is t) ∙ no_sum t alone (in_order t.job.stages)
+    sym (scratch_is t) ∙ no_sum t alone (order_stages_by_rank t.job.stages)

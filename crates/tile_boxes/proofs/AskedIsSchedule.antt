@@ -6,7 +6,7 @@ use Rattle.std.proofs.Math.ListN as lists
 use Rattle.std.proofs.lemmas.List.{length-map, get_or_past}
 use Rattle.std.proofs.lemmas.List.FromFn.{get_or-map-range_with_len, length-map-range_with_len}
 use Rattle.job.specs.Pipeline.{Stage, Pipeline}
-use Rattle.tile_boxes.specs.Schedules.{is_inlined, is_function, IsSchedule, inlining_for, all_stored}
+use Rattle.tile_boxes.specs.Schedules.{is_inlined, is_function_stage, IsSchedule, inlining_for, all_stored}
 use Rattle.std.proofs.lemmas.List.Elements.{All-map}
 use Rattle.domains.specs.Tiles.{tile_area, tiles_of}
 use Rattle.job.specs.Answers.{grid_of, is_output}
@@ -30,22 +30,22 @@ stored_is job =
 
 -- what is inlined where these are asked for
 pub asked_at : (job : Pipeline) (asked : List Bool) (g : ℕ) → g < length job.stages
-    → is_inlined (inlining_for job asked) g ≡ (is_inlined asked g && is_function job g)
+    → is_inlined (inlining_for job asked) g ≡ (is_inlined asked g && is_function_stage job g)
 asked_at job asked g below =
-    get_or-map-range_with_len (λ k. is_inlined asked k && is_function job k) 0 (length job.stages) g g false below
+    get_or-map-range_with_len (λ k. is_inlined asked k && is_function_stage job k) 0 (length job.stages) g g false below
     (let e : 0 + g ≡ g = omega arith in e)
 
 pub asked_past : (job : Pipeline) (asked : List Bool) (g : ℕ) → length job.stages ≤ g → is_inlined (inlining_for job asked) g ≡ false
 asked_past job asked g past =
     get_or_past (inlining_for job asked) g false (subst (λ (n : ℕ). n ≤ g)
-    (sym (length-map-range_with_len (λ k. is_inlined asked k && is_function job k) 0 (length job.stages))) past)
+    (sym (length-map-range_with_len (λ k. is_inlined asked k && is_function_stage job k) 0 (length job.stages))) past)
 
 -- only functions are inlined
-functions_alone : (job : Pipeline) (asked : List Bool) (g : ℕ) → is_inlined (inlining_for job asked) g ≡ true → is_function job g ≡ true
+functions_alone : (job : Pipeline) (asked : List Bool) (g : ℕ) → is_inlined (inlining_for job asked) g ≡ true → is_function_stage job g ≡ true
 functions_alone job asked g inlined = by (cases_lt g (length job.stages))
   where
-    by : (g < length job.stages) ⊎ (length job.stages ≤ g) → is_function job g ≡ true
-    by (inl below) = (and_parts (is_inlined asked g) (is_function job g) (sym (asked_at job asked g below) ∙ inlined)).1
+    by : (g < length job.stages) ⊎ (length job.stages ≤ g) → is_function_stage job g ≡ true
+    by (inl below) = (and_parts (is_inlined asked g) (is_function_stage job g) (sym (asked_at job asked g below) ∙ inlined)).1
     by (inr past) = absurd (false≢true (sym (asked_past job asked g past) ∙ inlined))
 
 -- ---- outputs that are asked for
@@ -56,10 +56,10 @@ module _ (job : Pipeline) (asked : List Bool) where
   NoneBelow n = (k : ℕ) → k < n → is_inlined (inlining_for job asked) k ≡ true → is_output job k ≡ false
 
   pub none_more : (n : ℕ) → n < length job.stages → NoneBelow n
-      → ((is_inlined asked n && is_function job n) ≡ true → is_output job n ≡ false) → NoneBelow (n + 1)
+      → ((is_inlined asked n && is_function_stage job n) ≡ true → is_output job n ≡ false) → NoneBelow (n + 1)
   none_more n below none here = below_more _ _ none (λ inlined. here (sym (asked_at job asked n below) ∙ inlined))
 
-  pub first_is : (n : ℕ) → n < length job.stages → NoneBelow n → (is_inlined asked n && is_function job n) ≡ true
+  pub first_is : (n : ℕ) → n < length job.stages → NoneBelow n → (is_inlined asked n && is_function_stage job n) ≡ true
       → is_output job n ≡ true → IsInlinedOutput job (inlining_for job asked) n
   first_is n below none inlined output =
       record { inlined = asked_at job asked n below ∙ inlined; output = output; least = none }
@@ -73,7 +73,7 @@ module _ (job : Pipeline) (asked : List Bool) where
 pub asked_is : (job : Pipeline) (asked : List Bool) → StoresOutputs job (inlining_for job asked) → IsSchedule job (inlining_for job asked)
 asked_is job asked inner =
     record {
-      each = length-map-range_with_len (λ k. is_inlined asked k && is_function job k) 0 (length job.stages);
+      each = length-map-range_with_len (λ k. is_inlined asked k && is_function_stage job k) 0 (length job.stages);
       functions = functions_alone job asked;
       inner = inner;
     }

@@ -20,7 +20,7 @@ use Rattle.job.specs.WellFormed.{IsFormula, IsReadable, IsStage, IsJob}
 use Rattle.job.proofs.Agreeing.{All-left, All-right}
 use Rattle.job.proofs.Steps.{All-from_map, All-both}
 use Rattle.job.proofs.Solving.{ranked_is}
-use Rattle.tile_boxes.specs.Order.{greatest_rank, with_rank, in_order, backward}
+use Rattle.tile_boxes.specs.Order.{greatest_rank, with_rank, order_stages_by_rank, backward}
 use Rattle.tile_boxes.specs.Schedules.{is_inlined}
 use Rattle.tile_boxes.specs.Demands.{Demand, meet_of_box, read_demand, hull_of_all, formula_demands, demands_if, case_demands}
 use Rattle.tile_boxes.specs.Demands.{other_demands, body_demands, areas_of}
@@ -44,7 +44,7 @@ below_start k n h = omega arith
 not_below : (k : ℕ) → 0 ≤ k
 not_below k = omega arith
 
-pub ordered : (stages : List Stage) (g : ℕ) → g < length stages → Contains (in_order stages) g
+pub ordered : (stages : List Stage) (g : ℕ) → g < length stages → Contains (order_stages_by_rank stages) g
 ordered stages g there =
     Contains-flat_map (with_rank stages) (range_with_len 0 (greatest_rank stages + 1)) (rank_of stages g) g
     (Contains-range 0 (greatest_rank stages + 1) (rank_of stages g) (not_below (rank_of stages g))
@@ -86,7 +86,7 @@ all_covered : (t : Target) (g : ℕ) → IsRanked t.job.stages → g < length t.
 all_covered t g ranked there =
     All-weaker (Contains (demands_by t (box t) g)) (IsCovered t)
     (λ d inside. covered t d ranked (Contains-flat_map (demands_by t (box t)) (backward t.job.stages) g d
-    (Contains-reverse (in_order t.job.stages) g (ordered t.job.stages g there)) inside))
+    (Contains-reverse (order_stages_by_rank t.job.stages) g (ordered t.job.stages g there)) inside))
     (demands_by t (box t) g) (All-contains_itself (demands_by t (box t) g))
 
 -- ---- so does what is read

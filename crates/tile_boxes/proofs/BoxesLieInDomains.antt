@@ -10,11 +10,11 @@ use Rattle.domains.specs.declared.area.Area.{Area}
 use Rattle.job.specs.Pipeline.{Stage, Pipeline}
 use Rattle.job.specs.WellFormed.{IsStage, IsJob}
 use Rattle.job.proofs.Solving.{ranked_is}
-use Rattle.tile_boxes.specs.Order.{in_order}
-use Rattle.tile_boxes.specs.Schedules.{is_inlined, is_function_body, is_function, all_stored}
+use Rattle.tile_boxes.specs.Order.{order_stages_by_rank}
+use Rattle.tile_boxes.specs.Schedules.{is_inlined, is_function_body, is_function_stage, all_stored}
 use Rattle.tile_boxes.specs.Demands.{hull_of_all, areas_of}
 use Rattle.tile_boxes.specs.Targets.{Target, IsTarget, IsListed, all_demands_by}
-use Rattle.tile_boxes.specs.Targets.{cut_to, box, region, with_number, is_boxed, numbered_box, boxes}
+use Rattle.tile_boxes.specs.Targets.{cut_to, box, region, with_number, can_have_box, numbered_box, boxes}
 use Rattle.tile_boxes.specs.Costs.{scratch, points}
 use Rattle.tile_boxes.specs.Walks.{InDomainRanges}
 use Rattle.tile_boxes.proofs.AreasMeet.{near_meet}
@@ -65,7 +65,7 @@ All-flat_map P f [] each = All-nil P
 All-flat_map P f (x ∷ xs) each = All-append P (f x) (flat_map f xs) (each x) (All-flat_map P f xs each)
 
 -- a function is a stage
-pub there_is : (job : Pipeline) (g : ℕ) → is_function job g ≡ true → (s : Stage) × (slice_get job.stages g ≡ Some s)
+pub there_is : (job : Pipeline) (g : ℕ) → is_function_stage job g ≡ true → (s : Stage) × (slice_get job.stages g ≡ Some s)
 there_is job g e = by (slice_get job.stages g) refl e
   where
     by : (o : Option Stage) → slice_get job.stages g ≡ o → option_map_or (λ s. is_function_body s.body) o false ≡ true
@@ -74,9 +74,9 @@ there_is job g e = by (slice_get job.stages g) refl e
     by (Some s) is k = (s, is)
 
 listed_one : (t : Target) (g : ℕ) → IsJob t.job → All (IsListed t) (numbered_box t g)
-listed_one t g job = by (is_boxed t g) refl
+listed_one t g job = by (can_have_box t g) refl
   where
-    with_box : (o : Option Area) → is_function t.job g ≡ true → box t g ≡ o → All (IsListed t) (with_number g o)
+    with_box : (o : Option Area) → is_function_stage t.job g ≡ true → box t g ≡ o → All (IsListed t) (with_number g o)
     with_box None e is = All-nil (IsListed t)
     with_box (Some a) e is =
         let owner = there_is t.job g e in
@@ -84,12 +84,12 @@ listed_one t g job = by (is_boxed t g) refl
         All-cons (IsListed t) (g, a) []
         (record { owner = owner.0; there = owner.1; function = e; is = is; area = inside.0; inside = inside.1 }) (All-nil (IsListed t))
 
-    by : (b : Bool) → is_boxed t g ≡ b → All (IsListed t) (if b then with_number g (box t g) else [])
-    by true e = with_box (box t g) (and_parts (is_function t.job g) (not (nat_eq g t.stage)) e).0 refl
+    by : (b : Bool) → can_have_box t g ≡ b → All (IsListed t) (if b then with_number g (box t g) else [])
+    by true e = with_box (box t g) (and_parts (is_function_stage t.job g) (not (nat_eq g t.stage)) e).0 refl
     by false e = All-nil (IsListed t)
 
 pub all_listed : (t : Target) → IsJob t.job → All (IsListed t) (boxes t)
-all_listed t job = All-flat_map (IsListed t) (numbered_box t) (in_order t.job.stages) (λ g. listed_one t g job)
+all_listed t job = All-flat_map (IsListed t) (numbered_box t) (order_stages_by_rank t.job.stages) (λ g. listed_one t g job)
 
 -- ---- where nothing is inlined
 

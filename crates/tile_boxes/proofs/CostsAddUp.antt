@@ -12,8 +12,8 @@ use Rattle.std.proofs.lemmas.List.FromFn.{length-range_with_len, get_or-range_wi
 use Rattle.tile_boxes.specs.Costs.{most_scratch, FitsScratch, has_scratch, stage_fits, tile_targets, cost_of, stage_cost, cost}
 use Rattle.tile_boxes.specs.Costs.{points_in, inner_steps, scratch, points}
 use Rattle.tile_boxes.specs.Costs.{AllFitScratch}
-use Rattle.tile_boxes.specs.Tallies.{all_have_scratch, all_stages_fit, over_domain, areas_of_tiles, row_areas, over}
-use Rattle.tile_boxes.specs.Tallies.{inner_points, points_over, columns_of, area_of}
+use Rattle.tile_boxes.specs.Tallies.{all_have_scratch, all_stages_fit, over_domain, list_tile_areas, row_areas, over}
+use Rattle.tile_boxes.specs.Tallies.{count_inlined_points, points_over, list_tile_columns, area_of}
 use Rattle.tile_boxes.proofs.Lists.{range_more, flat_map_range_more}
 use Rattle.tile_boxes.proofs.TilesAreTargets.{gridded, tile_of_stage_is_target}
 use Rattle.std.proofs.lemmas.List.{map-append}
@@ -25,14 +25,14 @@ use Rattle.domains.proofs.PairLists.{All-pairs, Contains-from_range}
 use Rattle.job.specs.WellFormed.{IsJob}
 use Rattle.job.specs.Answers.{grid_of, has_tiles}
 use Rattle.job.specs.Readers.{grid_at}
-use Rattle.tile_boxes.specs.Targets.{IsTarget, Target, is_boxed, box, with_number, numbered_box, target_over}
+use Rattle.tile_boxes.specs.Targets.{IsTarget, Target, can_have_box, box, with_number, numbered_box, target_over}
 use Rattle.std.specs.Option.{option_map_or}
 use Rattle.domains.specs.Area.{point_count}
 use Rattle.domains.specs.Span.{Ends}
 use Rattle.domains.specs.declared.area.Area.{Area}
 use Rattle.domains.specs.declared.grid.Grid.{Grid}
 use Rattle.tile_boxes.specs.Schedules.{is_inlined}
-use Rattle.tile_boxes.specs.Order.{in_order}
+use Rattle.tile_boxes.specs.Order.{order_stages_by_rank}
 
 -- ---- points
 
@@ -66,18 +66,18 @@ pub sum_cons : {X : Type 0} (f : X → ℕ) (x : X) (xs : List X) → sum (map f
 sum_cons f x xs = sum-map f (x ∷ xs) ∙ sum_by-cons f x xs ∙ sym (ap (λ n. f x + n) (sum-map f xs))
 
 sum_inner : (t : Target) (gs : List ℕ)
-    → points_in (filter (λ s. is_inlined t.inlining s.0) (flat_map (numbered_box t) gs)) ≡ sum (map (inner_points t) gs)
+    → points_in (filter (λ s. is_inlined t.inlining s.0) (flat_map (numbered_box t) gs)) ≡ sum (map (count_inlined_points t) gs)
 sum_inner t [] = refl
 sum_inner t (g ∷ gs) =
     let p : ℕ × Area → Bool = λ s. is_inlined t.inlining s.0 in
     ap points_in (filter-append p (numbered_box t g) (flat_map (numbered_box t) gs))
     ∙ points_append (filter p (numbered_box t g)) (filter p (flat_map (numbered_box t) gs))
-    ∙ (λ i. inner_by (is_inlined t.inlining) g (is_boxed t g) (box t g) i + sum_inner t gs i)
-    ∙ sym (sum_cons (inner_points t) g gs)
+    ∙ (λ i. inner_by (is_inlined t.inlining) g (can_have_box t g) (box t g) i + sum_inner t gs i)
+    ∙ sym (sum_cons (count_inlined_points t) g gs)
 
 -- the points in scratch memory, stage by stage
-pub scratch_is : (t : Target) → sum (map (inner_points t) (in_order t.job.stages)) ≡ scratch t
-scratch_is t = sym (sum_inner t (in_order t.job.stages))
+pub scratch_is : (t : Target) → sum (map (count_inlined_points t) (order_stages_by_rank t.job.stages)) ≡ scratch t
+scratch_is t = sym (sum_inner t (order_stages_by_rank t.job.stages))
 
 -- those of a target are those and its own
 pub points_is : (t : Target) → points t ≡ scratch t + point_count t.region
@@ -92,7 +92,7 @@ map_map g f (x ∷ xs) = ap (λ ys. g (f x) ∷ ys) (map_map g f xs)
 -- one more row: its tiles have the rows of the first one, and the columns of those in each row
 pub row_behind : (g : Grid) (i : ℕ) (first : Area) (columns : List Ends) (areas after : List Area)
     → areas ≡ flat_map (λ i. row_areas g i (tile_cols g)) (range_with_len 0 i) → first ≡ tile_area g i 0
-    → columns ≡ columns_of g (tile_cols g) → after ≡ areas ++ map (area_of first.rows) columns
+    → columns ≡ list_tile_columns g (tile_cols g) → after ≡ areas ++ map (area_of first.rows) columns
     → after ≡ flat_map (λ i. row_areas g i (tile_cols g)) (range_with_len 0 (i + 1))
 row_behind g i first columns areas after was first_is columns_are is =
     is
@@ -106,12 +106,12 @@ map_pairs f [] cs = refl
 map_pairs f (r ∷ rs) cs =
     map-append f (map (λ c. (r, c)) cs) (pairs rs cs) ∙ (λ i. map_map f (λ c. (r, c)) cs i ++ map_pairs f rs cs i)
 
-pub areas_are : (g : Grid) → map (λ t. tile_area g t.0 t.1) (tiles_of g) ≡ areas_of_tiles g
+pub areas_are : (g : Grid) → map (λ t. tile_area g t.0 t.1) (tiles_of g) ≡ list_tile_areas g
 areas_are g = map_pairs (λ t. tile_area g t.0 t.1) (range_with_len 0 (tile_rows g)) (range_with_len 0 (tile_cols g))
 
 -- the points of a stage's tiles, area by area
 pub cost_is : (job : Pipeline) (inlining : List Bool) (g : ℕ) (s : Stage)
-    → cost_of job inlining g s ≡ points_over (over_domain job inlining g s) (areas_of_tiles (grid_of job s))
+    → cost_of job inlining g s ≡ points_over (over_domain job inlining g s) (list_tile_areas (grid_of job s))
 cost_is job inlining g s =
     let t : Target = over_domain job inlining g s in
     let tiles : List (ℕ × ℕ) = tiles_of (grid_of job s) in
@@ -128,7 +128,7 @@ has_tile g t both =
     (omega arith, omega arith)
 
 pub tiles_are_targets : (job : Pipeline) (inlining : List Bool) (g : ℕ) (s : Stage) → IsJob job → slice_get job.stages g ≡ Some s
-    → All (λ a. IsTarget (over (over_domain job inlining g s) a)) (areas_of_tiles (grid_of job s))
+    → All (λ a. IsTarget (over (over_domain job inlining g s) a)) (list_tile_areas (grid_of job s))
 tiles_are_targets job inlining g s h there =
     let grid : Grid = grid_of job s in
     let t : Target = over_domain job inlining g s in
@@ -141,21 +141,21 @@ tiles_are_targets job inlining g s h there =
     (All-map (λ a. IsTarget (over t a)) f (tiles_of grid) each)
 
 pub targets_from : (job : Pipeline) (inlining : List Bool) (n : ℕ) (grid : Grid) (areas : List Area) → IsJob job → grid_at job n ≡ Some grid
-    → areas ≡ areas_of_tiles grid
+    → areas ≡ list_tile_areas grid
     → All (λ a. IsTarget (over (target_over job inlining n grid.area) a)) areas
 targets_from job inlining n grid areas h at are =
     let g = gridded job n grid at in
     let all = tiles_are_targets job inlining n g.stage h g.there in
-    let same : areas_of_tiles (grid_of job g.stage) ≡ areas = ap areas_of_tiles g.is ∙ sym are in
+    let same : list_tile_areas (grid_of job g.stage) ≡ areas = ap list_tile_areas g.is ∙ sym are in
     subst (λ (xs : List Area). All (λ a. IsTarget (target_over job inlining n a)) xs) same all
 
 pub cost_from : (job : Pipeline) (inlining : List Bool) (n : ℕ) (grid : Grid) (k : ℕ) → grid_at job n ≡ Some grid
     → is_inlined inlining n ≡ false
-    → k ≡ points_over (target_over job inlining n grid.area) (areas_of_tiles grid) → Some k ≡ cost job inlining n
+    → k ≡ points_over (target_over job inlining n grid.area) (list_tile_areas grid) → Some k ≡ cost job inlining n
 cost_from job inlining n grid k at stored is =
     let g = gridded job n grid at in
     let t : Target = over_domain job inlining n g.stage in
-    let sum_is : k ≡ cost_of job inlining n g.stage = is ∙ ap (λ (x : Grid). points_over t (areas_of_tiles x)) (sym g.is)
+    let sum_is : k ≡ cost_of job inlining n g.stage = is ∙ ap (λ (x : Grid). points_over t (list_tile_areas x)) (sym g.is)
     ∙ sym (cost_is job inlining n g.stage) in
     let has : (has_tiles g.stage.body && not (is_inlined inlining n)) ≡ true = (λ i. g.tiles i && not (stored i)) in
     ap Some sum_is ∙ sym (ap (stage_cost job inlining n) g.there ∙ ap (λ b. if b then Some (cost_of job inlining n g.stage) else None) has)
@@ -177,7 +177,7 @@ below_all p n g all below =
 -- room for each tile is room for each area
 pub fits_is : (job : Pipeline) (inlining : List Bool) (g : ℕ) (s : Stage)
     → list_all has_scratch (tile_targets job inlining g s)
-    ≡ all_have_scratch (over_domain job inlining g s) (areas_of_tiles (grid_of job s))
+    ≡ all_have_scratch (over_domain job inlining g s) (list_tile_areas (grid_of job s))
 fits_is job inlining g s =
     let t : Target = over_domain job inlining g s in
     let tiles : List (ℕ × ℕ) = tiles_of (grid_of job s) in
@@ -187,13 +187,13 @@ fits_is job inlining g s =
 
 pub fits_from : (job : Pipeline) (inlining : List Bool) (n : ℕ) (grid : Grid) (b : Bool) → grid_at job n ≡ Some grid
     → is_inlined inlining n ≡ false
-    → b ≡ all_have_scratch (target_over job inlining n grid.area) (areas_of_tiles grid) → b ≡ stage_fits job inlining n
+    → b ≡ all_have_scratch (target_over job inlining n grid.area) (list_tile_areas grid) → b ≡ stage_fits job inlining n
     (slice_get job.stages n)
 fits_from job inlining n grid b at stored is =
     let g = gridded job n grid at in
     let t : Target = over_domain job inlining n g.stage in
     let all : b ≡ list_all has_scratch (tile_targets job inlining n g.stage) = is
-    ∙ ap (λ (x : Grid). all_have_scratch t (areas_of_tiles x)) (sym g.is) ∙ sym (fits_is job inlining n g.stage) in
+    ∙ ap (λ (x : Grid). all_have_scratch t (list_tile_areas x)) (sym g.is) ∙ sym (fits_is job inlining n g.stage) in
     let has : (has_tiles g.stage.body && not (is_inlined inlining n)) ≡ true = (λ i. g.tiles i && not (stored i)) in
     all
     ∙ sym (ap (stage_fits job inlining n) g.there

@@ -28,10 +28,10 @@ use Rattle.job.specs.WellFormed.{IsStage, IsJob}
 use Rattle.job.proofs.Solving.{ranked_is}
 use Rattle.tile_boxes.specs.Demands.{hull_of_all, areas_of}
 use Rattle.tile_boxes.specs.Costs.{scratch, points}
-use Rattle.tile_boxes.specs.Order.{in_order}
+use Rattle.tile_boxes.specs.Order.{order_stages_by_rank}
 use Rattle.tile_boxes.specs.Schedules.{is_inlined}
-use Rattle.tile_boxes.specs.Targets.{Target, IsTarget, all_demands_by, cut_to, is_boxed, box}
-use Rattle.tile_boxes.specs.Tallies.{areas_of_tiles, over, inner_points, points_over}
+use Rattle.tile_boxes.specs.Targets.{Target, IsTarget, all_demands_by, cut_to, can_have_box, box}
+use Rattle.tile_boxes.specs.Tallies.{list_tile_areas, over, count_inlined_points, points_over}
 use Rattle.tile_boxes.proofs.BoxesFollowTheRule.{box_follows}
 use Rattle.tile_boxes.proofs.BoxesLieInDomains.{box_inside}
 use Rattle.tile_boxes.proofs.CostsAddUp.{scratch_is, points_is, areas_are}
@@ -79,8 +79,8 @@ module _ (t : Target) (job : IsJob t.job) where
           ∙ ap (λ (p : Option Stage). cut_to p (hull_of_all (areas_of g (all_demands_by t (box t))))) there) ∙ is in
           absurd (cc)
 
-  inner_small : (g : ℕ) → inner_points t g ≤ most_box
-  inner_small g = by (is_inlined t.inlining g && is_boxed t g)
+  inner_small : (g : ℕ) → count_inlined_points t g ≤ most_box
+  inner_small g = by (is_inlined t.inlining g && can_have_box t g)
     where
       by : (b : Bool) → (if b then option_map_or point_count (box t g) 0 else 0) ≤ most_box
       by true = box_small g
@@ -89,15 +89,15 @@ module _ (t : Target) (job : IsJob t.job) where
 -- ---- the stages of a target
 
 -- dependence order has each stage at most once
-order_short : (stages : List Stage) → length (in_order stages) ≤ length stages
+order_short : (stages : List Stage) → length (order_stages_by_rank stages) ≤ length stages
 order_short stages =
-    length-le_from_distinct_below (in_order stages) (length stages)
-    (IsDistinct-from_AllPairs Decides-eqb (in_order stages) (λ i j d low high same.
+    length-le_from_distinct_below (order_stages_by_rank stages) (length stages)
+    (IsDistinct-from_AllPairs Decides-eqb (order_stages_by_rank stages) (λ i j d low high same.
     elim (order_pairs stages i j d low high) [
       | inl before ↦ absurd (let e = ap (rank_of stages) same in omega (arith, before, e))
       | inr before ↦ absurd (let less = before.1 in omega (arith, less, same))
     ]))
-    (λ q found. (order_has stages q).0 (Contains-from_any eqb-true q (in_order stages) found))
+    (λ q found. (order_has stages q).0 (Contains-from_any eqb-true q (order_stages_by_rank stages) found))
 
 -- at most so many terms, none of them more than this
 pub sum_small : {X : Type 0} → (f : X → ℕ) (m n : ℕ) (xs : List X) → ((x : X) → Contains xs x → f x ≤ m) → length xs ≤ n
@@ -110,8 +110,8 @@ module _ (t : Target) (job : IsJob t.job) where
   pub scratch_small : scratch t ≤ 65536 * most_box
   scratch_small =
       let few = job.few_stages in
-      let short : length (in_order t.job.stages) ≤ 65536 = omega (arith, order_short t.job.stages, few) in
-      omega (arith, scratch_is t, sum_small (inner_points t) most_box 65536 (in_order t.job.stages) (λ g there. inner_small t job g) short)
+      let short : length (order_stages_by_rank t.job.stages) ≤ 65536 = omega (arith, order_short t.job.stages, few) in
+      omega (arith, scratch_is t, sum_small (count_inlined_points t) most_box 65536 (order_stages_by_rank t.job.stages) (λ g there. inner_small t job g) short)
 
   pub points_small : IsTarget t → points t ≤ 65537 * most_box
   points_small target =
@@ -124,12 +124,12 @@ module _ (t : Target) (job : IsJob t.job) where
 
 -- ---- the tiles of a stage
 
-pub areas_few : (job : Pipeline) (g : ℕ) (grid : Grid) → IsJob job → grid_at job g ≡ Some grid → length (areas_of_tiles grid) ≤ 65536
+pub areas_few : (job : Pipeline) (g : ℕ) (grid : Grid) → IsJob job → grid_at job g ≡ Some grid → length (list_tile_areas grid) ≤ 65536
 areas_few job g grid is there =
     let of = gridded job g grid there in
     let few : tile_rows grid * tile_cols grid ≤ 65536 =
     subst (λ (d : Grid). tile_rows d * tile_cols d ≤ 65536) of.is ((is.stages g of.stage of.there).tiles of.tiles) in
-    let counted : length (areas_of_tiles grid) ≡ tile_rows grid * tile_cols grid = ap length (sym (areas_are grid))
+    let counted : length (list_tile_areas grid) ≡ tile_rows grid * tile_cols grid = ap length (sym (areas_are grid))
     ∙ length-map (tiles_of grid) (λ x. tile_area grid x.0 x.1)
     ∙ length-pairs (range_with_len 0 (tile_rows grid)) (range_with_len 0 (tile_cols grid))
     ∙ (λ i. length-range_with_len 0 (tile_rows grid) i * length-range_with_len 0 (tile_cols grid) i) in

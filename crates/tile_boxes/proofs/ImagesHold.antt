@@ -12,7 +12,7 @@ use Rattle.job.specs.Formula.{Formula, number, coordinate, read, unary, binary, 
 use Rattle.job.specs.Values.{factors, under}
 use Rattle.job.specs.Reads.{Read, point, window, reads_in, EachTaken}
 use Rattle.job.specs.WellFormed.{IsKernel, IsFormula}
-use Rattle.tile_boxes.specs.Demands.{widened, image_under}
+use Rattle.tile_boxes.specs.Demands.{widen_span, image_under}
 
 -- the numbers of a read are those of an index, and its kernel one of the text
 abbrev pub IsRead : Read → Type 0
@@ -43,7 +43,7 @@ in_image x s v is h = (index_rises x s.lo v is h.0, index_rises x v s.hi is h.1)
 half : (n a : ℕ) → a < n → a ≤ n / 2 + n / 2
 half n a h = omega arith
 
-in_widened : (s : Ends) (v : ℤ) (n a : ℕ) → a < n → Holds s v → Holds (widened (n / 2) s) (under v n a)
+in_widened : (s : Ends) (v : ℤ) (n a : ℕ) → a < n → Holds s v → Holds (widen_span (n / 2) s) (under v n a)
 in_widened s v n a there h = let low = h.0 in let high = h.1 in let most = half n a there in (omega (arith, ints), omega (arith, ints))
 
 width_of : (kernel : List (List ℤ)) (a b : ℕ) → IsKernel kernel → a < length kernel → b < length (factors kernel a)

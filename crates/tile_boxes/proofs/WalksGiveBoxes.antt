@@ -19,7 +19,7 @@ use Rattle.job.proofs.Solving.{ranked_is}
 use Rattle.tile_boxes.specs.Order.{backward}
 use Rattle.tile_boxes.specs.Demands.{Demand, grown_by, hull_of_all, areas_of}
 use Rattle.tile_boxes.specs.Targets.{Target, demands_by, cut_to, box}
-use Rattle.tile_boxes.specs.Walks.{demanded, demanded_all, no_hulls, cut_hull, walked_one, walked}
+use Rattle.tile_boxes.specs.Walks.{demanded, demanded_all, new_empty_boxes, cut_hull, walked_one, walked}
 use Rattle.tile_boxes.proofs.DemandsFall.{none_of_higher}
 use Rattle.tile_boxes.proofs.RanksNeverRise.{NeverRises, never_rises}
 use Rattle.tile_boxes.proofs.BoxesFollowTheRule.{areas_of-append, same_demands, box_follows}
@@ -52,21 +52,21 @@ hull_after (d ∷ ds) hulls g there =
     let there_still : g < length (demanded hulls d) = omega arith in
     hull_after ds (demanded hulls d) g there_still ∙ one_more hulls d (filter (λ e. nat_eq e.stage g) ds) g (nat_eq d.stage g) there refl
 
-no_hull : (stages : List Stage) (g : ℕ) → hull_at (no_hulls stages) g ≡ None
+no_hull : (stages : List Stage) (g : ℕ) → hull_at (new_empty_boxes stages) g ≡ None
 no_hull [] g = refl
 no_hull (s ∷ ss) zero = refl
 no_hull (s ∷ ss) (suc g) = no_hull ss g
 
-length-no_hulls : (stages : List Stage) → length (no_hulls stages) ≡ length stages
-length-no_hulls [] = refl
-length-no_hulls (s ∷ ss) = ap suc (length-no_hulls ss)
+length-new_empty_boxes : (stages : List Stage) → length (new_empty_boxes stages) ≡ length stages
+length-new_empty_boxes [] = refl
+length-new_empty_boxes (s ∷ ss) = ap suc (length-new_empty_boxes ss)
 
 pub hull_from_none : (stages : List Stage) (ds : List Demand) (g : ℕ) → g < length stages
-    → hull_at (demanded_all (no_hulls stages) ds) g ≡ hull_of_all (areas_of g ds)
+    → hull_at (demanded_all (new_empty_boxes stages) ds) g ≡ hull_of_all (areas_of g ds)
 hull_from_none stages ds g there =
-    let same = length-no_hulls stages in
-    let within : g < length (no_hulls stages) = omega arith in
-    hull_after ds (no_hulls stages) g within ∙ ap (λ h. fold grown_by h (areas_of g ds)) (no_hull stages g)
+    let same = length-new_empty_boxes stages in
+    let within : g < length (new_empty_boxes stages) = omega arith in
+    hull_after ds (new_empty_boxes stages) g within ∙ ap (λ h. fold grown_by h (areas_of g ds)) (no_hull stages g)
 
 -- a stage that is not there has no box
 cut-same : (stages : List Stage) (g : ℕ) (a b : Option Area) → (g < length stages → a ≡ b)
@@ -107,9 +107,9 @@ all_came_in t r done rest ranked e low =
 
 cut_is_box : (t : Target) (r : ℕ) (done rest : List ℕ) → IsRanked t.job.stages → backward t.job.stages ≡ done ++ (r ∷ rest)
     → All (λ q. rank_of t.job.stages q ≤ rank_of t.job.stages r) rest
-    → cut_hull t.job.stages (demanded_all (no_hulls t.job.stages) (flat_map (demands_in t) done)) r ≡ box t r
+    → cut_hull t.job.stages (demanded_all (new_empty_boxes t.job.stages) (flat_map (demands_in t) done)) r ≡ box t r
 cut_is_box t r done rest ranked e low =
-    cut-same t.job.stages r (hull_at (demanded_all (no_hulls t.job.stages) (flat_map (demands_in t) done)) r)
+    cut-same t.job.stages r (hull_at (demanded_all (new_empty_boxes t.job.stages) (flat_map (demands_in t) done)) r)
     (hull_of_all (areas_of r (flat_map (demands_in t) (backward t.job.stages))))
     (λ there. hull_from_none t.job.stages (flat_map (demands_in t) done) r there
     ∙ ap hull_of_all (sym (all_came_in t r done rest ranked e low)))
@@ -118,10 +118,10 @@ cut_is_box t r done rest ranked e low =
 -- one step: what the stage demands over its region comes in
 step : (t : Target) (r : ℕ) (done rest : List ℕ) (hulls : List (Option Area)) → IsRanked t.job.stages
     → backward t.job.stages ≡ done ++ (r ∷ rest) → All (λ q. rank_of t.job.stages q ≤ rank_of t.job.stages r) rest
-    → hulls ≡ demanded_all (no_hulls t.job.stages) (flat_map (demands_in t) done)
-    → walked_one t hulls r ≡ demanded_all (no_hulls t.job.stages) (flat_map (demands_in t) (done ++ r ∷ []))
+    → hulls ≡ demanded_all (new_empty_boxes t.job.stages) (flat_map (demands_in t) done)
+    → walked_one t hulls r ≡ demanded_all (new_empty_boxes t.job.stages) (flat_map (demands_in t) (done ++ r ∷ []))
 step t r done rest hulls ranked e low is =
-    let none = no_hulls t.job.stages in
+    let none = new_empty_boxes t.job.stages in
     let so_far = flat_map (demands_in t) done in
     ap (λ hs. walked_one t hs r) is
     ∙ ap (demanded_all (demanded_all none so_far))
@@ -131,22 +131,22 @@ step t r done rest hulls ranked e low is =
 
 walk_on : (t : Target) (todo done : List ℕ) (hulls : List (Option Area)) → IsRanked t.job.stages → backward t.job.stages ≡ done ++ todo
     → NeverRises (rank_of t.job.stages) todo
-    → hulls ≡ demanded_all (no_hulls t.job.stages) (flat_map (demands_in t) done)
-    → walked t hulls todo ≡ demanded_all (no_hulls t.job.stages) (flat_map (demands_in t) (backward t.job.stages))
+    → hulls ≡ demanded_all (new_empty_boxes t.job.stages) (flat_map (demands_in t) done)
+    → walked t hulls todo ≡ demanded_all (new_empty_boxes t.job.stages) (flat_map (demands_in t) (backward t.job.stages))
 walk_on t [] done hulls ranked e falls is =
-    is ∙ ap (λ rs. demanded_all (no_hulls t.job.stages) (flat_map (demands_in t) rs)) (sym (e ∙ append-nil done))
+    is ∙ ap (λ rs. demanded_all (new_empty_boxes t.job.stages) (flat_map (demands_in t) rs)) (sym (e ∙ append-nil done))
 walk_on t (r ∷ rest) done hulls ranked e falls is =
     walk_on t rest (done ++ r ∷ []) (walked_one t hulls r) ranked (e ∙ sym (append_assoc done (r ∷ []) rest)) falls.1
     (step t r done rest hulls ranked e falls.0 is)
 
 -- after the walk the hulls, cut to the domains, are the boxes
 pub walk_gives_boxes : (t : Target) (g : ℕ) → IsJob t.job
-    → cut_hull t.job.stages (walked t (no_hulls t.job.stages) (backward t.job.stages)) g ≡ box t g
+    → cut_hull t.job.stages (walked t (new_empty_boxes t.job.stages) (backward t.job.stages)) g ≡ box t g
 walk_gives_boxes t g job =
     let ranked = ranked_is t.job job in
     ap (λ hs. cut_hull t.job.stages hs g)
-    (walk_on t (backward t.job.stages) [] (no_hulls t.job.stages) ranked refl (never_rises t.job.stages) refl)
-    ∙ cut-same t.job.stages g (hull_at (demanded_all (no_hulls t.job.stages) (flat_map (demands_in t) (backward t.job.stages))) g)
+    (walk_on t (backward t.job.stages) [] (new_empty_boxes t.job.stages) ranked refl (never_rises t.job.stages) refl)
+    ∙ cut-same t.job.stages g (hull_at (demanded_all (new_empty_boxes t.job.stages) (flat_map (demands_in t) (backward t.job.stages))) g)
     (hull_of_all (areas_of g (flat_map (demands_in t) (backward t.job.stages))))
     (λ there. hull_from_none t.job.stages (flat_map (demands_in t) (backward t.job.stages)) g there)
     ∙ sym (box_follows t g ranked)

@@ -70,8 +70,8 @@ FitsScratch job inlining g s = All (λ t. scratch t ≤ most_scratch) (tile_targ
 -- ---- all stages
 
 -- what each stage of the job costs
-abbrev pub costs_of : Pipeline → List Bool → List (Option ℕ)
-costs_of job inlining = map (cost job inlining) (range_with_len 0 (length job.stages))
+abbrev pub survey_stage_costs : Pipeline → List Bool → List (Option ℕ)
+survey_stage_costs job inlining = map (cost job inlining) (range_with_len 0 (length job.stages))
 
 -- no tile of a stage that has a cost has more in scratch memory than there may be
 abbrev pub AllFitScratch : Pipeline → List Bool → Type 0

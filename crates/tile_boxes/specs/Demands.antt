@@ -23,15 +23,15 @@ abbrev pub meet_of_areas : Area → Area → Option Area
 meet_of_areas a b = if_some (common_of a b)
 
 -- n more numbers on each side
-abbrev pub widened : ℕ → Ends → Ends
-widened n s = record { lo = s.lo -ℤ pos n; hi = s.hi +ℤ pos n }
+abbrev pub widen_span : ℕ → Ends → Ends
+widen_span n s = record { lo = s.lo -ℤ pos n; hi = s.hi +ℤ pos n }
 
 -- the image of a region under a read: from the indices at its least row and column to those at its greatest; of a stencil
 -- the region, widened by half of the kernel
 abbrev pub image_under : Read → Area → Area
 image_under (point g i j) region = record { rows = image_of i region.rows; cols = image_of j region.cols }
 image_under (window g kernel) region =
-    record { rows = widened (length kernel / 2) region.rows; cols = widened (length (factors kernel 0) / 2) region.cols }
+    record { rows = widen_span (length kernel / 2) region.rows; cols = widen_span (length (factors kernel 0) / 2) region.cols }
 
 -- the bounding box of an area and of those before it, if there are any
 abbrev pub hull_with : Option Area → Area → Area

@@ -14,18 +14,18 @@ is_function_body (plane n) = false
 is_function_body (function cases otherwise) = true
 is_function_body (accumulator fold bins value bin) = false
 
-abbrev pub is_function : Pipeline → ℕ → Bool
-is_function job g = option_map_or (λ s. is_function_body s.body) (slice_get job.stages g) false
+abbrev pub is_function_stage : Pipeline → ℕ → Bool
+is_function_stage job g = option_map_or (λ s. is_function_body s.body) (slice_get job.stages g) false
 
 -- it says so of each stage; only functions are inlined, and no output
 pub record IsSchedule (job : Pipeline) (inlining : List Bool) : Type 0 where
   pub each : length inlining ≡ length job.stages
-  pub functions : (g : ℕ) → is_inlined inlining g ≡ true → is_function job g ≡ true
+  pub functions : (g : ℕ) → is_inlined inlining g ≡ true → is_function_stage job g ≡ true
   pub inner : (g : ℕ) → is_inlined inlining g ≡ true → is_output job g ≡ false
 
 -- what is inlined if these are requested: only the functions among them
 abbrev pub inlining_for : Pipeline → List Bool → List Bool
-inlining_for job asked = map (λ g. is_inlined asked g && is_function job g) (range_with_len 0 (length job.stages))
+inlining_for job asked = map (λ g. is_inlined asked g && is_function_stage job g) (range_with_len 0 (length job.stages))
 
 -- each stage is stored
 abbrev pub all_stored : Pipeline → List Bool

@@ -11,7 +11,7 @@ use Rattle.domains.specs.declared.grid.Grid.{Grid}
 use Rattle.job.specs.Pipeline.{Pipeline, Stage}
 use Rattle.job.specs.Reads.{Read, stage_read}
 use Rattle.tile_boxes.specs.Schedules.{is_inlined}
-use Rattle.tile_boxes.specs.Targets.{Target, target_over, is_boxed, box}
+use Rattle.tile_boxes.specs.Targets.{Target, target_over, can_have_box, box}
 use Rattle.tile_boxes.specs.Costs.{points, has_scratch, stage_fits}
 
 -- the areas of the tiles in one row, of cols columns, and in all rows
@@ -19,22 +19,22 @@ abbrev pub row_areas : Grid → ℕ → ℕ → List Area
 row_areas g i cols = map (λ j. tile_area g i j) (range_with_len 0 cols)
 
 -- the columns of the tiles in a row, of which there are cols, and the area of these rows and of some columns
-abbrev pub columns_of : Grid → ℕ → List Ends
-columns_of g cols = map (λ j. (tile_area g 0 j).cols) (range_with_len 0 cols)
+abbrev pub list_tile_columns : Grid → ℕ → List Ends
+list_tile_columns g cols = map (λ j. (tile_area g 0 j).cols) (range_with_len 0 cols)
 
 abbrev pub area_of : Ends → Ends → Area
 area_of rows cols = record { rows = rows; cols = cols }
 
-abbrev pub areas_of_tiles : Grid → List Area
-areas_of_tiles g = flat_map (λ i. row_areas g i (tile_cols g)) (range_with_len 0 (tile_rows g))
+abbrev pub list_tile_areas : Grid → List Area
+list_tile_areas g = flat_map (λ i. row_areas g i (tile_cols g)) (range_with_len 0 (tile_rows g))
 
 -- the same stage over another region
 abbrev pub over : Target → Area → Target
 over t a = target_over t.job t.inlining t.stage a
 
 -- the points of a stage's box that lie in scratch memory
-abbrev pub inner_points : Target → ℕ → ℕ
-inner_points t g = if is_inlined t.inlining g && is_boxed t g then option_map_or point_count (box t g) 0 else 0
+abbrev pub count_inlined_points : Target → ℕ → ℕ
+count_inlined_points t g = if is_inlined t.inlining g && can_have_box t g then option_map_or point_count (box t g) 0 else 0
 
 -- the points over several regions, and whether each of them fits in scratch memory
 abbrev pub points_over : Target → List Area → ℕ
@@ -54,5 +54,5 @@ abbrev pub all_stages_fit : Pipeline → List Bool → List ℕ → Bool
 all_stages_fit job inlining gs = list_all (λ g. stage_fits job inlining g (slice_get job.stages g)) gs
 
 -- whether no stage that is read is inlined
-abbrev pub reads_stored : List Bool → List Read → Bool
-reads_stored inlining reads = list_all (λ x. not (is_inlined inlining (stage_read x))) reads
+abbrev pub has_only_stored_reads : List Bool → List Read → Bool
+has_only_stored_reads inlining reads = list_all (λ x. not (is_inlined inlining (stage_read x))) reads

@@ -6,8 +6,8 @@ use Rattle.domains.specs.Area.{HoldsPoint, IsArea, IsSubarea}
 use Rattle.domains.specs.declared.area.Area.{Area}
 use Rattle.job.specs.Pipeline.{Stage, Pipeline}
 use Rattle.job.specs.Reads.{BodyReads}
-use Rattle.tile_boxes.specs.Order.{greatest_rank, in_order, backward}
-use Rattle.tile_boxes.specs.Schedules.{is_inlined, is_function}
+use Rattle.tile_boxes.specs.Order.{greatest_rank, order_stages_by_rank, backward}
+use Rattle.tile_boxes.specs.Schedules.{is_inlined, is_function_stage}
 use Rattle.tile_boxes.specs.Demands.{Demand, meet_of_areas, hull_of_all, body_demands, areas_of}
 
 -- a stage of a job over a region, where these functions are inlined
@@ -76,21 +76,21 @@ with_number g None = []
 with_number g (Some a) = (g, a) ∷ []
 
 -- whether stage g is a function other than the target
-abbrev pub is_boxed : Target → ℕ → Bool
-is_boxed t g = is_function t.job g && not (g == t.stage)
+abbrev pub can_have_box : Target → ℕ → Bool
+can_have_box t g = is_function_stage t.job g && not (g == t.stage)
 
 abbrev pub numbered_box : Target → ℕ → List (ℕ × Area)
-numbered_box t g = if is_boxed t g then with_number g (box t g) else []
+numbered_box t g = if can_have_box t g then with_number g (box t g) else []
 
 -- the functions that have a box, stored or inlined, with their boxes, in dependence order
 abbrev pub boxes : Target → List (ℕ × Area)
-boxes t = flat_map (numbered_box t) (in_order t.job.stages)
+boxes t = flat_map (numbered_box t) (order_stages_by_rank t.job.stages)
 
 -- a function with its box, which lies in its domain
 pub record IsListed (t : Target) (b : ℕ × Area) : Type 0 where
   pub owner : Stage
   pub there : slice_get t.job.stages b.0 ≡ Some owner
-  pub function : is_function t.job b.0 ≡ true
+  pub function : is_function_stage t.job b.0 ≡ true
   pub is : box t b.0 ≡ Some b.1
   pub area : IsArea b.1
   pub inside : IsSubarea b.1 owner.domain

@@ -6,9 +6,9 @@ use Rattle.domains.specs.declared.area.Area.{Area}
 use Rattle.job.specs.Pipeline.{Stage}
 use Rattle.job.specs.WellFormed.{InDomainRange}
 use Rattle.job.specs.Kept.{pipeline_in}
-use Rattle.tile_boxes.specs.declared.target.TargetWalk.{TargetWalk}
+use Rattle.tile_boxes.specs.declared.target.BoxWalk.{BoxWalk}
 use Rattle.tile_boxes.specs.Demands.{Demand, grown_by}
-use Rattle.tile_boxes.specs.Targets.{Target, target_over, cut_to, demands_by, with_number, is_boxed}
+use Rattle.tile_boxes.specs.Targets.{Target, target_over, cut_to, demands_by, with_number, can_have_box}
 
 -- an area within 16,384 of 0
 pub record InDomainRanges (a : Area) : Type 0 where
@@ -16,7 +16,7 @@ pub record InDomainRanges (a : Area) : Type 0 where
   pub cols : InDomainRange a.cols
 
 -- how contracts see a target
-abbrev pub target_of : TargetWalk → Target
+abbrev pub target_of : BoxWalk → Target
 target_of s = target_over (pipeline_in s.job.now) s.schedule.now s.stage s.region
 
 -- a bounding box for each stage, with one more demand
@@ -27,8 +27,8 @@ abbrev pub demanded_all : List (Option Area) → List Demand → List (Option Ar
 demanded_all hulls demands = fold demanded hulls demands
 
 -- nothing is demanded yet
-abbrev pub no_hulls : List Stage → List (Option Area)
-no_hulls stages = map (λ s. None) stages
+abbrev pub new_empty_boxes : List Stage → List (Option Area)
+new_empty_boxes stages = map (λ s. None) stages
 
 -- a bounding box, intersected with the domain
 abbrev pub cut_hull : List Stage → List (Option Area) → ℕ → Option Area
@@ -43,4 +43,4 @@ walked t hulls gs = fold (walked_one t) hulls gs
 
 -- a function other than the target, with its bounding box, intersected with the domain
 abbrev pub numbered_hull : Target → List (Option Area) → ℕ → List (ℕ × Area)
-numbered_hull t hulls g = if is_boxed t g then with_number g (cut_hull t.job.stages hulls g) else []
+numbered_hull t hulls g = if can_have_box t g then with_number g (cut_hull t.job.stages hulls g) else []

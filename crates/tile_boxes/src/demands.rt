@@ -9,7 +9,7 @@ ghost use Rattle.job.specs.Reads.{window, formulas_of};
 ghost use Rattle.job.specs.Values.{factors};
 ghost use Rattle.job.specs.Views.{formula_view, case_view, body_view};
 ghost use Rattle.job.specs.WellFormed.{InDomainRange, IsKernel, IsFormula};
-ghost use Rattle.tile_boxes.specs.Demands.{meet_of_areas, widened, image_under, grown_by, formula_demands, case_demands};
+ghost use Rattle.tile_boxes.specs.Demands.{meet_of_areas, widen_span, image_under, grown_by, formula_demands, case_demands};
 ghost use Rattle.tile_boxes.specs.Demands.{other_demands, body_demands};
 ghost use Rattle.tile_boxes.specs.Walks.{InDomainRanges, demanded, demanded_all};
 
@@ -17,7 +17,7 @@ use domains::{Area, Index, Span};
 use job::{Body, Formula, Function, JobCase, Kernel};
 
 /// What two areas have in common, if they meet.
-pub fn common(one: &Area, other: &Area) -> Option<Area>
+pub fn intersect_areas(one: &Area, other: &Area) -> Option<Area>
     ensures is { result ≡ meet_of_areas one.now other.now }
     ensures near { InDomainRanges other.now → IfSome result InDomainRanges }
 {
@@ -26,7 +26,7 @@ pub fn common(one: &Area, other: &Area) -> Option<Area>
 
 // The number that is less by `by`.
 #[tactic(auto, using(std::proofs::lemmas::Int::ints))]
-fn below(v: i32, by: usize) -> i32
+fn subtract_radius(v: i32, by: usize) -> i32
     requires few { by ≤ 7 }
     requires least { negsuc 16383 ≤ℤ v }
     requires most { v ≤ℤ pos 16384 }
@@ -37,7 +37,7 @@ fn below(v: i32, by: usize) -> i32
 
 // The number that is greater by `by`.
 #[tactic(auto, using(std::proofs::lemmas::Int::ints))]
-fn above(v: i32, by: usize) -> i32
+fn add_radius(v: i32, by: usize) -> i32
     requires few { by ≤ 7 }
     requires least { negsuc 16383 ≤ℤ v }
     requires most { v ≤ℤ pos 16384 }
@@ -47,18 +47,18 @@ fn above(v: i32, by: usize) -> i32
 }
 
 // A span with `by` more numbers on each side.
-fn widened(span: &Span, by: usize) -> Span
+fn widen_span(span: &Span, by: usize) -> Span
     requires near { InDomainRange span.now }
     requires few { by ≤ 7 }
-    ensures { result ≡ widened by span.now }
+    ensures { result ≡ widen_span by span.now }
 {
-    match Span::new(below(span.lo(), by), above(span.hi(), by)) {
+    match Span::new(subtract_radius(span.lo(), by), add_radius(span.hi(), by)) {
         Some(wide) => wide,
         None => unreachable!(),
     }
 }
 
-fn image_of_point(row: &Index, column: &Index, region: &Area) -> Area
+fn find_point_read_area(row: &Index, column: &Index, region: &Area) -> Area
     requires { InDomainRanges region.now }
     ensures { result ≡ record {
       rows = image_of row.now region.now.rows;
@@ -71,7 +71,7 @@ fn image_of_point(row: &Index, column: &Index, region: &Area) -> Area
     }
 }
 
-fn width(kernel: &Kernel) -> usize
+fn count_kernel_columns(kernel: &Kernel) -> usize
     requires { IsKernel kernel.now }
     ensures { result ≡ length (factors kernel.now 0) }
 {
@@ -81,19 +81,19 @@ fn width(kernel: &Kernel) -> usize
     }
 }
 
-fn image_of_kernel(kernel: &Kernel, region: &Area) -> Area
+fn find_stencil_read_area(kernel: &Kernel, region: &Area) -> Area
     requires kernel { IsKernel kernel.now }
     requires near { InDomainRanges region.now }
     ensures { result ≡ image_under (window 0 kernel.now) region.now }
 {
     Area {
-        rows: widened(&region.rows, kernel.as_slice().len() / 2),
-        cols: widened(&region.cols, width(kernel) / 2),
+        rows: widen_span(&region.rows, kernel.as_slice().len() / 2),
+        cols: widen_span(&region.cols, count_kernel_columns(kernel) / 2),
     }
 }
 
 // The bounding box of an area and of those before it.
-fn grown(hull: &Option<Area>, area: Area) -> Option<Area>
+fn grow_bounding_box(hull: &Option<Area>, area: Area) -> Option<Area>
     ensures { result ≡ grown_by hull.now area }
 {
     match hull {
@@ -102,16 +102,16 @@ fn grown(hull: &Option<Area>, area: Area) -> Option<Area>
     }
 }
 
-fn demand(hulls: &mut [Option<Area>], stage: usize, area: Area)
+fn demand_stage_area(hulls: &mut [Option<Area>], stage: usize, area: Area)
     ensures { hulls.new ≡ demanded hulls.old (record { stage = stage; area = area }) }
 {
     if stage < hulls.len() {
-        hulls[stage] = grown(&hulls[stage], area);
+        hulls[stage] = grow_bounding_box(&hulls[stage], area);
     }
 }
 
 /// Each read of a formula demands its image.
-fn demand_reads(hulls: &mut [Option<Area>], formula: &Formula, region: &Area)
+fn demand_formula_reads(hulls: &mut [Option<Area>], formula: &Formula, region: &Area)
     requires formula { IsFormula (formula_view formula.now) }
     requires near { InDomainRanges region.now }
     ensures { hulls.new
@@ -120,48 +120,48 @@ fn demand_reads(hulls: &mut [Option<Area>], formula: &Formula, region: &Area)
     match formula {
         Formula::Number(_) | Formula::Coordinate(_) => {}
         Formula::Read(stage, row, column) => {
-            demand(hulls, *stage, image_of_point(row, column, region));
+            demand_stage_area(hulls, *stage, find_point_read_area(row, column, region));
         }
         Formula::Unary(_, operand)
         | Formula::Lookup(_, operand)
         | Formula::Literal(_, operand, _) => {
-            demand_reads(hulls, operand, region);
+            demand_formula_reads(hulls, operand, region);
         }
         Formula::Binary(_, left, right) => {
-            demand_reads(hulls, left, region);
-            demand_reads(hulls, right, region);
+            demand_formula_reads(hulls, left, region);
+            demand_formula_reads(hulls, right, region);
         }
         Formula::Ternary(_, first, second, third) => {
-            demand_reads(hulls, first, region);
-            demand_reads(hulls, second, region);
-            demand_reads(hulls, third, region);
+            demand_formula_reads(hulls, first, region);
+            demand_formula_reads(hulls, second, region);
+            demand_formula_reads(hulls, third, region);
         }
         Formula::Select(left, _, right, then, otherwise) => {
-            demand_reads(hulls, left, region);
-            demand_reads(hulls, right, region);
-            demand_reads(hulls, then, region);
-            demand_reads(hulls, otherwise, region);
+            demand_formula_reads(hulls, left, region);
+            demand_formula_reads(hulls, right, region);
+            demand_formula_reads(hulls, then, region);
+            demand_formula_reads(hulls, otherwise, region);
         }
         Formula::Stencil(stage, _, kernel) => {
-            demand(hulls, *stage, image_of_kernel(kernel, region));
+            demand_stage_area(hulls, *stage, find_stencil_read_area(kernel, region));
         }
     }
 }
 
 // A case demands what it reads where its box meets the region.
-fn demand_case(hulls: &mut [Option<Area>], case: &JobCase, region: &Area)
+fn demand_case_reads(hulls: &mut [Option<Area>], case: &JobCase, region: &Area)
     requires formula { IsFormula (formula_view case.now.formula) }
     requires near { InDomainRanges region.now }
     ensures { hulls.new ≡ demanded_all hulls.old (case_demands region.now (case_view case.now)) }
 {
     if let Some(area) = case.area() {
-        if let Some(meet) = common(area, region) {
-            demand_reads(hulls, case.formula(), &meet);
+        if let Some(meet) = intersect_areas(area, region) {
+            demand_formula_reads(hulls, case.formula(), &meet);
         }
     }
 }
 
-fn demand_cases(hulls: &mut [Option<Area>], cases: &[JobCase], region: &Area)
+fn demand_reads_of_cases(hulls: &mut [Option<Area>], cases: &[JobCase], region: &Area)
     requires formulas { All IsFormula (map (λ p. p.formula) (map case_view cases.now)) }
     requires near { InDomainRanges region.now }
     ensures { hulls.new
@@ -169,11 +169,11 @@ fn demand_cases(hulls: &mut [Option<Area>], cases: &[JobCase], region: &Area)
         (flat_map (case_demands region.now) (map case_view cases.now)) }
 {
     for case in cases {
-        demand_case(hulls, case, region);
+        demand_case_reads(hulls, case, region);
     }
 }
 
-fn demand_other(hulls: &mut [Option<Area>], otherwise: &Option<Formula>, region: &Area)
+fn demand_otherwise_reads(hulls: &mut [Option<Area>], otherwise: &Option<Formula>, region: &Area)
     requires formula { ForSome (option_map formula_view otherwise.now) IsFormula }
     requires near { InDomainRanges region.now }
     ensures { hulls.new
@@ -181,12 +181,12 @@ fn demand_other(hulls: &mut [Option<Area>], otherwise: &Option<Formula>, region:
         (other_demands (option_map formula_view otherwise.now) region.now) }
 {
     if let Some(formula) = otherwise {
-        demand_reads(hulls, formula, region);
+        demand_formula_reads(hulls, formula, region);
     }
 }
 
 /// Adds what a stage demands over a region.
-pub(crate) fn demand_all(hulls: &mut [Option<Area>], body: &Body, region: &Area)
+pub(crate) fn demand_body_reads(hulls: &mut [Option<Area>], body: &Body, region: &Area)
     requires formulas { All IsFormula (formulas_of (body_view body.now)) }
     requires near { InDomainRanges region.now }
     ensures { hulls.new ≡ demanded_all hulls.old (body_demands (body_view body.now) region.now) }
@@ -194,12 +194,12 @@ pub(crate) fn demand_all(hulls: &mut [Option<Area>], body: &Body, region: &Area)
     match body {
         Body::Plane(_) => {}
         Body::Function(function) => {
-            demand_cases(hulls, function.cases(), region);
-            demand_other(hulls, function.otherwise(), region);
+            demand_reads_of_cases(hulls, function.cases(), region);
+            demand_otherwise_reads(hulls, function.otherwise(), region);
         }
         Body::Accumulator(accumulator) => {
-            demand_reads(hulls, accumulator.value(), region);
-            demand_reads(hulls, accumulator.bin(), region);
+            demand_formula_reads(hulls, accumulator.value(), region);
+            demand_formula_reads(hulls, accumulator.bin(), region);
         }
     }
 }

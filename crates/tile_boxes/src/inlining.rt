@@ -4,7 +4,7 @@
 ghost use Rattle.std.specs.Prelude.{◌≡◌, ◌&&◌, false, slice_set, IfOk, IfSome, IfNone};
 ghost use Rattle.job.specs.Kept.{pipeline_in};
 ghost use Rattle.tile_boxes.specs.Schedules.{StoresOutputs, IsInlinedOutput};
-ghost use Rattle.tile_boxes.specs.Schedules.{is_inlined, is_function, inlining_for};
+ghost use Rattle.tile_boxes.specs.Schedules.{is_inlined, is_function_stage, inlining_for};
 
 use job::{Job, StageKind};
 use std::alloc::{AllocError, Global};
@@ -46,12 +46,16 @@ impl InlinedStages {
     ///
     /// Fails only where memory is refused.
     #[tactic(auto, using(crate::proofs::Lists::map_range_more))]
-    pub fn asked(alloc: Global, job: &Job, asked: &[bool]) -> Result<InlinedStages, AllocError>
+    pub fn from_requested(
+        alloc: Global,
+        job: &Job,
+        asked: &[bool],
+    ) -> Result<InlinedStages, AllocError>
         ensures { IfOk result (λ f. f ≡ inlining_for (pipeline_in job.now) asked.now) }
     {
         let mut inlining = Vec::new(alloc);
         for number in 0..job.stages().len() {
-            inlining.push(is_asked(job, asked, number))?;
+            inlining.push(is_requested_function(job, asked, number))?;
         }
         Ok(InlinedStages { inlining })
     }
@@ -68,7 +72,7 @@ impl InlinedStages {
     /// # Errors
     ///
     /// Fails only where memory is refused.
-    pub fn copied(&self) -> Result<InlinedStages, AllocError>
+    pub fn copy(&self) -> Result<InlinedStages, AllocError>
         ensures { IfOk result (λ f. f ≡ self.now) }
     {
         Ok(InlinedStages {
@@ -77,12 +81,12 @@ impl InlinedStages {
     }
 
     /// Whether the same stages are inlined.
-    pub fn is_same(&self, other: &InlinedStages) -> bool {
+    pub fn has_same_stages(&self, other: &InlinedStages) -> bool {
         self.inlining == other.inlining
     }
 
     /// Inlines the stage of this number, or stores it.
-    pub fn set(&mut self, stage: usize, is_inlined: bool)
+    pub fn set_inlined(&mut self, stage: usize, is_inlined: bool)
         ensures { self.new ≡ slice_set self.old stage is_inlined }
     {
         if stage < self.inlining.len() {
@@ -92,14 +96,14 @@ impl InlinedStages {
 }
 
 /// The least output that is requested. It allocates no memory.
-pub fn first_output_asked(job: &Job, asked: &[bool]) -> Option<usize>
+pub fn find_inlined_output(job: &Job, asked: &[bool]) -> Option<usize>
     ensures some { IfSome result
         (IsInlinedOutput (pipeline_in job.now) (inlining_for (pipeline_in job.now) asked.now)) }
     ensures none { IfNone result
         (StoresOutputs (pipeline_in job.now) (inlining_for (pipeline_in job.now) asked.now)) }
 {
     for number in 0..job.stages().len() {
-        if is_asked(job, asked, number) && job.is_output(number) {
+        if is_requested_function(job, asked, number) && job.is_output(number) {
             return Some(number);
         }
     }
@@ -115,15 +119,15 @@ fn is_among_inlined(inlining: &[bool], number: usize) -> bool
     }
 }
 
-fn is_asked(job: &Job, asked: &[bool], number: usize) -> bool
-    ensures { result ≡ (is_inlined asked.now number && is_function (pipeline_in job.now) number) }
+fn is_requested_function(job: &Job, asked: &[bool], number: usize) -> bool
+    ensures { result ≡ (is_inlined asked.now number && is_function_stage (pipeline_in job.now) number) }
 {
-    is_among_inlined(asked, number) && is_function(job, number)
+    is_among_inlined(asked, number) && is_function_stage(job, number)
 }
 
 /// Whether the stage of this number is a function.
-pub fn is_function(job: &Job, number: usize) -> bool
-    ensures { result ≡ is_function (pipeline_in job.now) number }
+pub fn is_function_stage(job: &Job, number: usize) -> bool
+    ensures { result ≡ is_function_stage (pipeline_in job.now) number }
 {
     job.kind(number) == Some(StageKind::Function)
 }

@@ -7,8 +7,10 @@ mod inlining;
 mod order;
 mod target;
 
-pub use costs::{MOST_SCRATCH, Survey, areas_of_tiles, costs_of, reads_stored, stage_of};
-pub use demands::common;
-pub use inlining::{InlinedStages, first_output_asked, is_function};
-pub use order::{in_order, last_rank};
-pub use target::{TargetWalk, no_hulls};
+pub use costs::{
+    CostSurvey, MOST_SCRATCH, has_only_stored_reads, list_tile_areas, survey_stage_costs,
+};
+pub use demands::intersect_areas;
+pub use inlining::{InlinedStages, find_inlined_output, is_function_stage};
+pub use order::{find_greatest_rank, order_stages_by_rank};
+pub use target::{BoxWalk, new_empty_boxes};

@@ -9,7 +9,7 @@ use Rattle.std.proofs.lemmas.Grind.{common_steps}
 use borrow.Rule.Slice.PartMut.{put_mid}
 use Rattle.domains.specs.Span.{Ends, Holds, IsMeet}
 use Rattle.job.specs.Pipeline.{JobCase}
-use Rattle.row_kernels.specs.Rows.{EachPlace, at}
+use Rattle.row_loops.specs.Rows.{EachPlace, at}
 use Rattle.tile_eval.specs.inside.Cases.{IsReady, IsRoomy, AreReady}
 use Rattle.job.specs.Reads.{EachRead}
 use Rattle.job.specs.Views.{case_view}

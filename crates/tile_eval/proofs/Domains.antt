@@ -15,11 +15,11 @@ use Rattle.job.specs.WellFormed.{IsFormula, IsTest, InDomainRange}
 use Rattle.job.proofs.Agreeing.{All-left, All-right}
 use Rattle.job.proofs.BoxLaws.{box_is_cut, passed_in_box}
 use Rattle.job.proofs.Steps.{All-from_map, other_each}
-use Rattle.row_kernels.specs.Rows.{EachPlace, at}
+use Rattle.row_loops.specs.Rows.{EachPlace, at}
 use Rattle.tile_eval.specs.Reading.{HasRoom, HasFunctionRoom}
 use Rattle.tile_eval.specs.Cases.{InBox, AreBoxedAround}
 use Rattle.tile_eval.specs.inside.Cases.{IsReady, IsRoomy}
-use Rattle.tile_eval.specs.Buffer.{raster}
+use Rattle.tile_eval.specs.Raster.{raster}
 use Rattle.tile_eval.proofs.Rasters.{raster_of}
 
 -- ---- the numbers of a span, counted from its least

@@ -3,7 +3,7 @@ use Rattle.std.proofs.Common.{sym, below_more, le_trans, le_of_eq}
 use Rattle.std.proofs.Math.Nat.{mul-le-mul_right, suc-mul}
 use Rattle.std.proofs.lemmas.Grind.{common_steps}
 use borrow.Rule.Slice.PartMut.{put_mid}
-use Rattle.row_kernels.specs.Rows.{EachPlace, at}
+use Rattle.row_loops.specs.Rows.{EachPlace, at}
 
 -- a place before what was written
 put_before : (a n j : ℕ) (xs ys : List ℤ) → j < a → a ≤ length xs → at (put_mid a n xs ys) j ≡ at xs j

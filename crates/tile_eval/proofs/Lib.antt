@@ -3,14 +3,9 @@ pub mod Gathering
 pub mod Covering
 pub mod Grid
 pub mod Rasters
-pub mod Sampling
 pub mod Domains
 pub mod Rooms
-pub mod Knowing
-pub mod KnownSamples
-pub mod Learning
 pub mod RowByRow
-pub mod TrueTiles
 pub mod NearAreas
 pub mod SpansByParts
 pub mod Separated

@@ -14,8 +14,8 @@ use Rattle.domains.specs.declared.area.Area.{Area}
 use Rattle.domains.proofs.Lengths.{gap_is}
 use Rattle.domains.proofs.PairLists.{length-pairs}
 use Rattle.domains.proofs.Spans.{length-numbers_from}
-use Rattle.row_kernels.specs.Rows.{at}
-use Rattle.tile_eval.specs.Buffer.{raster, place_of}
+use Rattle.row_loops.specs.Rows.{at}
+use Rattle.tile_eval.specs.Raster.{raster, place_of}
 
 -- ---- lists of pairs
 

@@ -9,7 +9,7 @@ use Rattle.domains.specs.Pairs.{pairs}
 use Rattle.domains.specs.Span.{len_of, numbers_from, numbers_of}
 use Rattle.domains.specs.Area.{points_of}
 use Rattle.domains.specs.declared.area.Area.{Area}
-use Rattle.row_kernels.specs.Rows.{EachPlace, at}
+use Rattle.row_loops.specs.Rows.{EachPlace, at}
 
 next : (b : ℤ) (k : ℕ) → b +ℤ pos (suc k) ≡ b +ℤ pos 1 +ℤ pos k
 next b k = omega (arith, ints)

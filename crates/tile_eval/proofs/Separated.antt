@@ -4,10 +4,10 @@ use Rattle.domains.specs.Arithmetic.{wrapped}
 use Rattle.job.specs.Values.{sum_below, factors, kernel_row, kernel_column, weighted_sum}
 use Rattle.job.specs.WellFormed.{IsKernel}
 use Rattle.job.proofs.Agreeing.{sum_below-agrees}
-use Rattle.row_kernels.specs.Rows.{EachPlace, at}
-use Rattle.row_kernels.specs.Separable.{IsSeparable}
-use Rattle.row_kernels.specs.Stencil.{tap_sum}
-use Rattle.row_kernels.proofs.Separating.{down_then_along}
+use Rattle.row_loops.specs.Rows.{EachPlace, at}
+use Rattle.stencil_kernels.specs.Separable.{IsSeparable}
+use Rattle.stencil_kernels.specs.Stencil.{tap_sum}
+use Rattle.stencil_kernels.proofs.Separating.{down_then_along}
 use Rattle.tile_eval.specs.Reading.{KernelWithin}
 use Rattle.tile_eval.specs.inside.Stencil.{column_sum, IsUnder}
 use Rattle.tile_eval.proofs.Sums.{under_shifted}

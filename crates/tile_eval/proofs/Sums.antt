@@ -6,8 +6,8 @@ use Rattle.std.proofs.lemmas.Int.{ints, to_z-of_z}
 use Rattle.domains.specs.Arithmetic.{wrapped}
 use Rattle.job.specs.Values.{sum_below, under, factors, kernel_row, kernel_column, weighted_sum}
 use Rattle.job.proofs.Agreeing.{sum_below-agrees}
-use Rattle.row_kernels.specs.Rows.{at}
-use Rattle.row_kernels.specs.Stencil.{tap_sum, HasSize}
+use Rattle.row_loops.specs.Rows.{at}
+use Rattle.stencil_kernels.specs.Stencil.{tap_sum, HasSize}
 use Rattle.tile_eval.specs.inside.Stencil.{row_sum, IsUnder}
 
 -- the place under a factor, counted from the place under the first one

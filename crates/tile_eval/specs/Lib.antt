@@ -1,6 +1,6 @@
 pub mod Rows
 pub mod Reading
 pub mod Cases
-pub mod Buffer
+pub mod Raster
 pub mod Counted
 pub mod inside

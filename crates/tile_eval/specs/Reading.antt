@@ -5,7 +5,7 @@ use Rattle.domains.specs.Index.{index_at}
 use Rattle.job.specs.Formula.{Formula, number, coordinate, read, unary, binary, ternary, literal, lookup, select, stencil}
 use Rattle.job.specs.Pipeline.{JobCase}
 use Rattle.job.specs.Values.{factors, kernel_row, kernel_column}
-use Rattle.row_kernels.specs.Rows.{EachPlace}
+use Rattle.row_loops.specs.Rows.{EachPlace}
 
 -- the samples under a kernel about the n points of row r from column c on are available
 abbrev pub KernelWithin : (ℤ → ℤ → Type 0) → List (List ℤ) → ℤ → ℤ → ℕ → Type 0

@@ -1,2 +1,2 @@
 -- Rows of numbers, as the kernels have them.
-pub use Rattle.row_kernels.specs.Rows.{EachPlace, at}
+pub use Rattle.row_loops.specs.Rows.{EachPlace, at}

@@ -3,4 +3,3 @@ pub mod Cases
 pub mod Operators
 pub mod Stencil
 pub mod Counted
-pub mod Kept

@@ -6,7 +6,7 @@ ghost use Rattle.std.specs.Option.{option_map, ForSome};
 ghost use Rattle.job.specs.Reads.{EachRead};
 ghost use Rattle.job.specs.WellFormed.{IsFormula};
 ghost use Rattle.job.specs.Views.{case_view, formula_view};
-ghost use Rattle.row_kernels.specs.Rows.{EachPlace, at};
+ghost use Rattle.row_loops.specs.Rows.{EachPlace, at};
 ghost use Rattle.tile_eval.specs.Reading.{HasRoom};
 ghost use Rattle.tile_eval.specs.Cases.{function_value};
 ghost use Rattle.tile_eval.specs.inside.Cases.{IsReady, IsRoomy};
@@ -17,7 +17,7 @@ use job::Function;
 
 impl<S: RowSource> SourceRow<'_, S> {
     /// The values of a function in this row and those below it, `rows` rows in all, row by row.
-    pub(crate) fn fill_rows(
+    pub(crate) fn evaluate_function_rows(
         &self,
         function: &Function,
         rows: usize,
@@ -47,7 +47,7 @@ impl<S: RowSource> SourceRow<'_, S> {
         for i in 0..rows {
             let from = i * self.points.len;
             let line = &mut out[from..from + self.points.len];
-            let points = self.points.below(i);
+            let points = self.points.move_down(i);
             let own = SourceRow {
                 source: self.source,
                 points,

@@ -11,7 +11,7 @@ ghost use Rattle.job.specs.Views.{case_view, formula_view};
 ghost use Rattle.job.specs.Formula.{Test};
 ghost use Rattle.job.specs.Boxes.{BoundsHold};
 ghost use Rattle.row_kernels.specs.RowMask.{HoldsWhere};
-ghost use Rattle.row_kernels.specs.Rows.{EachPlace, at};
+ghost use Rattle.row_loops.specs.Rows.{EachPlace, at};
 ghost use Rattle.tile_eval.specs.Reading.{HasRoom};
 ghost use Rattle.tile_eval.specs.Cases.{InBox, function_value};
 ghost use Rattle.tile_eval.specs.inside.Cases.{IsReady, IsRoomy, AreReady};
@@ -20,10 +20,11 @@ use crate::source::RowSource;
 use crate::source_row::SourceRow;
 use domains::Area;
 use job::{Formula, JobCase};
-use row_kernels::{RowMask, RowSpan, fill, take_where, where_passed};
+use row_kernels::{RowMask, RowSpan, copy_masked_row, find_row_mask};
+use row_loops::fill_row;
 
 // The places of a row of points that lie in an area: the first one, and the end.
-fn overlap(area: &Area, points: &RowSpan) -> Option<(usize, usize)>
+fn find_row_places_in_area(area: &Area, points: &RowSpan) -> Option<(usize, usize)>
     requires { 0 < points.now.len }
     ensures some { IfSome result (λ p. (p.0 < p.1) × (p.1 ≤ points.now.len)) }
     ensures inside { IfSome result (λ p. (k : ℕ) → k < points.now.len
@@ -36,11 +37,14 @@ fn overlap(area: &Area, points: &RowSpan) -> Option<(usize, usize)>
     }
     let columns = points.columns()?;
     let common = area.cols.meet(&columns)?;
-    Some((points.gap(common.lo()), points.gap(common.hi()) + 1))
+    Some((
+        points.column_offset(common.lo()),
+        points.column_offset(common.hi()) + 1,
+    ))
 }
 
 // Whether in each column the tests of the one hold if those of the other do not.
-fn are_turned(first: RowMask, second: RowMask) -> bool
+fn is_complementary_mask(first: RowMask, second: RowMask) -> bool
     ensures { result ≡ true → (xs ys : List Test) (r c : ℤ) → HoldsWhere first xs r
         → HoldsWhere second ys r → BoundsHold xs r c → BoundsHold ys r c
         → all_passed xs r c ≡ false → all_passed ys r c ≡ true }
@@ -68,19 +72,19 @@ impl<S: RowSource> SourceRow<'_, S> {
             then formula_value (S.samples self.now.source.now) (case_view case.now).formula
             self.now.points.row (self.now.points.col +ℤ pos k) else at out.old k)) }
     {
-        match where_passed(case.tests(), &self.points) {
+        match find_row_mask(case.tests(), &self.points) {
             RowMask::Nowhere => {}
-            RowMask::Everywhere => self.evaluate(case.formula(), out, temps),
+            RowMask::Everywhere => self.evaluate_formula(case.formula(), out, temps),
             passed => {
                 let (mine, rest) = temps.split_at_mut(out.len());
-                self.evaluate(case.formula(), mine, rest);
-                take_where(out, mine, case.tests(), passed, &self.points);
+                self.evaluate_formula(case.formula(), mine, rest);
+                copy_masked_row(out, mine, case.tests(), passed, &self.points);
             }
         }
     }
 
     // Takes the values of a case, where its tests hold.
-    fn apply_case(&self, case: &JobCase, out: &mut [i32], temps: &mut [i32])
+    fn apply_case_to_row(&self, case: &JobCase, out: &mut [i32], temps: &mut [i32])
         requires fits { length out.old ≡ self.now.points.len }
         requires some { 0 < length out.old }
         requires case { EachPlace (length out.old) (λ k. IsReady (S.has self.now.source.now)
@@ -95,8 +99,8 @@ impl<S: RowSource> SourceRow<'_, S> {
         let Some(area) = case.area() else {
             return;
         };
-        if let Some((from, to)) = overlap(area, &self.points) {
-            let points = self.points.part(from, to);
+        if let Some((from, to)) = find_row_places_in_area(area, &self.points) {
+            let points = self.points.slice_points(from, to);
             let inner = SourceRow {
                 source: self.source,
                 points,
@@ -119,8 +123,8 @@ impl<S: RowSource> SourceRow<'_, S> {
             (option_map formula_view otherwise.now) (pos 0)) }
     {
         match otherwise {
-            Some(formula) => self.evaluate(formula, out, temps),
-            None => fill(out, 0),
+            Some(formula) => self.evaluate_formula(formula, out, temps),
+            None => fill_row(out, 0),
         }
     }
 
@@ -138,10 +142,10 @@ impl<S: RowSource> SourceRow<'_, S> {
         let Some(area) = case.area() else {
             return Some((0, 0));
         };
-        let Some((from, to)) = overlap(area, &self.points) else {
+        let Some((from, to)) = find_row_places_in_area(area, &self.points) else {
             return Some((0, 0));
         };
-        match where_passed(case.tests(), &self.points) {
+        match find_row_mask(case.tests(), &self.points) {
             RowMask::Nowhere => Some((0, 0)),
             RowMask::Everywhere => Some((from, to)),
             _ => None,
@@ -169,12 +173,12 @@ impl<S: RowSource> SourceRow<'_, S> {
         let (Some(area), Some(box_before)) = (case.area(), before.area()) else {
             return None;
         };
-        let (from, to) = overlap(area, &self.points)?;
-        let (first, second) = overlap(box_before, &self.points)?;
-        let passed = where_passed(case.tests(), &self.points);
+        let (from, to) = find_row_places_in_area(area, &self.points)?;
+        let (first, second) = find_row_places_in_area(box_before, &self.points)?;
+        let passed = find_row_mask(case.tests(), &self.points);
         if first == from
             && second == to
-            && are_turned(where_passed(before.tests(), &self.points), passed)
+            && is_complementary_mask(find_row_mask(before.tests(), &self.points), passed)
         {
             Some((from, to))
         } else {
@@ -183,7 +187,7 @@ impl<S: RowSource> SourceRow<'_, S> {
     }
 
     // The values of a formula at a part of the points.
-    fn evaluate_part(
+    fn evaluate_formula_part(
         &self,
         formula: &Formula,
         from: usize,
@@ -206,12 +210,12 @@ impl<S: RowSource> SourceRow<'_, S> {
             → at out.new k ≡ at out.old k) }
     {
         if from < to {
-            let points = self.points.part(from, to);
+            let points = self.points.slice_points(from, to);
             let inner = SourceRow {
                 source: self.source,
                 points,
             };
-            inner.evaluate(formula, &mut out[from..to], temps);
+            inner.evaluate_formula(formula, &mut out[from..to], temps);
         }
     }
 
@@ -239,7 +243,7 @@ impl<S: RowSource> SourceRow<'_, S> {
             → at out.new k ≡ at out.old k) }
     {
         if from < to {
-            let points = self.points.part(from, to);
+            let points = self.points.slice_points(from, to);
             let inner = SourceRow {
                 source: self.source,
                 points,
@@ -275,7 +279,7 @@ impl<S: RowSource> SourceRow<'_, S> {
             if let Some((from, to)) = self.find_alternating_interval(before, case) {
                 self.evaluate_cases_part(rest, otherwise, 0, from, out, temps);
                 self.evaluate_cases_part(rest, otherwise, to, out.len(), out, temps);
-                return self.evaluate_part(case.formula(), from, to, out, temps);
+                return self.evaluate_formula_part(case.formula(), from, to, out, temps);
             }
         }
         self.evaluate_cases(cases, otherwise, out, temps);
@@ -306,11 +310,11 @@ impl<S: RowSource> SourceRow<'_, S> {
             Some((from, to)) => {
                 self.evaluate_cases_part(behind, otherwise, 0, from, out, temps);
                 self.evaluate_cases_part(behind, otherwise, to, out.len(), out, temps);
-                self.evaluate_part(case.formula(), from, to, out, temps);
+                self.evaluate_formula_part(case.formula(), from, to, out, temps);
             }
             None => {
                 self.evaluate_after_case(case, behind, otherwise, out, temps);
-                self.apply_case(case, out, temps);
+                self.apply_case_to_row(case, out, temps);
             }
         }
     }

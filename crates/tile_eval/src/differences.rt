@@ -7,17 +7,18 @@ ghost use Rattle.job.specs.Values.{formula_value};
 ghost use Rattle.job.specs.WellFormed.{IsFormula};
 ghost use Rattle.job.specs.Views.{formula_view};
 ghost use Rattle.row_kernels.specs.Differences.{difference_at, HasLines};
-ghost use Rattle.row_kernels.specs.Finishes.{finish_value};
-ghost use Rattle.row_kernels.specs.Rows.{EachPlace, at};
+ghost use Rattle.row_kernels.specs.Finishes.{epilogue_value};
+ghost use Rattle.row_loops.specs.Rows.{EachPlace, at};
 ghost use Rattle.tile_eval.specs.Reading.{ReadsWithin, HasRoom};
 
-use crate::rows::number_along;
+use crate::rows::find_row_constant;
 use crate::source::RowSource;
 use crate::source_row::SourceRow;
 use job::Formula;
 use operators::{BinaryOp, TernaryOp};
 use row_kernels::{
-    ClampedDifference, Finish, add_difference, add_four_differences, add_two_differences,
+    ClampedDifference, Epilogue, add_clamped_difference, add_four_clamped_differences,
+    add_two_clamped_differences,
 };
 
 impl<'a, S: RowSource> SourceRow<'a, S> {
@@ -45,15 +46,18 @@ impl<'a, S: RowSource> SourceRow<'a, S> {
         };
         Some(ClampedDifference {
             factor,
-            left: self.borrow_read(left)?,
-            right: self.borrow_read(right)?,
-            low: number_along(low, &self.points)?,
-            high: number_along(high, &self.points)?,
+            left: self.borrow_read_samples(left)?,
+            right: self.borrow_read_samples(right)?,
+            low: find_row_constant(low, &self.points)?,
+            high: find_row_constant(high, &self.points)?,
         })
     }
 
     /// A formula as a clamped difference of two reads times a factor, if nothing else is to be computed.
-    pub(crate) fn borrow_difference(&self, formula: &Formula) -> Option<ClampedDifference<'a>>
+    pub(crate) fn borrow_clamped_difference(
+        &self,
+        formula: &Formula,
+    ) -> Option<ClampedDifference<'a>>
         requires { ReadsWithin (S.has self.now.source.now) (formula_view formula.now)
             self.now.points.row self.now.points.col self.now.points.len }
         ensures lines { IfSome result (HasLines self.now.points.len) }
@@ -63,7 +67,7 @@ impl<'a, S: RowSource> SourceRow<'a, S> {
     {
         match formula {
             Formula::Binary(BinaryOp::Mul, factor, of) => {
-                self.borrow_scaled_difference(number_along(factor, &self.points)?, of)
+                self.borrow_scaled_difference(find_row_constant(factor, &self.points)?, of)
             }
             _ => self.borrow_scaled_difference(1, formula),
         }
@@ -71,11 +75,11 @@ impl<'a, S: RowSource> SourceRow<'a, S> {
 
     /// Whether a formula is a sum that ends in clamped differences. If it is, writes what an epilogue makes of its values: the
     /// last four or two differences are added in one pass.
-    #[cycle(evaluate)]
-    pub(crate) fn try_differences(
+    #[cycle(evaluate_formula)]
+    pub(crate) fn try_sum_of_differences(
         &self,
         formula: &Formula,
-        finish: Finish,
+        finish: Epilogue,
         out: &mut [i32],
         temps: &mut [i32],
     ) -> bool
@@ -85,36 +89,38 @@ impl<'a, S: RowSource> SourceRow<'a, S> {
             self.now.points.row self.now.points.col (length out.old) }
         requires room { HasRoom (formula_view formula.now) (length out.old) (length temps.old) }
         ensures { IsTrue result → EachPlace (length out.old) (λ k. at out.new k
-            ≡ finish_value finish (formula_value (S.samples self.now.source.now)
+            ≡ epilogue_value finish (formula_value (S.samples self.now.source.now)
             (formula_view formula.now) self.now.points.row (self.now.points.col +ℤ pos k))) }
     {
         let Formula::Binary(BinaryOp::Add, front, fifth) = formula else {
             return false;
         };
-        let Some(fifth) = self.borrow_difference(fifth) else {
+        let Some(fifth) = self.borrow_clamped_difference(fifth) else {
             return false;
         };
         if let Formula::Binary(BinaryOp::Add, front, fourth) = &**front {
-            if let Some(fourth) = self.borrow_difference(fourth) {
+            if let Some(fourth) = self.borrow_clamped_difference(fourth) {
                 if let Formula::Binary(BinaryOp::Add, front, third) = &**front {
                     if let Formula::Binary(BinaryOp::Add, first, second) = &**front {
                         if let (Some(second), Some(third)) = (
-                            self.borrow_difference(second),
-                            self.borrow_difference(third),
+                            self.borrow_clamped_difference(second),
+                            self.borrow_clamped_difference(third),
                         ) {
                             let first = self.compute_operand(first, out, temps);
-                            add_four_differences(out, first, second, third, fourth, fifth, finish);
+                            add_four_clamped_differences(
+                                out, first, second, third, fourth, fifth, finish,
+                            );
                             return true;
                         }
                     }
                 }
                 let first = self.compute_operand(front, out, temps);
-                add_two_differences(out, first, fourth, fifth, finish);
+                add_two_clamped_differences(out, first, fourth, fifth, finish);
                 return true;
             }
         }
         let first = self.compute_operand(front, out, temps);
-        add_difference(out, first, fifth, finish);
+        add_clamped_difference(out, first, fifth, finish);
         true
     }
 }

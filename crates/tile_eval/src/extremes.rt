@@ -1,22 +1,22 @@
 #![tactic(auto)]
 //! Least and greatest numbers of operands that are available, in one pass.
 
-ghost use Rattle.std.specs.Prelude.{◌≡◌, ◌+ℤ◌, ℤ, pos, length, List, IfSome, IsTrue};
+ghost use Rattle.std.specs.Prelude.{◌≡◌, ◌+ℤ◌, ℤ, pos, length, IfSome, IsTrue};
 ghost use Rattle.job.specs.Values.{binary_value, formula_value};
 ghost use Rattle.job.specs.Views.{formula_view};
 ghost use Rattle.row_kernels.specs.Extremes.{extreme_value, extreme_at, opposite, HaveLength};
-ghost use Rattle.row_kernels.specs.Finishes.{finish_value};
-ghost use Rattle.row_kernels.specs.Rows.{EachPlace, at};
+ghost use Rattle.row_kernels.specs.Finishes.{epilogue_value};
+ghost use Rattle.row_loops.specs.Rows.{EachPlace, at};
 ghost use Rattle.tile_eval.specs.Reading.{ReadsWithin};
 
 use crate::source::RowSource;
 use crate::source_row::SourceRow;
 use job::Formula;
 use operators::BinaryOp;
-use row_kernels::{Extreme, Finish, LinePair, write_extremes_of_pairs, write_medians};
+use row_kernels::{Epilogue, Extreme, LinePair, write_extremes_of_pairs, write_medians};
 
 /// Which of its two operands an operator gives, if it is `min` or `max`.
-pub(crate) fn find_extreme(op: BinaryOp) -> Option<Extreme>
+pub(crate) fn find_operator_extreme(op: BinaryOp) -> Option<Extreme>
     ensures { IfSome result
         (λ extreme. (a b : ℤ) → binary_value op a b ≡ extreme_value extreme a b) }
 {
@@ -28,7 +28,7 @@ pub(crate) fn find_extreme(op: BinaryOp) -> Option<Extreme>
 }
 
 /// Whether an operator is `min` for the least, or `max` for the greatest.
-pub(crate) fn is_operator_of(op: BinaryOp, extreme: Extreme) -> bool
+pub(crate) fn is_extreme_operator(op: BinaryOp, extreme: Extreme) -> bool
     ensures { IsTrue result → (a b : ℤ) → binary_value op a b ≡ extreme_value extreme a b }
 {
     match (op, extreme) {
@@ -48,9 +48,9 @@ impl<'a, S: RowSource> SourceRow<'a, S> {
             (formula_view formula.now) self.now.points.row (self.now.points.col +ℤ pos k))) }
     {
         match formula {
-            Formula::Binary(op, a, b) if is_operator_of(*op, extreme) => Some(LinePair {
-                left: self.borrow_read(a)?,
-                right: self.borrow_read(b)?,
+            Formula::Binary(op, a, b) if is_extreme_operator(*op, extreme) => Some(LinePair {
+                left: self.borrow_read_samples(a)?,
+                right: self.borrow_read_samples(b)?,
             }),
             _ => None,
         }
@@ -59,7 +59,7 @@ impl<'a, S: RowSource> SourceRow<'a, S> {
     // The operands of `max` for the least, or of `min` for the greatest, in either order: a formula with an `borrow_extreme_pair`, and
     // a line that can be borrowed from the source.
     #[tactic(auto, using(crate::proofs::Exchanging::extreme_commutes))]
-    fn borrow_pair_and_line(
+    fn borrow_median_lines(
         &self,
         extreme: Extreme,
         formula: &Formula,
@@ -76,12 +76,15 @@ impl<'a, S: RowSource> SourceRow<'a, S> {
         let Formula::Binary(op, a, b) = formula else {
             return None;
         };
-        if !is_operator_of(*op, extreme.opposite()) {
+        if !is_extreme_operator(*op, extreme.opposite()) {
             return None;
         }
         match self.borrow_extreme_pair(extreme, a) {
-            Some(pair) => Some((pair, self.borrow_read(b)?)),
-            None => Some((self.borrow_extreme_pair(extreme, b)?, self.borrow_read(a)?)),
+            Some(pair) => Some((pair, self.borrow_read_samples(b)?)),
+            None => Some((
+                self.borrow_extreme_pair(extreme, b)?,
+                self.borrow_read_samples(a)?,
+            )),
         }
     }
 
@@ -91,7 +94,7 @@ impl<'a, S: RowSource> SourceRow<'a, S> {
         extreme: Extreme,
         a: &Formula,
         b: &Formula,
-        finish: Finish,
+        finish: Epilogue,
         out: &mut [i32],
     ) -> bool
         requires fits { length out.old ≡ self.now.points.len }
@@ -100,7 +103,7 @@ impl<'a, S: RowSource> SourceRow<'a, S> {
         requires right { ReadsWithin (S.has self.now.source.now) (formula_view b.now)
             self.now.points.row self.now.points.col (length out.old) }
         ensures { IsTrue result
-            → EachPlace (length out.old) (λ k. at out.new k ≡ finish_value finish
+            → EachPlace (length out.old) (λ k. at out.new k ≡ epilogue_value finish
             (extreme_value extreme (formula_value (S.samples self.now.source.now)
             (formula_view a.now) self.now.points.row (self.now.points.col +ℤ pos k))
             (formula_value (S.samples self.now.source.now) (formula_view b.now)
@@ -118,13 +121,13 @@ impl<'a, S: RowSource> SourceRow<'a, S> {
         }
     }
 
-    // The same if the first one has a pair of the opposite extreme, and the second one has a `borrow_pair_and_line`.
+    // The same if the first one has a pair of the opposite extreme, and the second one has a `borrow_median_lines`.
     fn try_medians(
         &self,
         extreme: Extreme,
         a: &Formula,
         b: &Formula,
-        finish: Finish,
+        finish: Epilogue,
         out: &mut [i32],
     ) -> bool
         requires fits { length out.old ≡ self.now.points.len }
@@ -133,14 +136,14 @@ impl<'a, S: RowSource> SourceRow<'a, S> {
         requires right { ReadsWithin (S.has self.now.source.now) (formula_view b.now)
             self.now.points.row self.now.points.col (length out.old) }
         ensures { IsTrue result
-            → EachPlace (length out.old) (λ k. at out.new k ≡ finish_value finish
+            → EachPlace (length out.old) (λ k. at out.new k ≡ epilogue_value finish
             (extreme_value extreme (formula_value (S.samples self.now.source.now)
             (formula_view a.now) self.now.points.row (self.now.points.col +ℤ pos k))
             (formula_value (S.samples self.now.source.now) (formula_view b.now)
             self.now.points.row (self.now.points.col +ℤ pos k)))) }
     {
         let pair = self.borrow_extreme_pair(extreme.opposite(), a);
-        match (pair, self.borrow_pair_and_line(extreme, b)) {
+        match (pair, self.borrow_median_lines(extreme, b)) {
             (Some(pair), Some((other, fifth))) => {
                 write_medians(extreme, out, pair, other, fifth, finish);
                 true
@@ -152,19 +155,19 @@ impl<'a, S: RowSource> SourceRow<'a, S> {
     /// Writes what an epilogue makes of the values of a formula, if it is the least or the greatest number of two pairs of lines,
     /// or their median with a fifth line, and all of them can be borrowed from the source. Returns whether it is.
     #[tactic(auto, using(crate::proofs::Exchanging::extreme_commutes))]
-    pub(crate) fn try_extremes(&self, formula: &Formula, finish: Finish, out: &mut [i32]) -> bool
+    pub(crate) fn try_extremes(&self, formula: &Formula, finish: Epilogue, out: &mut [i32]) -> bool
         requires fits { length out.old ≡ self.now.points.len }
         requires reads { ReadsWithin (S.has self.now.source.now) (formula_view formula.now)
             self.now.points.row self.now.points.col (length out.old) }
         ensures { IsTrue result
             → EachPlace (length out.old) (λ k. at out.new k
-            ≡ finish_value finish (formula_value (S.samples self.now.source.now)
+            ≡ epilogue_value finish (formula_value (S.samples self.now.source.now)
             (formula_view formula.now) self.now.points.row (self.now.points.col +ℤ pos k))) }
     {
         let Formula::Binary(op, a, b) = formula else {
             return false;
         };
-        let Some(extreme) = find_extreme(*op) else {
+        let Some(extreme) = find_operator_extreme(*op) else {
             return false;
         };
         self.try_extremes_of_pairs(extreme, a, b, finish, out)

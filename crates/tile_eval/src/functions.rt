@@ -1,25 +1,23 @@
 #![tactic(auto)]
 //! Functions on areas.
 
-ghost use Rattle.std.specs.Prelude.{◌≡◌, length, map, IfOk};
+ghost use Rattle.std.specs.Prelude.{◌≡◌, length, map};
 ghost use Rattle.std.specs.Option.{option_map};
 ghost use Rattle.domains.specs.Span.{len_of};
 ghost use Rattle.domains.specs.Area.{point_count};
 ghost use Rattle.job.specs.Views.{case_view, formula_view};
 ghost use Rattle.tile_eval.specs.Cases.{IsComputable, function_value};
 ghost use Rattle.tile_eval.specs.Reading.{HasFunctionRoom};
-ghost use Rattle.tile_eval.specs.Buffer.{raster};
+ghost use Rattle.tile_eval.specs.Raster.{raster};
 
-use crate::room::function_room;
 use crate::source::RowSource;
 use crate::source_row::SourceRow;
 use domains::Area;
 use job::Function;
 use row_kernels::RowSpan;
-use std::alloc::{AllocError, Global};
 
 /// Writes the values of a function on an area of its domain, row by row. The contents of the operands' buffer have no meaning.
-pub fn area_onto<S: RowSource>(
+pub fn evaluate_function_area<S: RowSource>(
     source: &S,
     function: &Function,
     area: &Area,
@@ -36,29 +34,8 @@ pub fn area_onto<S: RowSource>(
         (map case_view function.now.cases.items)
         (option_map formula_view function.now.otherwise)) }
 {
-    let points = RowSpan::top(area);
+    let points = RowSpan::from_area_top(area);
     let first = SourceRow { source, points };
     let rows = area.rows.len() as usize;
-    first.fill_rows(function, rows, out, temps);
-}
-
-/// The values of a function on its domain, row by row.
-pub fn function_values<S: RowSource>(
-    alloc: Global,
-    source: &S,
-    function: &Function,
-    domain: &Area,
-) -> Result<Vec<i32>, AllocError>
-    requires { IsComputable (S.has source.now) domain.now (map case_view function.now.cases.items)
-        (option_map formula_view function.now.otherwise) }
-    ensures { IfOk result (λ values. values.items
-        ≡ raster domain.now (function_value (S.samples source.now)
-        (map case_view function.now.cases.items)
-        (option_map formula_view function.now.otherwise))) }
-{
-    let room = function_room(function, domain.cols.len() as usize).ok_or(AllocError)?;
-    let mut temps = vec![in alloc; 0; room]?;
-    let mut values = vec![in alloc; 0; domain.points() as usize]?;
-    area_onto(source, function, domain, &mut values, &mut temps);
-    Ok(values)
+    first.evaluate_function_rows(function, rows, out, temps);
 }

@@ -5,7 +5,7 @@ ghost use Rattle.std.specs.Prelude.{◌≡◌, ◌+ℤ◌, ◌≤ℤ◌, pos, le
 ghost use Rattle.domains.specs.Index.{index_at};
 ghost use Rattle.job.specs.Values.{formula_value};
 ghost use Rattle.job.specs.Views.{formula_view};
-ghost use Rattle.row_kernels.specs.Rows.{EachPlace, at};
+ghost use Rattle.row_loops.specs.Rows.{EachPlace, at};
 ghost use Rattle.tile_eval.specs.Reading.{ReadsWithin};
 
 use crate::source::RowSource;
@@ -22,7 +22,7 @@ fn has_unit_scale(index: &Index) -> bool
 
 impl<'a, S: RowSource> SourceRow<'a, S> {
     /// The samples that a read takes.
-    pub(crate) fn write_read(&self, stage: usize, row: &Index, col: &Index, out: &mut [i32])
+    pub(crate) fn write_read_samples(&self, stage: usize, row: &Index, col: &Index, out: &mut [i32])
         requires fits { length out.old ≡ self.now.points.len }
         requires reads { EachPlace (length out.old) (λ k. S.has self.now.source.now stage
             (index_at row.now self.now.points.row)
@@ -31,12 +31,12 @@ impl<'a, S: RowSource> SourceRow<'a, S> {
             ≡ S.samples self.now.source.now stage (index_at row.now self.now.points.row)
             (index_at col.now (self.now.points.col +ℤ pos k))) }
     {
-        let own = self.points.row_at(row);
+        let own = self.points.row_at_index(row);
         if has_unit_scale(col) {
             self.source
-                .read_row(stage, own, self.points.col_at(col), out);
+                .read_row(stage, own, self.points.first_column_at_index(col), out);
         } else {
-            self.source.gather(stage, own, col, &self.points, out);
+            self.source.gather_row(stage, own, col, &self.points, out);
         }
     }
 
@@ -52,13 +52,13 @@ impl<'a, S: RowSource> SourceRow<'a, S> {
             ≡ S.samples self.now.source.now stage (index_at row.now self.now.points.row)
             (index_at col.now (self.now.points.col +ℤ pos k)))) }
     {
-        let row = self.points.row_at(row);
-        let first = self.points.col_at(col);
+        let row = self.points.row_at_index(row);
+        let first = self.points.first_column_at_index(col);
         self.source.borrow_row(stage, row, first, self.points.len)
     }
 
     /// The values of a formula, if it is a read whose samples can be borrowed from the source.
-    pub(crate) fn borrow_read(&self, formula: &Formula) -> Option<&'a [i32]>
+    pub(crate) fn borrow_read_samples(&self, formula: &Formula) -> Option<&'a [i32]>
         requires { ReadsWithin (S.has self.now.source.now) (formula_view formula.now)
             self.now.points.row self.now.points.col self.now.points.len }
         ensures { IfSome result (λ line. (length line.now ≡ self.now.points.len)

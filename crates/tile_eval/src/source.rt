@@ -3,7 +3,7 @@
 
 ghost use Rattle.std.specs.Prelude.{◌≡◌, ◌≤◌, ℕ, ℤ, ◌+ℤ◌, ◌≤ℤ◌, pos, length, IfSome};
 ghost use Rattle.domains.specs.Index.{index_at};
-ghost use Rattle.row_kernels.specs.Rows.{EachPlace, at};
+ghost use Rattle.row_loops.specs.Rows.{EachPlace, at};
 
 use domains::Index;
 use row_kernels::RowSpan;
@@ -28,7 +28,7 @@ pub trait RowSource {
             × EachPlace count (λ k. at line.now k ≡ samples self.now stage row (first +ℤ pos k))) };
 
     /// Writes the samples of a stage along a row, at the columns that an index takes at the columns of some points.
-    fn gather(&self, stage: usize, row: i32, col: &Index, points: &RowSpan, out: &mut [i32])
+    fn gather_row(&self, stage: usize, row: i32, col: &Index, points: &RowSpan, out: &mut [i32])
         requires fits { length out.old ≡ points.now.len }
         requires there { EachPlace (length out.old)
             (λ k. has self.now stage row (index_at col.now (points.now.col +ℤ pos k))) }
@@ -36,12 +36,12 @@ pub trait RowSource {
             ≡ samples self.now stage row (index_at col.now (points.now.col +ℤ pos k))) }
     {
         for k in 0..out.len() {
-            out[k] = self.sample(stage, row, col.at(points.column(k)));
+            out[k] = self.read_sample(stage, row, col.at(points.column(k)));
         }
     }
 
     /// One sample.
-    fn sample(&self, stage: usize, row: i32, col: i32) -> i32
+    fn read_sample(&self, stage: usize, row: i32, col: i32) -> i32
         requires { has self.now stage row col }
         ensures { result ≡ samples self.now stage row col };
 }

@@ -5,17 +5,18 @@ ghost use Rattle.std.specs.Prelude.{◌≡◌, ◌≤◌, ◌<◌, ◌+◌, ◌+
 ghost use Rattle.domains.specs.Arithmetic.{wrapped, floor_div};
 ghost use Rattle.job.specs.Values.{kernel_row, kernel_column, weighted_sum};
 ghost use Rattle.job.specs.WellFormed.{IsDivisor, IsKernel};
-ghost use Rattle.row_kernels.specs.Rows.{EachPlace, at};
-ghost use Rattle.row_kernels.specs.Separable.{IsSeparable};
+ghost use Rattle.row_loops.specs.Rows.{EachPlace, at};
+ghost use Rattle.stencil_kernels.specs.Separable.{IsSeparable};
 ghost use Rattle.tile_eval.specs.Reading.{KernelWithin};
 ghost use Rattle.tile_eval.specs.inside.Stencil.{row_sum, column_sum, IsUnder};
 
 use crate::source::RowSource;
 use crate::source_row::SourceRow;
 use job::Kernel;
-use row_kernels::{
-    Kernel3x1, Kernel3x3, Kernel5x1, Operand, SeparableKernel, add_tap, add_taps, divide_by, fill,
-    write_taps,
+use row_kernels::{Operand, divide_row};
+use row_loops::fill_row;
+use stencil_kernels::{
+    Kernel3x1, Kernel3x3, Kernel5x1, SeparableKernel, add_scaled_row, add_tap_sums, write_tap_sums,
 };
 
 // Along rows of fewer points, splitting a kernel costs more time than it saves.
@@ -32,7 +33,7 @@ fn has_many_factors(kernel: &Kernel) -> bool {
 
 impl<'a, S: RowSource> SourceRow<'a, S> {
     // The samples under a row of a kernel.
-    fn kernel_line(&self, stage: usize, kernel: &Kernel, a: usize, line: &mut [i32])
+    fn read_kernel_line(&self, stage: usize, kernel: &Kernel, a: usize, line: &mut [i32])
         requires kernel { IsKernel kernel.now }
         requires a { a < length kernel.now }
         requires reads { EachPlace (length line.old) (λ j. S.has self.now.source.now stage
@@ -42,8 +43,10 @@ impl<'a, S: RowSource> SourceRow<'a, S> {
             self.now.points.col a line.new }
     {
         let rows = kernel.as_slice();
-        let row = self.points.row_under(rows.len(), a);
-        let col = self.points.col_under(rows[0].as_slice().len());
+        let row = self.points.row_under_kernel(rows.len(), a);
+        let col = self
+            .points
+            .first_column_under_kernel(rows[0].as_slice().len());
         self.source.read_row(stage, row, col, line);
     }
 
@@ -65,13 +68,15 @@ impl<'a, S: RowSource> SourceRow<'a, S> {
             self.now.points.col a line.now) }
     {
         let rows = kernel.as_slice();
-        let row = self.points.row_under(rows.len(), a);
-        let col = self.points.col_under(rows[0].as_slice().len());
+        let row = self.points.row_under_kernel(rows.len(), a);
+        let col = self
+            .points
+            .first_column_under_kernel(rows[0].as_slice().len());
         self.source.borrow_row(stage, row, col, count)
     }
 
     // The samples under a row of a kernel: borrowed from the source, or else written to the buffer for them.
-    fn line_under<'b>(
+    fn borrow_or_read_kernel_line<'b>(
         &'b self,
         stage: usize,
         kernel: &Kernel,
@@ -90,12 +95,18 @@ impl<'a, S: RowSource> SourceRow<'a, S> {
         if let Some(line) = self.borrow_kernel_line(stage, kernel, a, room.len()) {
             return line;
         }
-        self.kernel_line(stage, kernel, a, room);
+        self.read_kernel_line(stage, kernel, a, room);
         room
     }
 
     // Writes what the first row of a kernel gives.
-    fn write_first_row(&self, stage: usize, kernel: &Kernel, out: &mut [i32], temps: &mut [i32])
+    fn write_first_kernel_row(
+        &self,
+        stage: usize,
+        kernel: &Kernel,
+        out: &mut [i32],
+        temps: &mut [i32],
+    )
         requires kernel { IsKernel kernel.now }
         requires reads { KernelWithin (S.has self.now.source.now stage) kernel.now
             self.now.points.row self.now.points.col (length out.old) }
@@ -106,8 +117,8 @@ impl<'a, S: RowSource> SourceRow<'a, S> {
     {
         let factors = kernel.as_slice()[0].as_slice();
         let count = out.len() + factors.len() - 1;
-        let line = self.line_under(stage, kernel, 0, &mut temps[..count]);
-        write_taps(out, line, factors);
+        let line = self.borrow_or_read_kernel_line(stage, kernel, 0, &mut temps[..count]);
+        write_tap_sums(out, line, factors);
     }
 
     // Adds what a row of a kernel gives.
@@ -132,12 +143,18 @@ impl<'a, S: RowSource> SourceRow<'a, S> {
     {
         let factors = kernel.as_slice()[a].as_slice();
         let count = out.len() + factors.len() - 1;
-        let line = self.line_under(stage, kernel, a, &mut temps[..count]);
-        add_taps(out, line, factors);
+        let line = self.borrow_or_read_kernel_line(stage, kernel, a, &mut temps[..count]);
+        add_tap_sums(out, line, factors);
     }
 
     // The sums of a stencil, a row of the kernel at a time.
-    fn sums_by_rows(&self, stage: usize, kernel: &Kernel, out: &mut [i32], temps: &mut [i32])
+    fn evaluate_stencil_by_rows(
+        &self,
+        stage: usize,
+        kernel: &Kernel,
+        out: &mut [i32],
+        temps: &mut [i32],
+    )
         requires kernel { IsKernel kernel.now }
         requires reads { KernelWithin (S.has self.now.source.now stage) kernel.now
             self.now.points.row self.now.points.col (length out.old) }
@@ -146,7 +163,7 @@ impl<'a, S: RowSource> SourceRow<'a, S> {
             ≡ wrapped (weighted_sum kernel.now (S.samples self.now.source.now stage)
             self.now.points.row (self.now.points.col +ℤ pos k))) }
     {
-        self.write_first_row(stage, kernel, out, temps);
+        self.write_first_kernel_row(stage, kernel, out, temps);
         for a in 1..kernel.as_slice().len() {
             self.add_kernel_row(stage, kernel, a, out, temps);
         }
@@ -154,7 +171,7 @@ impl<'a, S: RowSource> SourceRow<'a, S> {
 
     // The sums of a stencil whose kernel has three rows of three factors. Returns false, and writes nothing, if it has not, or if
     // not all that it reads can be borrowed from the source.
-    fn sums_of_square(&self, stage: usize, kernel: &Kernel, out: &mut [i32]) -> bool
+    fn try_stencil_3x3(&self, stage: usize, kernel: &Kernel, out: &mut [i32]) -> bool
         requires kernel { IsKernel kernel.now }
         requires reads { KernelWithin (S.has self.now.source.now stage) kernel.now
             self.now.points.row self.now.points.col (length out.old) }
@@ -163,7 +180,7 @@ impl<'a, S: RowSource> SourceRow<'a, S> {
             ≡ wrapped (weighted_sum kernel.now (S.samples self.now.source.now stage)
             self.now.points.row (self.now.points.col +ℤ pos k))) }
     {
-        let Some(square) = Kernel3x3::of(kernel) else {
+        let Some(square) = Kernel3x3::from_kernel(kernel) else {
             return false;
         };
         let count = out.len() + 2;
@@ -180,7 +197,7 @@ impl<'a, S: RowSource> SourceRow<'a, S> {
     }
 
     // The sums of a stencil whose kernel has three rows of one factor, likewise.
-    fn sums_of_three(&self, stage: usize, kernel: &Kernel, out: &mut [i32]) -> bool
+    fn try_stencil_3x1(&self, stage: usize, kernel: &Kernel, out: &mut [i32]) -> bool
         requires kernel { IsKernel kernel.now }
         requires reads { KernelWithin (S.has self.now.source.now stage) kernel.now
             self.now.points.row self.now.points.col (length out.old) }
@@ -189,7 +206,7 @@ impl<'a, S: RowSource> SourceRow<'a, S> {
             ≡ wrapped (weighted_sum kernel.now (S.samples self.now.source.now stage)
             self.now.points.row (self.now.points.col +ℤ pos k))) }
     {
-        let Some(column) = Kernel3x1::of(kernel) else {
+        let Some(column) = Kernel3x1::from_kernel(kernel) else {
             return false;
         };
         let count = out.len();
@@ -206,7 +223,7 @@ impl<'a, S: RowSource> SourceRow<'a, S> {
     }
 
     // The sums of a stencil whose kernel has five rows of one factor, likewise.
-    fn sums_of_five(&self, stage: usize, kernel: &Kernel, out: &mut [i32]) -> bool
+    fn try_stencil_5x1(&self, stage: usize, kernel: &Kernel, out: &mut [i32]) -> bool
         requires kernel { IsKernel kernel.now }
         requires reads { KernelWithin (S.has self.now.source.now stage) kernel.now
             self.now.points.row self.now.points.col (length out.old) }
@@ -215,7 +232,7 @@ impl<'a, S: RowSource> SourceRow<'a, S> {
             ≡ wrapped (weighted_sum kernel.now (S.samples self.now.source.now stage)
             self.now.points.row (self.now.points.col +ℤ pos k))) }
     {
-        let Some(column) = Kernel5x1::of(kernel) else {
+        let Some(column) = Kernel5x1::from_kernel(kernel) else {
             return false;
         };
         let count = out.len();
@@ -235,7 +252,7 @@ impl<'a, S: RowSource> SourceRow<'a, S> {
 
     // The sums of a stencil, all rows of the kernel at once. Returns whether the kernel has one of these forms and all that it
     // reads can be borrowed from the source.
-    fn sums_at_once(&self, stage: usize, kernel: &Kernel, out: &mut [i32]) -> bool
+    fn try_small_stencil(&self, stage: usize, kernel: &Kernel, out: &mut [i32]) -> bool
         requires kernel { IsKernel kernel.now }
         requires reads { KernelWithin (S.has self.now.source.now stage) kernel.now
             self.now.points.row self.now.points.col (length out.old) }
@@ -244,14 +261,14 @@ impl<'a, S: RowSource> SourceRow<'a, S> {
             ≡ wrapped (weighted_sum kernel.now (S.samples self.now.source.now stage)
             self.now.points.row (self.now.points.col +ℤ pos k))) }
     {
-        self.sums_of_square(stage, kernel, out)
-            || self.sums_of_three(stage, kernel, out)
-            || self.sums_of_five(stage, kernel, out)
+        self.try_stencil_3x3(stage, kernel, out)
+            || self.try_stencil_3x1(stage, kernel, out)
+            || self.try_stencil_5x1(stage, kernel, out)
     }
 
     // Adds up the samples in each column under a kernel, each times the factor of its row. Returns false if not all of them can
     // be borrowed from the source.
-    fn sum_columns(&self, stage: usize, kernel: &Kernel, down: &[i32], sums: &mut [i32]) -> bool
+    fn try_column_sums(&self, stage: usize, kernel: &Kernel, down: &[i32], sums: &mut [i32]) -> bool
         requires kernel { IsKernel kernel.now }
         requires down { length kernel.now ≡ length down.now }
         requires reads { EachPlace (length down.now) (λ a. EachPlace (length sums.old)
@@ -262,19 +279,19 @@ impl<'a, S: RowSource> SourceRow<'a, S> {
             ≡ wrapped (column_sum kernel.now (S.samples self.now.source.now stage)
             self.now.points.row self.now.points.col down.now j)) }
     {
-        fill(sums, 0);
+        fill_row(sums, 0);
         for a in 0..down.len() {
             let Some(line) = self.borrow_kernel_line(stage, kernel, a, sums.len()) else {
                 return false;
             };
-            add_tap(sums, line, down[a]);
+            add_scaled_row(sums, line, down[a]);
         }
         true
     }
 
     // The sums of a stencil whose kernel is separable, first down and then along: n + m products for n rows and m columns.
     // Returns false, and writes no sums, if not all that it reads can be borrowed from the source.
-    fn sums_down_and_along(
+    fn try_stencil_down_and_along(
         &self,
         stage: usize,
         kernel: &Kernel,
@@ -293,17 +310,17 @@ impl<'a, S: RowSource> SourceRow<'a, S> {
             ≡ wrapped (weighted_sum kernel.now (S.samples self.now.source.now stage)
             self.now.points.row (self.now.points.col +ℤ pos k))) }
     {
-        let along = separable.along();
+        let along = separable.row_factors();
         let sums = &mut temps[..out.len() + along.len() - 1];
-        if !self.sum_columns(stage, kernel, separable.down(), sums) {
+        if !self.try_column_sums(stage, kernel, separable.column_factors(), sums) {
             return false;
         }
-        write_taps(out, sums, along);
+        write_tap_sums(out, sums, along);
         true
     }
 
     // The sums of a stencil along a wide row, if its kernel has many factors and is separable, likewise.
-    fn sums_of_separable(
+    fn try_separable_stencil(
         &self,
         stage: usize,
         kernel: &Kernel,
@@ -322,14 +339,16 @@ impl<'a, S: RowSource> SourceRow<'a, S> {
         if out.len() < WIDE || !has_many_factors(kernel) {
             return false;
         }
-        match SeparableKernel::of(kernel) {
-            Some(separable) => self.sums_down_and_along(stage, kernel, &separable, out, temps),
+        match SeparableKernel::from_kernel(kernel) {
+            Some(separable) => self.try_stencil_down_and_along(
+                stage, kernel, &separable, out, temps,
+            ),
             None => false,
         }
     }
 
     /// The values of a stencil.
-    pub(crate) fn stencil(
+    pub(crate) fn evaluate_stencil(
         &self,
         stage: usize,
         divisor: u32,
@@ -346,11 +365,11 @@ impl<'a, S: RowSource> SourceRow<'a, S> {
             ≡ floor_div (wrapped (weighted_sum kernel.now (S.samples self.now.source.now stage)
             self.now.points.row (self.now.points.col +ℤ pos k))) (pos divisor)) }
     {
-        if !self.sums_at_once(stage, kernel, out)
-            && !self.sums_of_separable(stage, kernel, out, temps)
+        if !self.try_small_stencil(stage, kernel, out)
+            && !self.try_separable_stencil(stage, kernel, out, temps)
         {
-            self.sums_by_rows(stage, kernel, out, temps);
+            self.evaluate_stencil_by_rows(stage, kernel, out, temps);
         }
-        divide_by(out, Operand::Written, divisor);
+        divide_row(out, Operand::Written, divisor);
     }
 }

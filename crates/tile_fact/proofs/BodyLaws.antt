@@ -4,15 +4,15 @@ use Rattle.std.specs.Int.{w32, w64, to_be_bytes}
 use Rattle.std.specs.List.{flat_map}
 use Rattle.tile_fact.specs.declared.body.Body.{Body}
 use Rattle.tile_fact.specs.declared.body.Body.TheVariants.{Tile, Partial}
-use Rattle.tile_fact.specs.declared.kind.BodyKind.{BodyKind}
-use Rattle.tile_fact.specs.declared.kind.BodyKind.TheVariants.{OfTile, OfPartial}
+use Rattle.tile_fact.specs.declared.kind.FactBodyKind.{FactBodyKind}
+use Rattle.tile_fact.specs.declared.kind.FactBodyKind.TheVariants.{OfTile, OfPartial}
 use Rattle.tile_fact.specs.Bodies.{IsWithin, numbers}
 use Rattle.tile_fact.specs.FactFile.{AreBytes, number_bytes, body_bytes, HasFittingNumbers}
 use Rattle.tile_fact.specs.Numbers.{kind_byte, bytes_each, most, first_numbers, body_in}
 use Rattle.tile_fact.proofs.BytesLaws.{signed32, signed64, numbers_back, numbers_again}
 use Rattle.tile_fact.proofs.RecordLaws.{count_of_numbers}
 
-pub kind_of : Body → BodyKind
+pub kind_of : Body → FactBodyKind
 kind_of (Tile samples) = OfTile
 kind_of (Partial bins) = OfPartial
 
@@ -47,7 +47,7 @@ body_again (Partial bins) fits =
     let count : length (flat_map (number_bytes w64) bins) / 8 ≡ length bins = omega (arith, both.1) in
     ap Partial (ap (λ (n : ℕ). first_numbers w64 n (flat_map (number_bytes w64) bins)) count ∙ both.0)
 
-pub body_back : (kind : BodyKind) (len : ℕ) (bytes : List ℕ) → length bytes ≡ len * bytes_each kind → AreBytes bytes
+pub body_back : (kind : FactBodyKind) (len : ℕ) (bytes : List ℕ) → length bytes ≡ len * bytes_each kind → AreBytes bytes
     → (body_bytes (body_in kind bytes) ≡ kind_byte kind ∷ (to_be_bytes w32 len ++ bytes)) × HasFittingNumbers (body_in kind bytes)
 body_back OfTile len bytes is fits =
     let count : length bytes / 4 ≡ len = omega arith in

@@ -9,8 +9,8 @@ use Rattle.tile_fact.specs.declared.body.Body.{Body}
 use Rattle.tile_fact.specs.declared.fact.Fact.{Fact}
 use Rattle.tile_fact.specs.declared.fault.FactFault.{FactFault}
 use Rattle.tile_fact.specs.declared.fault.FactFault.TheVariants.{TooLong}
-use Rattle.tile_fact.specs.declared.kind.BodyKind.{BodyKind}
-use Rattle.tile_fact.specs.declared.kind.BodyKind.TheVariants.{OfTile, OfPartial}
+use Rattle.tile_fact.specs.declared.kind.FactBodyKind.{FactBodyKind}
+use Rattle.tile_fact.specs.declared.kind.FactBodyKind.TheVariants.{OfTile, OfPartial}
 use Rattle.tile_fact.specs.Bodies.{numbers}
 use Rattle.tile_fact.specs.FactFile.{AreBytes, IsFact, key_bytes, body_bytes, fact_record}
 use Rattle.tile_fact.specs.Numbers.{kind_byte, bytes_each, most, key_in, body_in, fact_of}
@@ -33,11 +33,11 @@ part_bytes bytes len part rest p h =
 
 -- ---- the steps behind the key
 
-abbrev pub after_len : ℕ → List ℕ → BodyKind → ℕ → List ℕ → Result (Fact × List ℕ) FactFault
+abbrev pub after_len : ℕ → List ℕ → FactBodyKind → ℕ → List ℕ → Result (Fact × List ℕ) FactFault
 after_len total key kind len rest =
     part_read total (len * bytes_each kind) rest >>= λ numbers. Ok (fact_of (key_in key) kind numbers.0, numbers.1)
 
-abbrev pub after_kind : ℕ → List ℕ → BodyKind → List ℕ → Result (Fact × List ℕ) FactFault
+abbrev pub after_kind : ℕ → List ℕ → FactBodyKind → List ℕ → Result (Fact × List ℕ) FactFault
 after_kind total key kind rest = length_read total kind rest >>= λ len. after_len total key kind len.0 len.1
 
 abbrev pub after_key : ℕ → List ℕ → List ℕ → Result (Fact × List ℕ) FactFault
@@ -69,7 +69,7 @@ regroup fact rest =
     ∙ four_parts (key_bytes fact.key) (kind_byte (kind_of fact.body) ∷ []) (to_be_bytes w32 (length (numbers fact.body)))
     (data_of fact.body) rest
 
-made_fact : (key : List ℕ) (kind : BodyKind) (len : ℕ) (raw : List ℕ) → length key ≡ 74 → AreBytes key → length raw ≡ len * bytes_each kind
+made_fact : (key : List ℕ) (kind : FactBodyKind) (len : ℕ) (raw : List ℕ) → length key ≡ 74 → AreBytes key → length raw ≡ len * bytes_each kind
     → len ≤ most kind → AreBytes raw
     → IsFact (fact_of (key_in key) kind raw)
     × (fact_record (fact_of (key_in key) kind raw) ≡ key ++ (kind_byte kind ∷ (to_be_bytes w32 len ++ raw)))
@@ -110,7 +110,7 @@ record_takes total bytes fact rest fits e =
 
 -- ---- what was written
 
-pub kind_again : (total : ℕ) (kind : BodyKind) (rest : List ℕ) → kind_read total (kind_byte kind ∷ rest) ≡ Ok (kind, rest)
+pub kind_again : (total : ℕ) (kind : FactBodyKind) (rest : List ℕ) → kind_read total (kind_byte kind ∷ rest) ≡ Ok (kind, rest)
 unfolding kind_read
 kind_again total OfTile rest = refl
 kind_again total OfPartial rest = refl
@@ -119,18 +119,18 @@ pub count_again : (total n : ℕ) (rest : List ℕ) → n < 2 ^ 32 → count_rea
 unfolding count_read
 count_again total n rest lt = rw (part_again total 4 (to_be_bytes w32 n) rest refl, wide32.again n lt) refl
 
-most_fits : (kind : BodyKind) (n : ℕ) → n ≤ most kind → n < 2 ^ 32
+most_fits : (kind : FactBodyKind) (n : ℕ) → n ≤ most kind → n < 2 ^ 32
 most_fits OfTile n le = omega arith
 most_fits OfPartial n le = omega arith
 
-pub length_again : (total : ℕ) (kind : BodyKind) (n : ℕ) (rest : List ℕ) → n ≤ most kind
+pub length_again : (total : ℕ) (kind : FactBodyKind) (n : ℕ) (rest : List ℕ) → n ≤ most kind
     → length_read total kind (to_be_bytes w32 n ++ rest) ≡ Ok (n, rest)
 unfolding length_read
 length_again total kind n rest le =
     let test : ltb (most kind) n ≡ false = le-ltb _ _ le in
     rw (count_again total n rest (most_fits kind n le), test) refl
 
-pub length_too_long : (total : ℕ) (kind : BodyKind) (n : ℕ) (rest : List ℕ) → n < 2 ^ 32 → most kind < n
+pub length_too_long : (total : ℕ) (kind : FactBodyKind) (n : ℕ) (rest : List ℕ) → n < 2 ^ 32 → most kind < n
     → length_read total kind (to_be_bytes w32 n ++ rest) ≡ Err (TooLong (total - length (to_be_bytes w32 n ++ rest)))
 unfolding length_read
 length_too_long total kind n rest lt long =

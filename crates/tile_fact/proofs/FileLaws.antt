@@ -5,7 +5,7 @@ use Rattle.std.proofs.lemmas.List.{length-append}
 use Rattle.std.proofs.lemmas.List.Concat.{flat_map-cons, flat_map-append}
 use Rattle.std.specs.Int.{w32, to_be_bytes}
 use Rattle.std.specs.List.{flat_map}
-use Rattle.identity.specs.declared.job_ids.Ids.{Ids}
+use Rattle.identity.specs.declared.job_ids.JobId.{JobId}
 use Rattle.tile_fact.specs.declared.fact.Fact.{Fact}
 use Rattle.tile_fact.specs.declared.fault.FactFault.{FactFault}
 use Rattle.tile_fact.specs.declared.fault.FactFault.TheVariants.{BadMagic, Cut, NotRising, BadKind, TooLong, TrailingBytes, Memory, RetiredFact}
@@ -29,7 +29,7 @@ one_behind written xs x rest behind is =
     ap (λ (l : List ℕ). flat_map written xs ++ l) is ∙ sym (append_assoc (flat_map written xs) (written x) behind)
     ∙ ap (λ (l : List ℕ). l ++ behind) (sym one)
 
-module _ (bytes : List ℕ) (retired : List Ids) (count : ℕ) where
+module _ (bytes : List ℕ) (retired : List JobId) (count : ℕ) where
   -- behind these facts this is left
   abbrev pub Behind : List Fact → List ℕ → Type 0
   Behind facts rest = HasRecords bytes retired count facts (length bytes - length rest) rest × AreBytes rest

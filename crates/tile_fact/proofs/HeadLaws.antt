@@ -8,12 +8,12 @@ use Rattle.std.proofs.lemmas.List.{take_all, take_at, drop_at, take-append-drop,
 use Rattle.std.proofs.Math.Dec.{eqb-suc-zero}
 use Rattle.std.specs.Int.{w32, to_be_bytes}
 use Rattle.std.specs.List.{flat_map}
-use Rattle.identity.specs.declared.job_ids.Ids.{Ids}
+use Rattle.identity.specs.declared.job_ids.JobId.{JobId}
 use Rattle.identity.specs.Keys.{ids_cmp}
 use Rattle.tile_fact.specs.declared.fault.FactFault.{FactFault}
 use Rattle.tile_fact.specs.declared.fault.FactFault.TheVariants.{BadMagic, Cut, NotRising, NothingRetired}
-use Rattle.tile_fact.specs.declared.version.Version.{Version}
-use Rattle.tile_fact.specs.declared.version.Version.TheVariants.{OfFacts, OfBoth}
+use Rattle.tile_fact.specs.declared.version.FactFileVersion.{FactFileVersion}
+use Rattle.tile_fact.specs.declared.version.FactFileVersion.TheVariants.{OfFacts, OfBoth}
 use Rattle.tile_fact.specs.FactFile.{magic, retired_magic, AreBytes, IsIds, AreIds, ids_bytes, head_of}
 use Rattle.tile_fact.specs.Faults.{HasIds, IsFault}
 use Rattle.tile_fact.specs.Numbers.{pair_in}
@@ -136,11 +136,11 @@ magic_view bytes (Err e) is = magic_fault bytes e (magic_err 0 (codes "PTF") byt
 
 -- ---- the version
 
-magic_of : Version → List ℕ
+magic_of : FactFileVersion → List ℕ
 magic_of OfFacts = magic
 magic_of OfBoth = retired_magic
 
-abbrev HasMagic : List ℕ → Version × List ℕ → Type 0
+abbrev HasMagic : List ℕ → FactFileVersion × List ℕ → Type 0
 HasMagic bytes x = bytes ≡ magic_of x.0 ++ x.1
 
 -- a test tells whether two numbers are one
@@ -196,33 +196,33 @@ two_halves front len fits =
       },
     )
 
-one_pair : (a b : Ids) → a.program ≡ b.program → a.input ≡ b.input → a ≡ b
+one_pair : (a b : JobId) → a.program ≡ b.program → a.input ≡ b.input → a ≡ b
 one_pair a b p q i = record { program = p i; input = q i }
 
-ids_length : (ids : Ids) → IsIds ids → length (ids_bytes ids) ≡ 64
+ids_length : (ids : JobId) → IsIds ids → length (ids_bytes ids) ≡ 64
 ids_length ids is = omega (arith, length-append ids.program ids.input, is.program.count, is.input.count)
 
-pair_again : (ids : Ids) → IsIds ids → pair_in (ids_bytes ids) ≡ ids
+pair_again : (ids : JobId) → IsIds ids → pair_in (ids_bytes ids) ≡ ids
 pair_again ids is =
     let behind : drop 32 (ids_bytes ids) ≡ ids.input = drop_at ids.program ids.input 32 is.program.count in
     one_pair (pair_in (ids_bytes ids)) ids (take_at ids.program ids.input 32 is.program.count)
     (ap (take 32) behind ∙ take_all 32 ids.input (omega (arith, is.input.count)))
 
-step_again : (total : ℕ) (last : Option Ids) (ids : Ids) (rest : List ℕ) → IsIds ids → is_above ids_cmp last ids ≡ true
+step_again : (total : ℕ) (last : Option JobId) (ids : JobId) (rest : List ℕ) → IsIds ids → is_above ids_cmp last ids ≡ true
     → pair_read total last (ids_bytes ids ++ rest) ≡ Ok (ids, rest)
 step_again total last ids rest is above =
     let bytes = ids_bytes ids ++ rest in
     let len = ids_length ids is in
     let own : pair_in (take 64 bytes) ≡ ids = ap pair_in (take_at (ids_bytes ids) rest 64 len) ∙ pair_again ids is in
     pair_high total last bytes (omega (arith, len, length-append (ids_bytes ids) rest)) (ap (is_above ids_cmp last) own ∙ above)
-    ∙ ap (λ (i : Ids). Ok (i, drop 64 bytes)) own ∙ ap (λ (l : List ℕ). Ok (ids, l)) (drop_at (ids_bytes ids) rest 64 len)
+    ∙ ap (λ (i : JobId). Ok (i, drop 64 bytes)) own ∙ ap (λ (l : List ℕ). Ok (ids, l)) (drop_at (ids_bytes ids) rest 64 len)
 
 module _ (bytes : List ℕ) (count : ℕ) where
   -- behind these identities this is left
-  abbrev BehindIds : List Ids → List ℕ → Type 0
+  abbrev BehindIds : List JobId → List ℕ → Type 0
   BehindIds ids rest = HasIds bytes count ids (length bytes - length rest) rest × AreBytes rest
 
-  module _ (ids : List Ids) (rest : List ℕ) (few : length ids < count) (h : BehindIds ids rest) where
+  module _ (ids : List JobId) (rest : List ℕ) (few : length ids < count) (h : BehindIds ids rest) where
     pair_short : length rest < 64 → IsFault bytes (Cut (length bytes))
     pair_short short = (
       refl,
@@ -230,7 +230,7 @@ module _ (bytes : List ℕ) (count : ℕ) where
     )
 
     module _ (long : 64 ≤ length rest) where
-      pair : Ids
+      pair : JobId
       pair = pair_in (take 64 rest)
 
       halves : (ids_bytes pair ≡ take 64 rest) × IsIds pair
@@ -272,17 +272,17 @@ module _ (bytes : List ℕ) (count : ℕ) where
           → ReadView bytes (IsNext BehindIds ids) (pair_read (length bytes) (last_after None ids) rest)
       unfolding pair
       by_order true high =
-          subst (λ (r : Result (Ids × List ℕ) FactFault). ReadView bytes (IsNext BehindIds ids) r)
+          subst (λ (r : Result (JobId × List ℕ) FactFault). ReadView bytes (IsNext BehindIds ids) r)
           (sym (pair_high (length bytes) (last_after None ids) rest long high)) (pair_more high)
       by_order false low =
-          subst (λ (r : Result (Ids × List ℕ) FactFault). ReadView bytes (IsNext BehindIds ids) r)
+          subst (λ (r : Result (JobId × List ℕ) FactFault). ReadView bytes (IsNext BehindIds ids) r)
           (sym (pair_low (length bytes) (last_after None ids) rest long low)) (pair_low_fault low)
 
-  pair_view : (ids : List Ids) (rest : List ℕ) → length ids < count → BehindIds ids rest
+  pair_view : (ids : List JobId) (rest : List ℕ) → length ids < count → BehindIds ids rest
       → ReadView bytes (IsNext BehindIds ids) (pair_read (length bytes) (last_after None ids) rest)
   pair_view ids rest few h = elim (cases_lt (length rest) 64) [
     | inl short ↦
-        subst (λ (r : Result (Ids × List ℕ) FactFault). ReadView bytes (IsNext BehindIds ids) r)
+        subst (λ (r : Result (JobId × List ℕ) FactFault). ReadView bytes (IsNext BehindIds ids) r)
         (sym (pair_cut (length bytes) (last_after None ids) rest short)) (pair_short ids rest few h short)
     | inr long ↦ by_order ids rest few h long (is_above ids_cmp (last_after None ids) (pair ids rest few h long)) refl
   ]
@@ -303,12 +303,12 @@ count_view bytes behind fits cut = by (count_read (length bytes) behind) refl
 
 -- ---- the retired jobs
 
-head_some : (ids : List Ids) → 0 < length ids → head_of ids ≡ retired_magic ++ (to_be_bytes w32 (length ids) ++ flat_map ids_bytes ids)
+head_some : (ids : List JobId) → 0 < length ids → head_of ids ≡ retired_magic ++ (to_be_bytes w32 (length ids) ++ flat_map ids_bytes ids)
 head_some [] some = absurd (omega arith)
 head_some (i ∷ more) some = refl
 
 -- these are retired, and this is left behind them
-record IsHead (bytes : List ℕ) (retired : List Ids) (rest : List ℕ) : Type 0 where
+record IsHead (bytes : List ℕ) (retired : List JobId) (rest : List ℕ) : Type 0 where
   ids : AreIds retired
   whole : bytes ≡ head_of retired ++ rest
   fits : AreBytes rest
@@ -322,7 +322,7 @@ short_head bytes wanted behind len whole short =
       ap (take 4) whole ∙ take_at wanted behind 4 len ∙ sym (take_all (length bytes) wanted (omega (arith, all, len))),
     )
 
-ids_head : (bytes : List ℕ) (n : ℕ) (ids : List Ids) (rest : List ℕ) → 0 < n → BehindIds bytes n ids rest → length ids ≡ n
+ids_head : (bytes : List ℕ) (n : ℕ) (ids : List JobId) (rest : List ℕ) → 0 < n → BehindIds bytes n ids rest → length ids ≡ n
     → IsHead bytes ids rest
 ids_head bytes n ids rest some h all =
     let count : to_be_bytes w32 n ≡ to_be_bytes w32 (length ids) = ap (to_be_bytes w32) (sym all) in
@@ -346,7 +346,7 @@ as_view : {A : Type 0} (bytes : List ℕ) (P Q : A → Type 0) (r : Result A Fac
 as_view bytes P Q (Ok a) more v = more a v
 as_view bytes P Q (Err e) more v = v
 
-abbrev HasHead : List ℕ → List Ids × List ℕ → Type 0
+abbrev HasHead : List ℕ → List JobId × List ℕ → Type 0
 HasHead bytes x = IsHead bytes x.0 x.1
 
 some_ids : (bytes behind : List ℕ) (x : ℕ × List ℕ) → bytes ≡ retired_magic ++ behind → IsCounted behind x → (b : Bool) → eqb x.0 0 ≡ b
@@ -374,7 +374,7 @@ some_ids bytes behind x whole is false more =
     not_zero zero e = absurd cc
     not_zero (suc n) e = omega arith
 
-retired_view : (bytes : List ℕ) (version : Version) (behind : List ℕ) → bytes ≡ magic_of version ++ behind → AreBytes behind
+retired_view : (bytes : List ℕ) (version : FactFileVersion) (behind : List ℕ) → bytes ≡ magic_of version ++ behind → AreBytes behind
     → ReadView bytes (HasHead bytes) (retired_read (length bytes) version behind)
 unfolding retired_read magic_of
 retired_view bytes OfFacts behind whole fits =
@@ -394,14 +394,14 @@ retired_view bytes OfBoth behind whole fits =
 -- ---- the head
 
 -- what is read behind the version
-abbrev pub after_version : ℕ → Version × List ℕ → Result (List Ids × ℕ × List ℕ) FactFault
+abbrev pub after_version : ℕ → FactFileVersion × List ℕ → Result (List JobId × ℕ × List ℕ) FactFault
 after_version total version =
     retired_read total version.0 version.1 >>= λ retired. count_read total retired.1 >>= λ count. Ok (retired.0, count.0, count.1)
 
-abbrev pub StartsRecords : List ℕ → List Ids × ℕ × List ℕ → Type 0
+abbrev pub StartsRecords : List ℕ → List JobId × ℕ × List ℕ → Type 0
 StartsRecords bytes h = Behind bytes h.0 h.1 [] h.2
 
-starts : (bytes : List ℕ) (x : List Ids × List ℕ) → HasHead bytes x
+starts : (bytes : List ℕ) (x : List JobId × List ℕ) → HasHead bytes x
     → ReadView bytes (StartsRecords bytes) (count_read (length bytes) x.1 >>= λ count. Ok (x.0, count.0, count.1))
 starts bytes x head =
     then_view bytes (IsCounted x.1) (StartsRecords bytes) (count_read (length bytes) x.1) (λ count. Ok (x.0, count.0, count.1))
@@ -443,7 +443,7 @@ head_view bytes fits =
 
 -- ---- what was written is read again
 
-version_again : (version : Version) (rest : List ℕ)
+version_again : (version : FactFileVersion) (rest : List ℕ)
     → head_read (magic_of version ++ rest) ≡ after_version (length (magic_of version ++ rest)) (version, rest)
 unfolding head_read magic_read version_read magic_of
 version_again OfFacts rest = refl
@@ -453,7 +453,7 @@ none_again : (total n : ℕ) (rest : List ℕ) → n < 2 ^ 32 → after_version 
 unfolding retired_read
 none_again total n rest lt = rw (count_again total n rest lt) refl
 
-some_again : (total : ℕ) (ids : List Ids) (n : ℕ) (rest : List ℕ) → 0 < length ids → AreIds ids → n < 2 ^ 32
+some_again : (total : ℕ) (ids : List JobId) (n : ℕ) (rest : List ℕ) → 0 < length ids → AreIds ids → n < 2 ^ 32
     → after_version total (OfBoth, to_be_bytes w32 (length ids) ++ (flat_map ids_bytes ids ++ (to_be_bytes w32 n ++ rest))) ≡ Ok (ids, n, rest)
 unfolding retired_read
 some_again total ids n rest some are lt =
@@ -468,7 +468,7 @@ some_again total ids n rest some are lt =
     not_none zero h = absurd (omega arith)
     not_none (suc n) h = eqb-suc-zero n
 
-pub head_again : (retired : List Ids) (n : ℕ) (rest : List ℕ) → AreIds retired → n < 2 ^ 32
+pub head_again : (retired : List JobId) (n : ℕ) (rest : List ℕ) → AreIds retired → n < 2 ^ 32
     → head_read (head_of retired ++ (to_be_bytes w32 n ++ rest)) ≡ Ok (retired, n, rest)
 unfolding magic_of
 head_again [] n rest are lt = version_again OfFacts (to_be_bytes w32 n ++ rest) ∙ none_again _ n rest lt

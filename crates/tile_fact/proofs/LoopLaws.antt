@@ -4,7 +4,7 @@ use Rattle.std.proofs.Common.{Some, Result, Ok, Err, refl, sym, ap, subst, ◌�
 use Rattle.std.proofs.lemmas.Bool.{eqb-true}
 use Rattle.std.proofs.Math.Dec.{eqb-suc-zero}
 use Rattle.std.specs.Prelude.{◌==◌}
-use Rattle.identity.specs.declared.job_ids.Ids.{Ids}
+use Rattle.identity.specs.declared.job_ids.JobId.{JobId}
 use Rattle.tile_fact.specs.declared.fact.Fact.{Fact}
 use Rattle.tile_fact.specs.declared.fault.FactFault.{FactFault}
 use Rattle.tile_fact.specs.declared.fault.FactFault.TheVariants.{NotRising, TrailingBytes, RetiredFact}
@@ -71,7 +71,7 @@ module _ {X : Type 0} (step : Option X → List ℕ → Result (X × List ℕ) F
 
 -- ---- a record
 
-module _ (total : ℕ) (retired : List Ids) (last : Option Fact) (bytes : List ℕ) where
+module _ (total : ℕ) (retired : List JobId) (last : Option Fact) (bytes : List ℕ) where
   pub fact_err : (e : FactFault) → record_read total bytes ≡ Err e → fact_read total retired last bytes ≡ Err e
   unfolding fact_read
   fact_err e h = rw h refl
@@ -92,7 +92,7 @@ module _ (total : ℕ) (retired : List Ids) (last : Option Fact) (bytes : List �
   fact_next x h high live = rw (h, high, live) refl
 
 -- where a record is read, and its fact may stand here, it is the step's answer
-pub fact_of_step : (total : ℕ) (retired : List Ids) (last : Option Fact) (bytes : List ℕ) (x : Fact × List ℕ)
+pub fact_of_step : (total : ℕ) (retired : List JobId) (last : Option Fact) (bytes : List ℕ) (x : Fact × List ℕ)
     → record_read total bytes ≡ Ok x → IsRead (fact_read total retired last bytes) → fact_read total retired last bytes ≡ Ok x
 unfolding fact_read
 fact_of_step total retired last bytes x h read =
@@ -109,7 +109,7 @@ fact_of_step total retired last bytes x h read =
 
 -- ---- the records as a whole
 
-module _ (total : ℕ) (retired : List Ids) (count : ℕ) (bytes : List ℕ) where
+module _ (total : ℕ) (retired : List JobId) (count : ℕ) (bytes : List ℕ) where
   pub body_fails : (e : FactFault) → list_read (fact_read total retired) count None bytes ≡ Err e
       → body_read total retired count bytes ≡ Err e
   unfolding body_read
@@ -145,14 +145,14 @@ read_ends total facts (byte ∷ rest) read = absurd (never_read _ _ (ends_late t
 
 -- ---- what the loops give
 
-pub checked : (facts : List Fact) (total : ℕ) (retired : List Ids) (count : ℕ) (bytes rest : List ℕ)
+pub checked : (facts : List Fact) (total : ℕ) (retired : List JobId) (count : ℕ) (bytes rest : List ℕ)
     → list_read (fact_read total retired) count None bytes ≡ Ok (facts, rest)
     → length rest ≡ 0 → IsRead (body_read total retired count bytes)
 checked facts total retired count bytes rest h none =
     is_read _ facts (body_ends total retired count bytes rest facts h ∙ ends_well total facts rest none)
 
 -- the facts of records that were checked
-pub are_all : (total : ℕ) (retired : List Ids) (count : ℕ) (bytes rest : List ℕ) (facts : List Fact)
+pub are_all : (total : ℕ) (retired : List JobId) (count : ℕ) (bytes rest : List ℕ) (facts : List Fact)
     → IsRead (body_read total retired count bytes) → list_read (fact_read total retired) count None bytes ≡ Ok (facts, rest)
     → body_read total retired count bytes ≡ Ok facts
 are_all total retired count bytes rest facts read h =

@@ -8,7 +8,7 @@ use Rattle.tile_fact.specs.declared.fact.Fact.{Fact}
 use Rattle.tile_fact.specs.declared.fault.FactFault.{FactFault}
 use Rattle.tile_fact.specs.declared.fault.FactFault.TheVariants.{BadMagic, Cut, NotRising, BadKind, TooLong, TrailingBytes, Memory, RetiredFact}
 use Rattle.tile_fact.specs.declared.fault.FactFault.TheVariants.{NothingRetired}
-use Rattle.tile_fact.specs.declared.kind.BodyKind.{BodyKind}
+use Rattle.tile_fact.specs.declared.kind.FactBodyKind.{FactBodyKind}
 use Rattle.tile_fact.specs.FactFile.{AreBytes}
 use Rattle.tile_fact.specs.Faults.{IsCutRecord}
 use Rattle.tile_fact.specs.Numbers.{kind_byte, bytes_each, most, key_in, fact_of}
@@ -31,7 +31,7 @@ IsRecordFault total start bytes (NotRising at) = ⊥
 IsRecordFault total start bytes (BadKind at) =
     (key : List ℕ) × (byte : ℕ) × (body : List ℕ) × (bytes ≡ key ++ byte ∷ body) × (length key ≡ 74) × (1 < byte) × (at ≡ start + 74)
 IsRecordFault total start bytes (TooLong at) =
-    (key : List ℕ) × (kind : BodyKind) × (len : ℕ) × (behind : List ℕ) × (bytes ≡ key ++ kind_byte kind ∷ (to_be_bytes w32 len ++ behind))
+    (key : List ℕ) × (kind : FactBodyKind) × (len : ℕ) × (behind : List ℕ) × (bytes ≡ key ++ kind_byte kind ∷ (to_be_bytes w32 len ++ behind))
     × (length key ≡ 74)
     × (len < 2 ^ 32) × (most kind < len) × (at ≡ start + 75)
 IsRecordFault total start bytes (TrailingBytes at) = ⊥
@@ -67,7 +67,7 @@ guard_len : (b : Bool) (d e : FactFault) (x : ℕ × List ℕ) → cond b (Err d
 guard_len true d e x h = (refl, cc)
 guard_len false d e x h = absurd cc
 
-length_fails : (total : ℕ) (kind : BodyKind) (bytes : List ℕ) (e : FactFault) → length_read total kind bytes ≡ Err e
+length_fails : (total : ℕ) (kind : FactBodyKind) (bytes : List ℕ) (e : FactFault) → length_read total kind bytes ≡ Err e
     → ((length bytes < 4) × (e ≡ Cut total))
     ⊎ ((x : ℕ × List ℕ) × (count_read total bytes ≡ Ok x) × (most kind < x.0) × (e ≡ TooLong (total - length bytes)))
 unfolding length_read
@@ -88,7 +88,7 @@ count_whole total bytes n rest fits h =
     let below : from_be_bytes w32 c.0 < 2 ^ 32 = wide32.below c.0 both.0 in
     (c.1.whole ∙ ap (λ (l : List ℕ). l ++ rest) (sym four), subst (λ (k : ℕ). k < 2 ^ 32) (sym c.2) below, both.1)
 
-length_fault : (total start : ℕ) (bytes key : List ℕ) (kind : BodyKind) (rest : List ℕ) (e : FactFault) → start + length bytes ≡ total
+length_fault : (total start : ℕ) (bytes key : List ℕ) (kind : FactBodyKind) (rest : List ℕ) (e : FactFault) → start + length bytes ≡ total
     → bytes ≡ key ++ (kind_byte kind ∷ rest) → length key ≡ 74
     → AreBytes rest → length_read total kind rest ≡ Err e → IsRecordFault total start bytes e
 length_fault total start bytes key kind rest e place whole len fits h = elim (length_fails total kind rest e h) [
@@ -101,7 +101,7 @@ length_fault total start bytes key kind rest e place whole len fits h = elim (le
       (key, kind, x.0, x.1, whole ∙ ap (λ (l : List ℕ). key ++ (kind_byte kind ∷ l)) c.0, len, c.1, long, at)
 ]
 
-numbers_fault : (total start : ℕ) (bytes key : List ℕ) (kind : BodyKind) (n : ℕ) (rest : List ℕ) (e : FactFault)
+numbers_fault : (total start : ℕ) (bytes key : List ℕ) (kind : FactBodyKind) (n : ℕ) (rest : List ℕ) (e : FactFault)
     → bytes ≡ key ++ (kind_byte kind ∷ (to_be_bytes w32 n ++ rest)) → length key ≡ 74
     → n ≤ most kind → after_len total key kind n rest ≡ Err e → IsRecordFault total start bytes e
 numbers_fault total start bytes key kind n rest e whole len fits h =
@@ -127,8 +127,8 @@ record_faults total start bytes e place fits h =
           let key_fits = part_bytes _ _ _ _ k fits in
           elim (bind_err (kind_read total key.1) (λ kind. after_kind total key.0 kind.0 kind.1) e f) [
             | inl g ↦ kind_fault total start bytes key.0 key.1 e place k.whole k.len_is g
-            | inr (kind, read_kind, g) ↦
-                let d = kind_takes total key.1 kind.0 kind.1 read_kind in
+            | inr (kind, read_fact_body_kind, g) ↦
+                let d = kind_takes total key.1 kind.0 kind.1 read_fact_body_kind in
                 let whole = k.whole ∙ ap (λ (l : List ℕ). key.0 ++ l) d in
                 let kind_fits = behind_bytes (kind_byte kind.0 ∷ []) kind.1 (subst (λ (l : List ℕ). AreBytes l) d key_fits.1) in
                 elim (bind_err (length_read total kind.0 kind.1) (λ len. after_len total key.0 kind.0 len.0 len.1) e g) [

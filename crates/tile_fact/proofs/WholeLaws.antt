@@ -3,7 +3,7 @@ use Rattle.std.proofs.Common.{◌≡◌, ℕ, ◌^◌, ◌<◌, inl, inr, false,
 use Rattle.std.proofs.Common.{Result, Ok, Err, refl, sym, ap, subst, ◌∙◌, append-nil, arith}
 use Rattle.std.specs.Int.{w32, to_be_bytes}
 use Rattle.std.specs.List.{flat_map}
-use Rattle.identity.specs.declared.job_ids.Ids.{Ids}
+use Rattle.identity.specs.declared.job_ids.JobId.{JobId}
 use Rattle.tile_fact.specs.declared.fact.Fact.{Fact}
 use Rattle.tile_fact.specs.declared.fault.FactFault.{FactFault}
 use Rattle.tile_fact.specs.declared.fault.FactFault.TheVariants.{Memory}
@@ -20,7 +20,7 @@ use Rattle.tile_fact.proofs.ViewLaws.{ReadView, then_view, AreNext, list_again, 
 
 -- ---- the file of some jobs and facts is read as these
 
-body_again : (total : ℕ) (retired : List Ids) (facts : List Fact) → AreContents retired facts
+body_again : (total : ℕ) (retired : List JobId) (facts : List Fact) → AreContents retired facts
     → body_read total retired (length facts) (flat_map fact_record facts) ≡ Ok facts
 unfolding body_read end_read
 body_again total retired facts is =
@@ -32,7 +32,7 @@ body_again total retired facts is =
     (all_both IsFact (λ f. is_retired retired f ≡ false) facts is.facts_are.each is.apart) is.facts_are.rise in
     rw records refl
 
-pub file_again : (bytes : List ℕ) (retired : List Ids) (facts : List Fact) → IsFactFile bytes retired facts
+pub file_again : (bytes : List ℕ) (retired : List JobId) (facts : List Fact) → IsFactFile bytes retired facts
     → file_read bytes ≡ Ok (retired, facts)
 unfolding file_read
 file_again bytes retired facts is =
@@ -44,10 +44,10 @@ file_again bytes retired facts is =
 
 -- ---- what is read
 
-abbrev pub HasContents : List ℕ → List Ids × List Fact → Type 0
+abbrev pub HasContents : List ℕ → List JobId × List Fact → Type 0
 HasContents bytes x = IsFactFile bytes x.0 x.1
 
-module _ (bytes : List ℕ) (retired : List Ids) (count : ℕ) where
+module _ (bytes : List ℕ) (retired : List JobId) (count : ℕ) where
   whole_file : (facts : List Fact) → AreNext (Behind bytes retired count) count [] (facts, []) → IsFactFile bytes retired facts
   whole_file facts v =
       let has = v.0.0 in
@@ -93,35 +93,35 @@ file_view bytes fits =
 
 -- ---- what callers see
 
-pub is_found : (bytes : List ℕ) (x : List Ids × List Fact) → AreBytes bytes → file_read bytes ≡ Ok x → IsFactFile bytes x.0 x.1
+pub is_found : (bytes : List ℕ) (x : List JobId × List Fact) → AreBytes bytes → file_read bytes ≡ Ok x → IsFactFile bytes x.0 x.1
 is_found bytes x fits e =
-    subst (λ (r : Result (List Ids × List Fact) FactFault). ReadView bytes (HasContents bytes) r) e (file_view bytes fits)
+    subst (λ (r : Result (List JobId × List Fact) FactFault). ReadView bytes (HasContents bytes) r) e (file_view bytes fits)
 
-pub same_contents : (bytes : List ℕ) (x : List Ids × List Fact) (retired : List Ids) (facts : List Fact) → file_read bytes ≡ Ok x
+pub same_contents : (bytes : List ℕ) (x : List JobId × List Fact) (retired : List JobId) (facts : List Fact) → file_read bytes ≡ Ok x
     → IsFactFile bytes retired facts → x ≡ (retired, facts)
 same_contents bytes x retired facts e is = same_ok x (retired, facts) (sym e ∙ file_again bytes retired facts is)
   where
-    same_ok : (a b : List Ids × List Fact) → (let r : Result (List Ids × List Fact) FactFault = Ok a in r) ≡ Ok b → a ≡ b
+    same_ok : (a b : List JobId × List Fact) → (let r : Result (List JobId × List Fact) FactFault = Ok a in r) ≡ Ok b → a ≡ b
     same_ok a b h = cc
 
 -- no bytes are two files
-pub one_file : (bytes : List ℕ) (jobs others : List Ids) (facts other_facts : List Fact) → IsFactFile bytes jobs facts
+pub one_file : (bytes : List ℕ) (jobs others : List JobId) (facts other_facts : List Fact) → IsFactFile bytes jobs facts
     → IsFactFile bytes others other_facts → (jobs ≡ others) × (facts ≡ other_facts)
 one_file bytes jobs others facts other_facts is also =
     let same = same_contents bytes (jobs, facts) others other_facts (file_again bytes jobs facts is) also in
-    (ap (λ (x : List Ids × List Fact). x.0) same, ap (λ (x : List Ids × List Fact). x.1) same)
+    (ap (λ (x : List JobId × List Fact). x.0) same, ap (λ (x : List JobId × List Fact). x.1) same)
 
-pub is_memory : (bytes : List ℕ) (retired : List Ids) (facts : List Fact) (e : FactFault) → Fails e (file_read bytes)
+pub is_memory : (bytes : List ℕ) (retired : List JobId) (facts : List Fact) (e : FactFault) → Fails e (file_read bytes)
     → IsFactFile bytes retired facts → e ≡ Memory
 is_memory bytes retired facts e f is = elim f [
   | inl failed ↦ absurd (not_both (retired, facts) e (sym (file_again bytes retired facts is) ∙ failed))
   | inr (memory, read) ↦ memory
 ]
   where
-    not_both : (a : List Ids × List Fact) (e : FactFault) → (let r : Result (List Ids × List Fact) FactFault = Ok a in r) ≡ Err e → ⊥
+    not_both : (a : List JobId × List Fact) (e : FactFault) → (let r : Result (List JobId × List Fact) FactFault = Ok a in r) ≡ Err e → ⊥
     not_both a e h = cc
 
-memory_fault : (bytes : List ℕ) (r : Result (List Ids × List Fact) FactFault) → ReadView bytes (HasContents bytes) r → IsRead r
+memory_fault : (bytes : List ℕ) (r : Result (List JobId × List Fact) FactFault) → ReadView bytes (HasContents bytes) r → IsRead r
     → IsFault bytes Memory
 memory_fault bytes (Ok x) v read = (x.0, x.1, v)
 memory_fault bytes (Err e) v read = absurd read
@@ -129,7 +129,7 @@ memory_fault bytes (Err e) v read = absurd read
 pub is_fault : (bytes : List ℕ) (e : FactFault) → AreBytes bytes → Fails e (file_read bytes) → IsFault bytes e
 is_fault bytes e fits f = elim f [
   | inl failed ↦
-      subst (λ (r : Result (List Ids × List Fact) FactFault). ReadView bytes (HasContents bytes) r) failed (file_view bytes fits)
+      subst (λ (r : Result (List JobId × List Fact) FactFault). ReadView bytes (HasContents bytes) r) failed (file_view bytes fits)
   | inr (memory, read) ↦ subst (λ (d : FactFault). IsFault bytes d) (sym memory)
       (memory_fault bytes (file_read bytes) (file_view bytes fits) read)
 ]

@@ -4,7 +4,7 @@ use Rattle.std.specs.Int.RustNames.{FitsSigned}
 use Rattle.std.specs.List.{flat_map, list_any, AllByRecursion}
 use Rattle.std.specs.Ordering.{eq_by_cmp}
 use Rattle.std.specs.Prelude.{◌≡◌, ℕ, ℤ, ◌<◌, ◌^◌, Bool, false, List, [], ◌∷◌, ◌++◌, length, slice_index, codes}
-use Rattle.identity.specs.declared.job_ids.Ids.{Ids}
+use Rattle.identity.specs.declared.job_ids.JobId.{JobId}
 use Rattle.identity.specs.declared.key.Key.{Key}
 use Rattle.identity.specs.Keys.{ids_in, ids_cmp}
 use Rattle.tile_fact.specs.declared.body.Body.{Body}
@@ -38,11 +38,11 @@ body_bytes (Partial bins) = 1 ∷ (to_be_bytes w32 (length bins) ++ flat_map (nu
 abbrev pub fact_record : Fact → List ℕ
 fact_record fact = key_bytes fact.key ++ body_bytes fact.body
 
-abbrev pub ids_bytes : Ids → List ℕ
+abbrev pub ids_bytes : JobId → List ℕ
 ids_bytes ids = ids.program ++ ids.input
 
 -- the magic, and if jobs are retired their number and their identities
-abbrev pub head_of : List Ids → List ℕ
+abbrev pub head_of : List JobId → List ℕ
 head_of [] = magic
 head_of (ids ∷ more) = retired_magic ++ (to_be_bytes w32 (length (ids ∷ more)) ++ flat_map ids_bytes (ids ∷ more))
 
@@ -50,7 +50,7 @@ abbrev pub records_of : List Fact → List ℕ
 records_of facts = to_be_bytes w32 (length facts) ++ flat_map fact_record facts
 
 -- the one spelling of a list of retired jobs and a list of facts
-abbrev pub fact_file : List Ids → List Fact → List ℕ
+abbrev pub fact_file : List JobId → List Fact → List ℕ
 fact_file retired facts = head_of retired ++ records_of facts
 
 -- ---- what has a spelling
@@ -84,29 +84,29 @@ pub record AreFacts (facts : List Fact) : Type 0 where
   pub each : AllByRecursion IsFact facts
   pub rise : Rises facts
 
-pub record IsIds (ids : Ids) : Type 0 where
+pub record IsIds (ids : JobId) : Type 0 where
   pub program : IsDigest ids.program
   pub input : IsDigest ids.input
 
-pub record AreIds (retired : List Ids) : Type 0 where
+pub record AreIds (retired : List JobId) : Type 0 where
   pub count : length retired < 2 ^ 32
   pub each : AllByRecursion IsIds retired
   pub rise : IdsRise retired
 
 -- whether the fact is of one of these jobs
-abbrev pub is_retired : List Ids → Fact → Bool
+abbrev pub is_retired : List JobId → Fact → Bool
 is_retired retired fact = list_any (eq_by_cmp ids_cmp (ids_in fact.key)) retired
 
 -- no fact is of a retired job
-abbrev pub AreApart : List Ids → List Fact → Type 0
+abbrev pub AreApart : List JobId → List Fact → Type 0
 AreApart retired facts = AllByRecursion (λ fact. is_retired retired fact ≡ false) facts
 
-pub record AreContents (retired : List Ids) (facts : List Fact) : Type 0 where
+pub record AreContents (retired : List JobId) (facts : List Fact) : Type 0 where
   pub ids : AreIds retired
   pub facts_are : AreFacts facts
   pub apart : AreApart retired facts
 
 -- these bytes are the file of these retired jobs and these facts
-pub record IsFactFile (bytes : List ℕ) (retired : List Ids) (facts : List Fact) : Type 0 where
+pub record IsFactFile (bytes : List ℕ) (retired : List JobId) (facts : List Fact) : Type 0 where
   pub contents : AreContents retired facts
   pub spelled : bytes ≡ fact_file retired facts

@@ -2,12 +2,12 @@
 use Rattle.std.specs.Int.{w32, to_be_bytes}
 use Rattle.std.specs.List.{flat_map, AllByRecursion}
 use Rattle.std.specs.Prelude.{◌≡◌, ◌≢◌, ℕ, ◌+◌, ◌*◌, ◌<◌, ◌≤◌, ◌^◌, ◌⊎◌, true, List, [], ◌∷◌, ◌++◌, length, take, slice_index}
-use Rattle.identity.specs.declared.job_ids.Ids.{Ids}
+use Rattle.identity.specs.declared.job_ids.JobId.{JobId}
 use Rattle.tile_fact.specs.declared.fact.Fact.{Fact}
 use Rattle.tile_fact.specs.declared.fault.FactFault.{FactFault}
 use Rattle.tile_fact.specs.declared.fault.FactFault.TheVariants.{BadMagic, Cut, NotRising, BadKind, TooLong, TrailingBytes, Memory, RetiredFact}
 use Rattle.tile_fact.specs.declared.fault.FactFault.TheVariants.{NothingRetired}
-use Rattle.tile_fact.specs.declared.kind.BodyKind.{BodyKind}
+use Rattle.tile_fact.specs.declared.kind.FactBodyKind.{FactBodyKind}
 use Rattle.tile_fact.specs.FactFile.{magic, retired_magic, fact_record, ids_bytes, head_of, is_retired, IsFact, IsIds, AreIds, AreApart}
 use Rattle.tile_fact.specs.FactFile.{IsFactFile}
 use Rattle.tile_fact.specs.Numbers.{kind_byte, bytes_each, most}
@@ -31,7 +31,7 @@ pub record EndsInHead (bytes : List ℕ) : Type 0 where
 -- ---- the retired jobs
 
 -- the head with its count, which is not 0, the first identities, which rise, and the rest, which begins at this place
-pub record HasIds (bytes : List ℕ) (count : ℕ) (ids : List Ids) (at : ℕ) (rest : List ℕ) : Type 0 where
+pub record HasIds (bytes : List ℕ) (count : ℕ) (ids : List JobId) (at : ℕ) (rest : List ℕ) : Type 0 where
   pub some : 0 < count
   pub count_fits : count < 2 ^ 32
   pub each : AllByRecursion IsIds ids
@@ -42,7 +42,7 @@ pub record HasIds (bytes : List ℕ) (count : ℕ) (ids : List Ids) (at : ℕ) (
 -- the bytes end before the two identities of a job, which have 64 bytes, or the count of facts after them all are complete
 pub record EndsInIds (bytes : List ℕ) : Type 0 where
   pub count : ℕ
-  pub ids : List Ids
+  pub ids : List JobId
   pub start : ℕ
   pub rest : List ℕ
   pub has : HasIds bytes count ids start rest
@@ -51,8 +51,8 @@ pub record EndsInIds (bytes : List ℕ) : Type 0 where
 -- whole identities begin here, and they are not above those before
 pub record HasLowIds (bytes : List ℕ) (at : ℕ) : Type 0 where
   pub count : ℕ
-  pub ids : List Ids
-  pub low_ids : Ids
+  pub ids : List JobId
+  pub low_ids : JobId
   pub behind : List ℕ
   pub has : HasIds bytes count ids at (ids_bytes low_ids ++ behind)
   pub few : length ids < count
@@ -69,7 +69,7 @@ pub record HasNoIds (bytes : List ℕ) (at : ℕ) : Type 0 where
 
 -- the head with its count; records of the first facts, which rise and are of no retired job; and the rest, which begins at this
 -- place
-pub record HasRecords (bytes : List ℕ) (retired : List Ids) (count : ℕ) (facts : List Fact) (at : ℕ) (rest : List ℕ) : Type 0 where
+pub record HasRecords (bytes : List ℕ) (retired : List JobId) (count : ℕ) (facts : List Fact) (at : ℕ) (rest : List ℕ) : Type 0 where
   pub ids : AreIds retired
   pub count_fits : count < 2 ^ 32
   pub each : AllByRecursion IsFact facts
@@ -80,14 +80,14 @@ pub record HasRecords (bytes : List ℕ) (retired : List Ids) (count : ℕ) (fac
 
 -- the same, where at least one more record is to come
 pub record AwaitsRecord (bytes : List ℕ) (at : ℕ) (rest : List ℕ) : Type 0 where
-  pub retired : List Ids
+  pub retired : List JobId
   pub count : ℕ
   pub facts : List Fact
   pub has : HasRecords bytes retired count facts at rest
   pub few : length facts < count
 
 -- the length after the kind is cut; or it is allowed, and too few bytes for so many numbers follow it
-abbrev pub IsCutBody : BodyKind → List ℕ → Type 0
+abbrev pub IsCutBody : FactBodyKind → List ℕ → Type 0
 IsCutBody kind body =
     (length body < 4)
     ⊎ ((len : ℕ) × (numbers : List ℕ) × (body ≡ to_be_bytes w32 len ++ numbers) × (len ≤ most kind)
@@ -97,7 +97,7 @@ IsCutBody kind body =
 abbrev pub IsCutRecord : List ℕ → Type 0
 IsCutRecord rest =
     (length rest ≤ 74)
-    ⊎ ((key : List ℕ) × (kind : BodyKind) × (body : List ℕ) × (rest ≡ key ++ kind_byte kind ∷ body) × (length key ≡ 74) × IsCutBody kind body)
+    ⊎ ((key : List ℕ) × (kind : FactBodyKind) × (body : List ℕ) × (rest ≡ key ++ kind_byte kind ∷ body) × (length key ≡ 74) × IsCutBody kind body)
 
 pub record EndsInRecord (bytes : List ℕ) : Type 0 where
   pub start : ℕ
@@ -120,7 +120,7 @@ pub record HasBadKind (bytes : List ℕ) (at : ℕ) : Type 0 where
 pub record HasLongRecord (bytes : List ℕ) (at : ℕ) : Type 0 where
   pub start : ℕ
   pub key : List ℕ
-  pub kind : BodyKind
+  pub kind : FactBodyKind
   pub len : ℕ
   pub behind : List ℕ
   pub awaits : AwaitsRecord bytes start (key ++ kind_byte kind ∷ (to_be_bytes w32 len ++ behind))
@@ -131,7 +131,7 @@ pub record HasLongRecord (bytes : List ℕ) (at : ℕ) : Type 0 where
 
 -- a whole record begins here, and its fact is not above the one before
 pub record HasLowRecord (bytes : List ℕ) (at : ℕ) : Type 0 where
-  pub retired : List Ids
+  pub retired : List JobId
   pub count : ℕ
   pub facts : List Fact
   pub fact : Fact
@@ -143,7 +143,7 @@ pub record HasLowRecord (bytes : List ℕ) (at : ℕ) : Type 0 where
 
 -- a whole record begins here; its fact is above the one before, and is of a retired job
 pub record HasRetiredRecord (bytes : List ℕ) (at : ℕ) : Type 0 where
-  pub retired : List Ids
+  pub retired : List JobId
   pub count : ℕ
   pub facts : List Fact
   pub fact : Fact
@@ -156,7 +156,7 @@ pub record HasRetiredRecord (bytes : List ℕ) (at : ℕ) : Type 0 where
 
 -- all records are there, and bytes after them
 pub record HasTrailingBytes (bytes : List ℕ) (at : ℕ) : Type 0 where
-  pub retired : List Ids
+  pub retired : List JobId
   pub count : ℕ
   pub facts : List Fact
   pub rest : List ℕ
@@ -174,6 +174,6 @@ IsFault bytes (BadKind at) = HasBadKind bytes at
 IsFault bytes (TooLong at) = HasLongRecord bytes at
 IsFault bytes (TrailingBytes at) = HasTrailingBytes bytes at
 -- memory is refused only for a fact file
-IsFault bytes Memory = (retired : List Ids) × (facts : List Fact) × IsFactFile bytes retired facts
+IsFault bytes Memory = (retired : List JobId) × (facts : List Fact) × IsFactFile bytes retired facts
 IsFault bytes (RetiredFact at) = HasRetiredRecord bytes at
 IsFault bytes (NothingRetired at) = HasNoIds bytes at

@@ -4,7 +4,7 @@ use Rattle.std.specs.declared.cmp.Ordering.{Ordering}
 use Rattle.std.specs.declared.cmp.Ordering.TheVariants.{Less}
 use Rattle.std.specs.Ordering.{nat_cmp, int_cmp, then_cmp, on}
 use Rattle.std.specs.Prelude.{◌≡◌, List, [], ◌∷◌, Option, None, Some, IfSome}
-use Rattle.identity.specs.declared.job_ids.Ids.{Ids}
+use Rattle.identity.specs.declared.job_ids.JobId.{JobId}
 use Rattle.identity.specs.Keys.{ids_cmp, key_cmp}
 use Rattle.tile_fact.specs.declared.body.Body.{Body}
 use Rattle.tile_fact.specs.declared.fact.Fact.{Fact}
@@ -32,5 +32,5 @@ RisesAbove last facts = RisesBehind fact_cmp last facts
 abbrev pub Rises : List Fact → Type 0
 Rises facts = RisesAbove None facts
 
-abbrev pub IdsRise : List Ids → Type 0
+abbrev pub IdsRise : List JobId → Type 0
 IdsRise ids = RisesBehind ids_cmp None ids

@@ -5,16 +5,16 @@ use Rattle.std.specs.declared.cmp.Ordering.{Ordering}
 use Rattle.std.specs.Ordering.{is_lt}
 use Rattle.std.specs.Prelude.{ℕ, zero, suc, ◌+◌, ◌-◌, ◌*◌, nat_lt, Bool, true, ◌==◌, if◌then◌else◌, List, [], ◌∷◌, length, take, codes}
 use Rattle.std.specs.Prelude.{drop, Option, None, Some, Result, Ok, Err}
-use Rattle.identity.specs.declared.job_ids.Ids.{Ids}
+use Rattle.identity.specs.declared.job_ids.JobId.{JobId}
 use Rattle.identity.specs.Keys.{ids_cmp}
 use Rattle.tile_fact.specs.declared.fact.Fact.{Fact}
 use Rattle.tile_fact.specs.declared.fault.FactFault.{FactFault}
 use Rattle.tile_fact.specs.declared.fault.FactFault.TheVariants.{BadMagic, Cut, NotRising, BadKind, TooLong, TrailingBytes, RetiredFact}
 use Rattle.tile_fact.specs.declared.fault.FactFault.TheVariants.{NothingRetired}
-use Rattle.tile_fact.specs.declared.kind.BodyKind.{BodyKind}
-use Rattle.tile_fact.specs.declared.kind.BodyKind.TheVariants.{OfTile, OfPartial}
-use Rattle.tile_fact.specs.declared.version.Version.{Version}
-use Rattle.tile_fact.specs.declared.version.Version.TheVariants.{OfFacts, OfBoth}
+use Rattle.tile_fact.specs.declared.kind.FactBodyKind.{FactBodyKind}
+use Rattle.tile_fact.specs.declared.kind.FactBodyKind.TheVariants.{OfTile, OfPartial}
+use Rattle.tile_fact.specs.declared.version.FactFileVersion.{FactFileVersion}
+use Rattle.tile_fact.specs.declared.version.FactFileVersion.TheVariants.{OfFacts, OfBoth}
 use Rattle.tile_fact.specs.FactFile.{is_retired}
 use Rattle.tile_fact.specs.Numbers.{bytes_each, most, pair_in, key_in, fact_of}
 use Rattle.tile_fact.specs.Order.{fact_cmp}
@@ -59,26 +59,26 @@ is_above cmp (Some last) x = is_lt (cmp last x)
 -- ---- the head
 
 -- the byte after `PTF`
-unfoldable pub version_read : List ℕ → Result (Version × List ℕ) FactFault
+unfoldable pub version_read : List ℕ → Result (FactFileVersion × List ℕ) FactFault
 version_read [] = Err (Cut 3)
 version_read (byte ∷ bytes) =
     if byte == 49 then Ok (OfFacts, bytes) else (if byte == 50 then Ok (OfBoth, bytes) else Err (BadMagic 3))
 
 -- the identities of a job, above those before
-unfoldable pub pair_read : ℕ → Option Ids → List ℕ → Result (Ids × List ℕ) FactFault
+unfoldable pub pair_read : ℕ → Option JobId → List ℕ → Result (JobId × List ℕ) FactFault
 pair_read total last bytes = do
   part ← part_read total 64 bytes
   if is_above ids_cmp last (pair_in part.0) then Ok (pair_in part.0, part.1) else Err (NotRising (total - length bytes))
 
 -- the retired jobs that a file of this version has
-unfoldable pub retired_read : ℕ → Version → List ℕ → Result (List Ids × List ℕ) FactFault
+unfoldable pub retired_read : ℕ → FactFileVersion → List ℕ → Result (List JobId × List ℕ) FactFault
 retired_read total OfFacts bytes = Ok ([], bytes)
 retired_read total OfBoth bytes = do
   count ← count_read total bytes
   if count.0 == 0 then Err (NothingRetired 4) else list_read (pair_read total) count.0 None count.1
 
 -- the retired jobs, the count of facts and the bytes after it
-unfoldable pub head_read : List ℕ → Result (List Ids × ℕ × List ℕ) FactFault
+unfoldable pub head_read : List ℕ → Result (List JobId × ℕ × List ℕ) FactFault
 head_read bytes = do
   front ← magic_read 0 (codes "PTF") bytes
   version ← version_read front
@@ -88,14 +88,14 @@ head_read bytes = do
 
 -- ---- a record
 
-unfoldable pub kind_read : ℕ → List ℕ → Result (BodyKind × List ℕ) FactFault
+unfoldable pub kind_read : ℕ → List ℕ → Result (FactBodyKind × List ℕ) FactFault
 kind_read total [] = Err (Cut total)
 kind_read total (zero ∷ bytes) = Ok (OfTile, bytes)
 kind_read total (suc zero ∷ bytes) = Ok (OfPartial, bytes)
 kind_read total (suc (suc byte) ∷ bytes) = Err (BadKind (total - length (suc (suc byte) ∷ bytes)))
 
 -- a number of numbers that is allowed after the kind
-unfoldable pub length_read : ℕ → BodyKind → List ℕ → Result (ℕ × List ℕ) FactFault
+unfoldable pub length_read : ℕ → FactBodyKind → List ℕ → Result (ℕ × List ℕ) FactFault
 length_read total kind bytes = do
   len ← count_read total bytes
   if nat_lt (most kind) len.0 then Err (TooLong (total - length bytes)) else Ok len
@@ -109,7 +109,7 @@ record_read total bytes = do
   Ok (fact_of (key_in key.0) kind.0 numbers.0, numbers.1)
 
 -- a record above the one before, of a job that is not retired
-unfoldable pub fact_read : ℕ → List Ids → Option Fact → List ℕ → Result (Fact × List ℕ) FactFault
+unfoldable pub fact_read : ℕ → List JobId → Option Fact → List ℕ → Result (Fact × List ℕ) FactFault
 fact_read total retired last bytes = do
   first ← record_read total bytes
   if is_above fact_cmp last first.0
@@ -123,13 +123,13 @@ unfoldable pub end_read : ℕ → List Fact → List ℕ → Result (List Fact) 
 end_read total facts bytes = if length bytes == 0 then Ok facts else Err (TrailingBytes (total - length bytes))
 
 -- so many records, and nothing after them
-unfoldable pub body_read : ℕ → List Ids → ℕ → List ℕ → Result (List Fact) FactFault
+unfoldable pub body_read : ℕ → List JobId → ℕ → List ℕ → Result (List Fact) FactFault
 body_read total retired count bytes = do
   records ← list_read (fact_read total retired) count None bytes
   end_read total records.0 records.1
 
 -- the retired jobs and the facts
-unfoldable pub file_read : List ℕ → Result (List Ids × List Fact) FactFault
+unfoldable pub file_read : List ℕ → Result (List JobId × List Fact) FactFault
 file_read bytes = do
   head ← head_read bytes
   facts ← body_read (length bytes) head.0 head.1 head.2

@@ -18,7 +18,7 @@ impl Body {
     ghost use Rattle.tile_fact.specs.Bodies.{IsWithin};
 
     /// Whether a fact may have as many numbers as this.
-    pub fn is_within_limit(&self) -> bool
+    pub fn is_within_fact_limit(&self) -> bool
         ensures { IsTrue result ↔ IsWithin self.now }
     {
         match self {

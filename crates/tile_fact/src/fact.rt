@@ -45,7 +45,7 @@ impl Fact {
         ensures refused { IfErr result (λ back. back ≡ (key, body)) }
         ensures too_long { IfErr result (λ _. ¬ IsWithin body) }
     {
-        if body.is_within_limit() {
+        if body.is_within_fact_limit() {
             Ok(Fact { key, body })
         } else {
             Err((key, body))

@@ -2,7 +2,7 @@
 
 ghost use Rattle.std.specs.Prelude.{◌≡◌, ◌≤◌, List, length, Ok, IfOk, IfErr};
 ghost use Rattle.std.specs.Option.{option_map};
-ghost use Rattle.identity.specs.declared.job_ids.Ids.{Ids};
+ghost use Rattle.identity.specs.declared.job_ids.JobId.{JobId};
 ghost use Rattle.tile_fact.specs.FactFile.{IsFactFile};
 ghost use Rattle.tile_fact.specs.Faults.{IsFault};
 ghost use Rattle.tile_fact.specs.Numbers.{fact_of, first_pairs};
@@ -14,10 +14,10 @@ ghost use Rattle.tile_fact.specs.Reading.{is_above, body_read, file_read};
 
 use crate::fact::Fact;
 use crate::fault::FactFault;
-use crate::head::read_head;
-use crate::record::{Record, read_record};
-use crate::retired::EncodedJobs;
-use identity::Ids;
+use crate::head::read_fact_file_head;
+use crate::record::{FactRecord, read_fact_record};
+use crate::retired::EncodedRetiredJobs;
+use identity::JobId;
 use sequences::Sequence;
 use std::alloc::{AllocError, Global};
 use std::cmp::Ordering;
@@ -26,7 +26,7 @@ use std::cmp::Ordering;
 pub type Facts = Sequence<Fact>;
 
 /// Identities of jobs in order.
-pub type JobIds = Sequence<Ids>;
+pub type JobIds = Sequence<JobId>;
 
 /// What a fact file holds: the identities of retired jobs and facts of other jobs. Both rise strictly.
 #[derive(Debug, Drop)]
@@ -42,13 +42,13 @@ pub fn decode(alloc: Global, bytes: &[u8]) -> Result<FactFile, FactFault>
     ensures found { IfOk result (λ file. IsFactFile bytes.now file.retired file.facts) }
 
     // The file of some jobs and facts is read as these alone, unless memory runs out.
-    ensures only { (retired : List Ids) (facts : List Fact) → IsFactFile bytes.now retired facts
+    ensures only { (retired : List JobId) (facts : List Fact) → IsFactFile bytes.now retired facts
         → IsReadAs (λ file. (file.retired ≡ retired) × (file.facts ≡ facts)) result }
 
     // A fault is the first one of the bytes, at its place; memory is refused only for a fact file.
     ensures fault { IfErr result (IsFault bytes.now) }
 {
-    let (retired, facts) = read_file(alloc, bytes)?;
+    let (retired, facts) = read_fact_file(alloc, bytes)?;
     Ok(FactFile {
         retired: JobIds::new(retired),
         facts: Facts::new(facts),
@@ -57,21 +57,21 @@ pub fn decode(alloc: Global, bytes: &[u8]) -> Result<FactFile, FactFault>
 
 // What is read from the left, or the fault.
 #[tactic(auto, unfolding(crate::specs::Reading::file_read))]
-fn read_file(alloc: Global, bytes: &[u8]) -> Result<(Vec<Ids>, Vec<Fact>), FactFault>
+fn read_fact_file(alloc: Global, bytes: &[u8]) -> Result<(Vec<JobId>, Vec<Fact>), FactFault>
     ensures { GivesInMemory (λ x. (x.0.items, x.1.items)) result (file_read bytes.now) }
 {
     let total = bytes.len();
-    let head = read_head(bytes)?;
-    check_records(total, &head.retired, head.count, head.records)?;
+    let head = read_fact_file_head(bytes)?;
+    check_fact_records(total, &head.retired, head.count, head.records)?;
     let retired = head.retired.decode_jobs(alloc)?;
-    let facts = read_facts(alloc, total, &head.retired, head.count, head.records)?;
+    let facts = read_checked_fact_records(alloc, total, &head.retired, head.count, head.records)?;
     Ok((retired, facts))
 }
 
 // Finds the first fault of the records, if there is one.
-fn check_records(
+fn check_fact_records(
     total: usize,
-    retired: &EncodedJobs<'_>,
+    retired: &EncodedRetiredJobs<'_>,
     count: u32,
     bytes: &[u8],
 ) -> Result<(), FactFault>
@@ -80,18 +80,18 @@ fn check_records(
     ensures { Checks result (body_read total (first_pairs retired.now.count retired.now.bytes.now)
         count bytes.now) }
 {
-    let mut last: Option<Record> = None;
+    let mut last: Option<FactRecord> = None;
     let mut rest = bytes;
     for _ in 0..count {
         // No proof is found for a `?` on a key beside a reference.
-        let (record, behind) = match read_record(total, rest) {
+        let (record, behind) = match read_fact_record(total, rest) {
             Ok(read) => read,
             Err(fault) => return Err(fault),
         };
-        if !is_above_last_record(&last, &record) {
+        if !is_above_last_fact_record(&last, &record) {
             return Err(FactFault::NotRising(total - rest.len()));
         }
-        if retired.has_job(&Ids::of_key(&record.label.key)) {
+        if retired.has_job(&JobId::from_key(&record.label.key)) {
             return Err(FactFault::RetiredFact(total - rest.len()));
         }
         last = Some(record);
@@ -104,7 +104,7 @@ fn check_records(
 }
 
 // Whether a record is above the last one before it, if there is one.
-fn is_above_last_record(last: &Option<Record<'_>>, next: &Record<'_>) -> bool
+fn is_above_last_fact_record(last: &Option<FactRecord<'_>>, next: &FactRecord<'_>) -> bool
     ensures { result
         ≡ is_above fact_cmp (option_map (λ r. fact_of r.label.key r.label.kind r.numbers.now) last.now)
         (fact_of next.now.label.key next.now.label.kind next.now.numbers.now) }
@@ -116,10 +116,10 @@ fn is_above_last_record(last: &Option<Record<'_>>, next: &Record<'_>) -> bool
 }
 
 // The facts of records in which there is no fault.
-fn read_facts(
+fn read_checked_fact_records(
     alloc: Global,
     total: usize,
-    retired: &EncodedJobs<'_>,
+    retired: &EncodedRetiredJobs<'_>,
     count: u32,
     bytes: &[u8],
 ) -> Result<Vec<Fact>, FactFault>
@@ -134,7 +134,7 @@ fn read_facts(
     let mut rest = bytes;
     for _ in 0..count {
         // No proof is found for a `?` on a key beside a reference.
-        let (record, behind) = match read_record(total, rest) {
+        let (record, behind) = match read_fact_record(total, rest) {
             Ok(read) => read,
             Err(fault) => return Err(fault),
         };

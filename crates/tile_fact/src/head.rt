@@ -7,34 +7,34 @@ ghost use Rattle.tile_fact.specs.Numbers.{first_pairs};
 ghost use Rattle.tile_fact.specs.Reading.{magic_read, version_read, retired_read, head_read};
 
 use crate::fault::FactFault;
-use crate::record::read_count;
-use crate::retired::{EncodedJobs, check_retired_jobs};
-use crate::version::Version;
+use crate::record::read_fact_file_u32;
+use crate::retired::{EncodedRetiredJobs, check_retired_jobs_of_fact_file};
+use crate::version::FactFileVersion;
 
 // What the magics of both versions begin with.
 const MAGIC_FRONT: [u8; 3] = *b"PTF";
 
 /// The retired jobs, how many records there are, and the bytes after their count.
 #[derive(Clone, Copy)]
-pub struct Head<'a> {
-    pub retired: EncodedJobs<'a>,
+pub struct FactFileHead<'a> {
+    pub retired: EncodedRetiredJobs<'a>,
     pub count: u32,
     pub records: &'a [u8],
 }
 
 /// The head of the file that the bytes are.
 #[tactic(auto, unfolding(crate::specs::Reading::head_read))]
-pub fn read_head(bytes: &[u8]) -> Result<Head<'_>, FactFault>
+pub fn read_fact_file_head(bytes: &[u8]) -> Result<FactFileHead<'_>, FactFault>
     ensures read { Gives (λ head. (first_pairs head.retired.count head.retired.bytes.now, head.count, head.records.now))
         result (head_read bytes.now) }
     ensures listing { IfOk result (λ head. IsListing head.retired.count head.retired.bytes.now) }
     ensures behind { IfOk result (λ head. length head.records.now ≤ length bytes.now) }
 {
-    let front = read_magic(bytes)?;
-    let (version, rest) = read_version(front)?;
-    let (retired, rest) = read_retired_jobs(bytes.len(), version, rest)?;
-    let (count, records) = read_count(bytes.len(), rest)?;
-    Ok(Head {
+    let front = read_fact_file_magic(bytes)?;
+    let (version, rest) = read_fact_file_version(front)?;
+    let (retired, rest) = read_retired_jobs_of_fact_file(bytes.len(), version, rest)?;
+    let (count, records) = read_fact_file_u32(bytes.len(), rest)?;
+    Ok(FactFileHead {
         retired,
         count,
         records,
@@ -43,7 +43,7 @@ pub fn read_head(bytes: &[u8]) -> Result<Head<'_>, FactFault>
 
 // The bytes after what both magics begin with.
 #[tactic(auto, unfolding(crate::specs::Reading::magic_read))]
-fn read_magic(bytes: &[u8]) -> Result<&[u8], FactFault>
+fn read_fact_file_magic(bytes: &[u8]) -> Result<&[u8], FactFault>
     ensures read { Gives (λ x. x.now) result (magic_read 0 (codes "PTF") bytes.now) }
     ensures behind { IfOk result (λ x. length x.now ≤ length bytes.now) }
 {
@@ -60,25 +60,25 @@ fn read_magic(bytes: &[u8]) -> Result<&[u8], FactFault>
 
 // The version that the magic's last byte specifies, and the bytes after it.
 #[tactic(auto, unfolding(crate::specs::Reading::version_read))]
-fn read_version(bytes: &[u8]) -> Result<(Version, &[u8]), FactFault>
+fn read_fact_file_version(bytes: &[u8]) -> Result<(FactFileVersion, &[u8]), FactFault>
     ensures read { Gives (λ x. (x.0, x.1.now)) result (version_read bytes.now) }
     ensures behind { IfOk result (λ x. length x.1.now ≤ length bytes.now) }
 {
     match bytes {
         [] => Err(FactFault::Cut(3)),
-        [b'1', rest @ ..] => Ok((Version::OfFacts, rest)),
-        [b'2', rest @ ..] => Ok((Version::OfBoth, rest)),
+        [b'1', rest @ ..] => Ok((FactFileVersion::OfFacts, rest)),
+        [b'2', rest @ ..] => Ok((FactFileVersion::OfBoth, rest)),
         [_, ..] => Err(FactFault::BadMagic(3)),
     }
 }
 
 // The retired jobs that a file of this version has, and the bytes after them.
 #[tactic(auto, unfolding(crate::specs::Reading::retired_read))]
-fn read_retired_jobs(
+fn read_retired_jobs_of_fact_file(
     total: usize,
-    version: Version,
+    version: FactFileVersion,
     bytes: &[u8],
-) -> Result<(EncodedJobs<'_>, &[u8]), FactFault>
+) -> Result<(EncodedRetiredJobs<'_>, &[u8]), FactFault>
     requires { length bytes.now ≤ total }
     ensures read { Gives (λ x. (first_pairs x.0.count x.0.bytes.now, x.1.now)) result
         (retired_read total version bytes.now) }
@@ -86,14 +86,14 @@ fn read_retired_jobs(
     ensures behind { IfOk result (λ x. length x.1.now ≤ total) }
 {
     match version {
-        Version::OfFacts => Ok((EncodedJobs { count: 0, bytes }, bytes)),
-        Version::OfBoth => {
-            let (count, listed) = read_count(total, bytes)?;
+        FactFileVersion::OfFacts => Ok((EncodedRetiredJobs { count: 0, bytes }, bytes)),
+        FactFileVersion::OfBoth => {
+            let (count, listed) = read_fact_file_u32(total, bytes)?;
             if count == 0 {
                 return Err(FactFault::NothingRetired(4));
             }
-            let behind = check_retired_jobs(total, count, listed)?;
-            let retired = EncodedJobs {
+            let behind = check_retired_jobs_of_fact_file(total, count, listed)?;
+            let retired = EncodedRetiredJobs {
                 count,
                 bytes: listed,
             };

@@ -4,14 +4,14 @@ use crate::fact::{MAX_BINS, MAX_SAMPLES};
 
 /// What a record's numbers are.
 #[derive(Clone, Copy, Debug)]
-pub enum BodyKind {
+pub enum FactBodyKind {
     /// 0: the values of a function on its tile, in 32 bits each.
     OfTile,
     /// 1: the bins of an accumulator over its tile, in 64 bits each.
     OfPartial,
 }
 
-impl BodyKind {
+impl FactBodyKind {
     ghost use Rattle.std.specs.Prelude.{◌≡◌};
     ghost use Rattle.tile_fact.specs.Numbers.{bytes_each, most};
 
@@ -20,18 +20,18 @@ impl BodyKind {
         ensures { result ≡ bytes_each self }
     {
         match self {
-            BodyKind::OfTile => 4,
-            BodyKind::OfPartial => 8,
+            FactBodyKind::OfTile => 4,
+            FactBodyKind::OfPartial => 8,
         }
     }
 
     /// The most numbers that its records may have.
-    pub fn find_number_limit(self) -> usize
+    pub fn find_max_number_count(self) -> usize
         ensures { result ≡ most self }
     {
         match self {
-            BodyKind::OfTile => MAX_SAMPLES,
-            BodyKind::OfPartial => MAX_BINS,
+            FactBodyKind::OfTile => MAX_SAMPLES,
+            FactBodyKind::OfPartial => MAX_BINS,
         }
     }
 }

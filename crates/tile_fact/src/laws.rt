@@ -5,13 +5,13 @@ ghost use Rattle.std.specs.Int.{w32, w64};
 ghost use Rattle.std.specs.Int.RustNames.{FitsSigned};
 ghost use Rattle.std.specs.List.{All};
 ghost use Rattle.std.specs.Prelude.{◌≡◌, ◌↔◌, ◌<◌, ◌^◌, ℕ, List};
-ghost use Rattle.identity.specs.declared.job_ids.Ids.{Ids};
+ghost use Rattle.identity.specs.declared.job_ids.JobId.{JobId};
 ghost use Rattle.tile_fact.specs.FactFile.{AreBytes, AreContents, IsDigest, IsFact, IsFactFile, IsIds, IsKey, fact_file};
 ghost use Rattle.tile_fact.specs.Order.{fact_cmp};
 
 use crate::body::Body;
 use crate::fact::Fact;
-use identity::{Ids, Key};
+use identity::{JobId, Key};
 use std::cmp::Ordering;
 
 /// Facts are in the order of key, kind and numbers, which is a total one, and equal facts are one.
@@ -26,18 +26,18 @@ pub fn compare_facts(a: &Fact, b: &Fact) -> Ordering
 
 /// Bytes are the file of at most one list of retired jobs and one list of facts.
 pub fn bytes_have_one_content()
-    ensures { (bytes : List ℕ) (jobs others : List Ids) (facts other_facts : List Fact)
+    ensures { (bytes : List ℕ) (jobs others : List JobId) (facts other_facts : List Fact)
         → IsFactFile bytes jobs facts → IsFactFile bytes others other_facts
         → (jobs ≡ others) × (facts ≡ other_facts) }
 {}
 
 /// Rising retired jobs and rising facts of other jobs have exactly one file, and no other jobs or facts have that file.
 pub fn contents_have_one_file()
-    ensures spelled { (jobs : List Ids) (facts : List Fact) → AreContents jobs facts
+    ensures spelled { (jobs : List JobId) (facts : List Fact) → AreContents jobs facts
         → IsFactFile (fact_file jobs facts) jobs facts }
-    ensures alone { (a b : List ℕ) (jobs : List Ids) (facts : List Fact) → IsFactFile a jobs facts
+    ensures alone { (a b : List ℕ) (jobs : List JobId) (facts : List Fact) → IsFactFile a jobs facts
         → IsFactFile b jobs facts → a ≡ b }
-    ensures apart { (jobs others : List Ids) (facts other_facts : List Fact)
+    ensures apart { (jobs others : List JobId) (facts other_facts : List Fact)
         → AreContents jobs facts → AreContents others other_facts
         → fact_file jobs facts ≡ fact_file others other_facts
         → (jobs ≡ others) × (facts ≡ other_facts) }
@@ -56,7 +56,7 @@ pub fn facts_fit_their_records(fact: &Fact)
 }
 
 /// The identities of each job can be written to a file: they are digests. It is a law for proofs.
-pub fn ids_fit_their_fields(ids: &Ids)
+pub fn ids_fit_their_fields(ids: &JobId)
     ensures { IsIds ids.now }
 {
     arrays_are_digests(ids.program.as_bytes());

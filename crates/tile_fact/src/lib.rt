@@ -21,6 +21,6 @@ pub use fact::{Fact, MAX_BINS, MAX_SAMPLES};
 pub use fault::FactFault;
 pub use file::{FactFile, Facts, JobIds, decode};
 pub use numbers::{Bins, Samples};
-pub use sequences::Numbers;
+pub use sequences::SharedSequence;
 pub use update::Update;
 pub use writing::encode;

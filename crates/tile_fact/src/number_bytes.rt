@@ -10,7 +10,7 @@ use std::alloc::{AllocError, Global};
 use std::cmp::Ordering;
 
 // The sample in front, and the bytes after it.
-fn split_sample(bytes: &[u8]) -> (i32, &[u8])
+fn decode_first_fact_sample(bytes: &[u8]) -> (i32, &[u8])
     requires { 4 ≤ length bytes.now }
     ensures sample { result.0 ≡ number_in w32 bytes.now }
     ensures behind { result.1.now ≡ drop 4 bytes.now }
@@ -21,13 +21,13 @@ fn split_sample(bytes: &[u8]) -> (i32, &[u8])
 }
 
 /// The samples that the bytes are.
-pub fn decode_samples(alloc: Global, bytes: &[u8]) -> Result<Vec<i32>, AllocError>
+pub fn decode_fact_samples(alloc: Global, bytes: &[u8]) -> Result<Vec<i32>, AllocError>
     ensures { IfOk result (λ samples. samples.items ≡ numbers_in w32 bytes.now) }
 {
     let mut samples = Vec::with_capacity(alloc, bytes.len() / 4)?;
     let mut rest = bytes;
     while rest.len() >= 4 {
-        let (sample, behind) = split_sample(rest);
+        let (sample, behind) = decode_first_fact_sample(rest);
         samples.push(sample)?;
         rest = behind;
     }
@@ -35,14 +35,14 @@ pub fn decode_samples(alloc: Global, bytes: &[u8]) -> Result<Vec<i32>, AllocErro
 }
 
 /// The order of the samples that the bytes are.
-pub fn compare_samples(a: &[u8], b: &[u8]) -> Ordering
+pub fn compare_encoded_fact_samples(a: &[u8], b: &[u8]) -> Ordering
     ensures { result ≡ slice_cmp int_cmp (numbers_in w32 a.now) (numbers_in w32 b.now) }
 {
     let mut a_rest = a;
     let mut b_rest = b;
     while a_rest.len() >= 4 && b_rest.len() >= 4 {
-        let (x, a_behind) = split_sample(a_rest);
-        let (y, b_behind) = split_sample(b_rest);
+        let (x, a_behind) = decode_first_fact_sample(a_rest);
+        let (y, b_behind) = decode_first_fact_sample(b_rest);
         let order = x.cmp(&y);
         if order != Ordering::Equal {
             return order;
@@ -60,7 +60,7 @@ pub fn compare_samples(a: &[u8], b: &[u8]) -> Ordering
 }
 
 // The bin in front, and the bytes after it.
-fn split_bin(bytes: &[u8]) -> (i64, &[u8])
+fn decode_first_fact_bin(bytes: &[u8]) -> (i64, &[u8])
     requires { 8 ≤ length bytes.now }
     ensures bin { result.0 ≡ number_in w64 bytes.now }
     ensures behind { result.1.now ≡ drop 8 bytes.now }
@@ -73,13 +73,13 @@ fn split_bin(bytes: &[u8]) -> (i64, &[u8])
 }
 
 /// The bins that the bytes are.
-pub fn decode_bins(alloc: Global, bytes: &[u8]) -> Result<Vec<i64>, AllocError>
+pub fn decode_fact_bins(alloc: Global, bytes: &[u8]) -> Result<Vec<i64>, AllocError>
     ensures { IfOk result (λ bins. bins.items ≡ numbers_in w64 bytes.now) }
 {
     let mut bins = Vec::with_capacity(alloc, bytes.len() / 8)?;
     let mut rest = bytes;
     while rest.len() >= 8 {
-        let (bin, behind) = split_bin(rest);
+        let (bin, behind) = decode_first_fact_bin(rest);
         bins.push(bin)?;
         rest = behind;
     }
@@ -87,14 +87,14 @@ pub fn decode_bins(alloc: Global, bytes: &[u8]) -> Result<Vec<i64>, AllocError>
 }
 
 /// The order of the bins that the bytes are.
-pub fn compare_bins(a: &[u8], b: &[u8]) -> Ordering
+pub fn compare_encoded_fact_bins(a: &[u8], b: &[u8]) -> Ordering
     ensures { result ≡ slice_cmp int_cmp (numbers_in w64 a.now) (numbers_in w64 b.now) }
 {
     let mut a_rest = a;
     let mut b_rest = b;
     while a_rest.len() >= 8 && b_rest.len() >= 8 {
-        let (x, a_behind) = split_bin(a_rest);
-        let (y, b_behind) = split_bin(b_rest);
+        let (x, a_behind) = decode_first_fact_bin(a_rest);
+        let (y, b_behind) = decode_first_fact_bin(b_rest);
         let order = x.cmp(&y);
         if order != Ordering::Equal {
             return order;

@@ -10,22 +10,22 @@ ghost use Rattle.tile_fact.specs.Numbers.{pair_in, first_pairs};
 ghost use Rattle.tile_fact.specs.Reading.{is_above, list_read, pair_read};
 
 use crate::fault::FactFault;
-use crate::record::decode_digest;
-use identity::{Ids, InputId, ProgramId};
+use crate::record::decode_fact_file_digest;
+use identity::{InputId, JobId, ProgramId};
 use std::alloc::{AllocError, Global};
 use std::cmp::Ordering;
 
 /// The identities of retired jobs, which rise, as bytes: `count` of them, one after the other, and perhaps other bytes after
 /// them.
 #[derive(Clone, Copy)]
-pub struct EncodedJobs<'a> {
+pub struct EncodedRetiredJobs<'a> {
     pub count: u32,
     pub bytes: &'a [u8],
 }
 
-impl<'a> EncodedJobs<'a> {
+impl<'a> EncodedRetiredJobs<'a> {
     /// Whether the job is one of them. They rise, so each step of the search halves what is left.
-    pub fn has_job(&self, job: &Ids) -> bool
+    pub fn has_job(&self, job: &JobId) -> bool
         requires { IsListing self.now.count self.now.bytes.now }
         ensures { result ≡ list_any (eq_by_cmp ids_cmp job.now)
             (first_pairs self.now.count self.now.bytes.now) }
@@ -34,7 +34,7 @@ impl<'a> EncodedJobs<'a> {
         let mut count = self.count as usize;
         while count > 0 {
             let middle = count / 2;
-            let (pair, behind) = split_job(skip_jobs(rest, middle));
+            let (pair, behind) = decode_first_retired_job(skip_encoded_retired_jobs(rest, middle));
             match job.cmp(&pair) {
                 Ordering::Less => count = middle,
                 Ordering::Equal => return true,
@@ -48,14 +48,14 @@ impl<'a> EncodedJobs<'a> {
     }
 
     /// The jobs, in order.
-    pub fn decode_jobs(&self, alloc: Global) -> Result<Vec<Ids>, AllocError>
+    pub fn decode_jobs(&self, alloc: Global) -> Result<Vec<JobId>, AllocError>
         requires { IsListing self.now.count self.now.bytes.now }
         ensures { IfOk result (λ jobs. jobs.items ≡ first_pairs self.now.count self.now.bytes.now) }
     {
         let mut jobs = Vec::with_capacity(alloc, self.count as usize)?;
         let mut rest = self.bytes;
         for _ in 0..self.count {
-            let (pair, behind) = split_job(rest);
+            let (pair, behind) = decode_first_retired_job(rest);
             jobs.push(pair)?;
             rest = behind;
         }
@@ -64,21 +64,25 @@ impl<'a> EncodedJobs<'a> {
 }
 
 /// Finds the first fault of `count` identities, if there is one; otherwise the bytes after them.
-pub fn check_retired_jobs(total: usize, count: u32, bytes: &[u8]) -> Result<&[u8], FactFault>
+pub fn check_retired_jobs_of_fact_file(
+    total: usize,
+    count: u32,
+    bytes: &[u8],
+) -> Result<&[u8], FactFault>
     requires { length bytes.now ≤ total }
     ensures read { Gives (λ behind. (first_pairs count bytes.now, behind.now)) result
         (list_read (pair_read total) count None bytes.now) }
     ensures listing { IfOk result (λ _. IsListing count bytes.now) }
     ensures behind { IfOk result (λ behind. length behind.now ≤ total) }
 {
-    let mut last: Option<Ids> = None;
+    let mut last: Option<JobId> = None;
     let mut rest = bytes;
     for _ in 0..count {
         if rest.len() < 64 {
             return Err(FactFault::Cut(total));
         }
-        let (pair, behind) = split_job(rest);
-        if !is_above_last_job(&last, &pair) {
+        let (pair, behind) = decode_first_retired_job(rest);
+        if !is_above_last_retired_job(&last, &pair) {
             return Err(FactFault::NotRising(total - rest.len()));
         }
         last = Some(pair);
@@ -88,7 +92,7 @@ pub fn check_retired_jobs(total: usize, count: u32, bytes: &[u8]) -> Result<&[u8
 }
 
 // Whether identities are above the last ones before them, if there are any.
-fn is_above_last_job(last: &Option<Ids>, next: &Ids) -> bool
+fn is_above_last_retired_job(last: &Option<JobId>, next: &JobId) -> bool
     ensures { result ≡ is_above ids_cmp last.now next.now }
 {
     match last {
@@ -98,7 +102,7 @@ fn is_above_last_job(last: &Option<Ids>, next: &Ids) -> bool
 }
 
 // The bytes after `count` identities.
-fn skip_jobs(bytes: &[u8], count: usize) -> &[u8]
+fn skip_encoded_retired_jobs(bytes: &[u8], count: usize) -> &[u8]
     requires { count * 64 ≤ length bytes.now }
     ensures { result.now ≡ drop (64 * count) bytes.now }
 {
@@ -107,15 +111,15 @@ fn skip_jobs(bytes: &[u8], count: usize) -> &[u8]
 }
 
 // The identities in front of the bytes, and the bytes after them.
-fn split_job(bytes: &[u8]) -> (Ids, &[u8])
+fn decode_first_retired_job(bytes: &[u8]) -> (JobId, &[u8])
     requires { 64 ≤ length bytes.now }
     ensures pair { result.0 ≡ pair_in (take 64 bytes.now) }
     ensures behind { result.1.now ≡ drop 64 bytes.now }
 {
     let (front, behind) = bytes.split_at(64);
-    let pair = Ids {
-        program: ProgramId::new(decode_digest(front, 0)),
-        input: InputId::new(decode_digest(front, 32)),
+    let pair = JobId {
+        program: ProgramId::new(decode_fact_file_digest(front, 0)),
+        input: InputId::new(decode_fact_file_digest(front, 32)),
     };
     (pair, behind)
 }

@@ -1,7 +1,7 @@
 //! Updates of what a node knows.
 
 use crate::fact::Fact;
-use identity::Ids;
+use identity::JobId;
 
 /// A fact, or the retirement of a job: a node that knows of it holds no fact of that job.
 #[derive(Clone, Debug, Drop, PartialEq, Eq)]
@@ -9,5 +9,5 @@ pub enum Update {
     /// The numbers of a tile.
     Fact(Fact),
     /// The identities of a job that is retired.
-    Retire(Ids),
+    Retire(JobId),
 }

@@ -8,11 +8,11 @@ ghost use Rattle.tile_fact.specs.Order.{Rises, IdsRise};
 
 use crate::body::Body;
 use crate::fact::Fact;
-use identity::{Ids, Key};
+use identity::{JobId, Key};
 use std::alloc::{AllocError, Global};
 
 /// The file of these retired jobs and these facts, which is their only spelling: `PTF1` if no job is retired, else `PTF2`.
-pub fn encode(alloc: Global, retired: &[Ids], facts: &[Fact]) -> Result<Vec<u8>, AllocError>
+pub fn encode(alloc: Global, retired: &[JobId], facts: &[Fact]) -> Result<Vec<u8>, AllocError>
     requires ids_count { length retired.now < 2 ^ 32 }
     requires ids_rise { IdsRise retired.now }
     requires count { length facts.now < 2 ^ 32 }
@@ -21,7 +21,7 @@ pub fn encode(alloc: Global, retired: &[Ids], facts: &[Fact]) -> Result<Vec<u8>,
     ensures { IfOk result (λ bytes. bytes.items ≡ fact_file retired.now facts.now) }
 {
     let mut bytes = Vec::new(alloc);
-    encode_head(&mut bytes, retired)?;
+    encode_fact_file_head(&mut bytes, retired)?;
     bytes.extend_from_slice(&(facts.len() as u32).to_be_bytes())?;
     for fact in facts {
         encode_fact(&mut bytes, fact)?;
@@ -30,7 +30,7 @@ pub fn encode(alloc: Global, retired: &[Ids], facts: &[Fact]) -> Result<Vec<u8>,
 }
 
 // The magic, and the retired jobs if there are any.
-fn encode_head(bytes: &mut Vec<u8>, retired: &[Ids]) -> Result<(), AllocError>
+fn encode_fact_file_head(bytes: &mut Vec<u8>, retired: &[JobId]) -> Result<(), AllocError>
     requires { length retired.now < 2 ^ 32 }
     ensures { OnOk result (bytes.new.items ≡ bytes.old.items ++ head_of retired.now) }
 {
@@ -38,12 +38,12 @@ fn encode_head(bytes: &mut Vec<u8>, retired: &[Ids]) -> Result<(), AllocError>
         bytes.extend_from_slice(b"PTF1")
     } else {
         bytes.extend_from_slice(b"PTF2")?;
-        encode_jobs(bytes, retired)
+        encode_retired_jobs(bytes, retired)
     }
 }
 
 // How many jobs there are, and their identities.
-fn encode_jobs(bytes: &mut Vec<u8>, jobs: &[Ids]) -> Result<(), AllocError>
+fn encode_retired_jobs(bytes: &mut Vec<u8>, jobs: &[JobId]) -> Result<(), AllocError>
     requires { length jobs.now < 2 ^ 32 }
     ensures { OnOk result (bytes.new.items
         ≡ bytes.old.items ++ (to_be_bytes w32 (length jobs.now) ++ flat_map ids_bytes jobs.now)) }
@@ -59,14 +59,14 @@ fn encode_jobs(bytes: &mut Vec<u8>, jobs: &[Ids]) -> Result<(), AllocError>
 fn encode_fact(bytes: &mut Vec<u8>, fact: &Fact) -> Result<(), AllocError>
     ensures { OnOk result (bytes.new.items ≡ bytes.old.items ++ fact_record fact.now) }
 {
-    encode_key(bytes, fact.key())?;
+    encode_fact_key(bytes, fact.key())?;
     match fact.body() {
-        Body::Tile(samples) => encode_samples(bytes, samples.as_slice()),
-        Body::Partial(bins) => encode_bins(bytes, bins.as_slice()),
+        Body::Tile(samples) => encode_fact_samples(bytes, samples.as_slice()),
+        Body::Partial(bins) => encode_fact_bins(bytes, bins.as_slice()),
     }
 }
 
-fn encode_key(bytes: &mut Vec<u8>, key: &Key) -> Result<(), AllocError>
+fn encode_fact_key(bytes: &mut Vec<u8>, key: &Key) -> Result<(), AllocError>
     ensures { OnOk result (bytes.new.items ≡ bytes.old.items ++ key_bytes key.now) }
 {
     bytes.extend_from_slice(key.program.as_bytes())?;
@@ -77,7 +77,7 @@ fn encode_key(bytes: &mut Vec<u8>, key: &Key) -> Result<(), AllocError>
 }
 
 // The body of a tile.
-fn encode_samples(bytes: &mut Vec<u8>, samples: &[i32]) -> Result<(), AllocError>
+fn encode_fact_samples(bytes: &mut Vec<u8>, samples: &[i32]) -> Result<(), AllocError>
     requires { length samples.now < 2 ^ 32 }
     ensures { OnOk result
         (bytes.new.items ≡ bytes.old.items ++ body_bytes (Body.Tile samples.now)) }
@@ -92,7 +92,7 @@ fn encode_samples(bytes: &mut Vec<u8>, samples: &[i32]) -> Result<(), AllocError
 }
 
 // The body of a partial.
-fn encode_bins(bytes: &mut Vec<u8>, bins: &[i64]) -> Result<(), AllocError>
+fn encode_fact_bins(bytes: &mut Vec<u8>, bins: &[i64]) -> Result<(), AllocError>
     requires { length bins.now < 2 ^ 32 }
     ensures { OnOk result
         (bytes.new.items ≡ bytes.old.items ++ body_bytes (Body.Partial bins.now)) }

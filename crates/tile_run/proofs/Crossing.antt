@@ -19,7 +19,7 @@ use Rattle.operators.specs.contracts.operator.Relation as Relation
 use Rattle.operators.specs.contracts.operator.TernaryOp as TernaryOp
 use Rattle.operators.specs.contracts.operator.UnaryOp as UnaryOp
 use Rattle.operators.specs.contracts.point_test.Axis as Axis
-use Rattle.tables.specs.contracts.entries.Entries as Entries
+use Rattle.tables.specs.contracts.entries.TableEntries as Entries
 use Rattle.tables.specs.contracts.table.Table as Table
 use Rattle.job.specs.contracts.bound_pipeline.BoundPipeline as BoundPipeline
 use Rattle.job.specs.contracts.formula.Formula as Formula

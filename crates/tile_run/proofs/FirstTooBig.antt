@@ -16,18 +16,18 @@ use Rattle.job.specs.Readers.{stage_grid, grid_at}
 use Rattle.job.specs.WellFormed.{IsJob}
 use Rattle.tile_boxes.specs.Costs.{scratch, most_scratch, tile_targets}
 use Rattle.grouping.specs.Inlining.{Inlining, IsScheduleOf}
-use Rattle.tile_boxes.specs.Order.{in_order}
-use Rattle.tile_boxes.specs.Schedules.{is_inlined, is_function, is_function_body, IsSchedule}
+use Rattle.tile_boxes.specs.Order.{order_stages_by_rank}
+use Rattle.tile_boxes.specs.Schedules.{is_inlined, is_function_stage, is_function_body, IsSchedule}
 use Rattle.tile_boxes.specs.Targets.{Target, target_over}
 use Rattle.tile_boxes.proofs.Lists.{Contains-flat_map, Contains-map}
 use Rattle.tile_boxes.proofs.OrderHasEachStage.{order_has}
 use Rattle.overlap_tiles.specs.Needs.{key_of, tile_of_stage}
 use Rattle.overlap_tiles.proofs.Lists.{Contains-from_map, Contains-from_flat_map}
 use Rattle.tile_boxes.proofs.TilesAreTargets.{gridded}
-use Rattle.tile_run.specs.declared.room.StageSelection.{StageSelection}
-use Rattle.tile_run.specs.declared.room.StageSelection.TheVariants.{Functions, Accumulators}
+use Rattle.tile_run.specs.declared.room.TiledStages.{TiledStages}
+use Rattle.tile_run.specs.declared.room.TiledStages.TheVariants.{Functions, Accumulators}
 use Rattle.tile_run.specs.inside.Running.{StoredFit}
-use Rattle.overlap_tiles.specs.Work.{is_stored_function, tiles_in_order, lacks_room}
+use Rattle.overlap_tiles.specs.Work.{is_stored_function, tiles_in_order, is_tile_over_scratch_limit}
 use Rattle.overlap_tiles.proofs.RoomIsExact.{more_is, tile_lacks}
 use Rattle.tile_run.specs.Work.{wanted_by, first_too_big}
 use Rattle.tile_run.proofs.FirstFound.{none_of, find_of}
@@ -41,7 +41,7 @@ not_false false e = absurd (cc)
 
 module _ (job : Pipeline) (inlining : List Bool) (g : ℕ) (s : Stage) (there : slice_get job.stages g ≡ Some s) where
   lacks_is : has_tiles s.body ≡ true → (i j : ℕ) → HasTile (grid_of job s) i j
-      → lacks_room job inlining (tile_of_stage g (i, j))
+      → is_tile_over_scratch_limit job inlining (tile_of_stage g (i, j))
       ≡ not (nat_le (scratch (target_over job inlining g (tile_area (grid_of job s) i j))) most_scratch)
   lacks_is has i j tile =
       tile_lacks job inlining (tile_of_stage g (i, j)) (grid_of job s) (tile_area (grid_of job s) i j)
@@ -49,7 +49,7 @@ module _ (job : Pipeline) (inlining : List Bool) (g : ℕ) (s : Stage) (there : 
       ∙ more_is (scratch (target_over job inlining g (tile_area (grid_of job s) i j))) most_scratch
 
   small_fits : has_tiles s.body ≡ true → (i j : ℕ) → HasTile (grid_of job s) i j
-      → lacks_room job inlining (tile_of_stage g (i, j)) ≡ false
+      → is_tile_over_scratch_limit job inlining (tile_of_stage g (i, j)) ≡ false
       → scratch (target_over job inlining g (tile_area (grid_of job s) i j)) ≤ most_scratch
   small_fits has i j tile small = leb-true (scratch (target_over job inlining g (tile_area (grid_of job s) i j))) most_scratch
       (not_false (nat_le (scratch (target_over job inlining g (tile_area (grid_of job s) i j))) most_scratch)
@@ -57,7 +57,7 @@ module _ (job : Pipeline) (inlining : List Bool) (g : ℕ) (s : Stage) (there : 
 
   fits_small : has_tiles s.body ≡ true → (i j : ℕ) → HasTile (grid_of job s) i j
       → scratch (target_over job inlining g (tile_area (grid_of job s) i j)) ≤ most_scratch
-      → lacks_room job inlining (tile_of_stage g (i, j)) ≡ false
+      → is_tile_over_scratch_limit job inlining (tile_of_stage g (i, j)) ≡ false
   fits_small has i j tile fits =
       lacks_is has i j tile ∙ ap not (le-leb (scratch (target_over job inlining g (tile_area (grid_of job s) i j))) most_scratch fits)
 
@@ -72,8 +72,8 @@ module _ (job : Pipeline) (inlining : List Bool) (g : ℕ) (s : Stage) (there : 
   pub in_work : (wants : ℕ → Bool) → has_tiles s.body ≡ true → wants g ≡ true → (i j : ℕ) → HasTile (grid_of job s) i j
       → Contains (tiles_in_order job wants) (tile_of_stage g (i, j))
   in_work wants has is i j tile =
-      Contains-flat_map (tiles job) (filter wants (in_order job.stages)) g (tile_of_stage g (i, j))
-      (Contains-filter wants (in_order job.stages) g ((order_has job.stages g).1 (slice_get_within job.stages g s there)) is)
+      Contains-flat_map (tiles job) (filter wants (order_stages_by_rank job.stages)) g (tile_of_stage g (i, j))
+      (Contains-filter wants (order_stages_by_rank job.stages) g ((order_has job.stages g).1 (slice_get_within job.stages g s there)) is)
       (subst (λ (ts : List Tile). Contains ts (tile_of_stage g (i, j))) (sym (all_tiles has))
       (Contains-map (tile_of_stage g) (tiles_of (grid_of job s)) (i, j) ((Contains-tiles_of (grid_of job s) i j).1 tile)))
 
@@ -90,14 +90,14 @@ grid_tiles job inlining g grid = by (slice_get job.stages g) refl
 
 -- the key of what is found first among the tiles of a grid
 pub first_key : (program : List ℕ) (job : Pipeline) (inlining : List Bool) (g : ℕ) (grid : Grid) → grid_at job g ≡ Some grid
-    → (o : Option (ℕ × ℕ)) → o ≡ find (λ t. lacks_room job inlining (tile_of_stage g t)) (tiles_of grid)
+    → (o : Option (ℕ × ℕ)) → o ≡ find (λ t. is_tile_over_scratch_limit job inlining (tile_of_stage g t)) (tiles_of grid)
     → option_map (λ t. key_of program job (tile_of_stage g t)) o
-    ≡ option_map (key_of program job) (find (lacks_room job inlining) (tiles job g))
+    ≡ option_map (key_of program job) (find (is_tile_over_scratch_limit job inlining) (tiles job g))
 first_key program job inlining g grid at o found =
     mapped o
     ∙ ap (λ (z : Option (ℕ × ℕ)). option_map (key_of program job) (option_map (tile_of_stage g) z)) found
-    ∙ ap (option_map (key_of program job)) (sym (find_of (lacks_room job inlining) (tile_of_stage g) (tiles_of grid))
-    ∙ ap (find (lacks_room job inlining)) (sym (grid_tiles job inlining g grid at)))
+    ∙ ap (option_map (key_of program job)) (sym (find_of (is_tile_over_scratch_limit job inlining) (tile_of_stage g) (tiles_of grid))
+    ∙ ap (find (is_tile_over_scratch_limit job inlining)) (sym (grid_tiles job inlining g grid at)))
   where
     mapped : (z : Option (ℕ × ℕ)) → option_map (λ t. key_of program job (tile_of_stage g t)) z
         ≡ option_map (key_of program job) (option_map (tile_of_stage g) z)
@@ -146,8 +146,8 @@ of_stage job wants g t is = by (slice_get job.stages g) refl
 
 of_work : (job : Pipeline) (wants : ℕ → Bool) (t : Tile) → Contains (tiles_in_order job wants) t → IsOfWork job wants t
 of_work job wants t k =
-    let from = Contains-from_flat_map (tiles job) (filter wants (in_order job.stages)) t k in
-    of_stage job wants from.0 t (Contains-from_filter wants (in_order job.stages) from.0 from.1).1 from.2
+    let from = Contains-from_flat_map (tiles job) (filter wants (order_stages_by_rank job.stages)) t k in
+    of_stage job wants from.0 t (Contains-from_filter wants (order_stages_by_rank job.stages) from.0 from.1).1 from.2
 
 -- ---- where no tile is too big
 
@@ -156,7 +156,7 @@ pub none_too_big : (job : Pipeline) (inlining : List Bool) (wants : ℕ → Bool
     → (i j : ℕ) → HasTile (grid_of job s) i j → scratch (target_over job inlining g (tile_area (grid_of job s) i j)) ≤ most_scratch
 none_too_big job inlining wants none g s there has is i j tile =
     small_fits job inlining g s there has i j tile
-    (none_found (lacks_room job inlining) (tiles_in_order job wants) none (tile_of_stage g (i, j))
+    (none_found (is_tile_over_scratch_limit job inlining) (tiles_in_order job wants) none (tile_of_stage g (i, j))
     (in_work job inlining g s there wants has is i j tile))
 
 has_some : (b : Body) → is_function_body b ≡ true → has_tiles b ≡ true
@@ -167,18 +167,18 @@ has_some (accumulator fold bins value bin) e = absurd (cc)
 pub stored_fit : (job : Pipeline) (inlining : List Bool) → first_too_big job inlining (is_stored_function job inlining) ≡ None
     → StoredFit job inlining
 stored_fit job inlining none g s is =
-    let function : is_function job g ≡ true = ap (λ (o : Option Stage). option_map_or (λ x. is_function_body x.body) o false) is.there
+    let function : is_function_stage job g ≡ true = ap (λ (o : Option Stage). option_map_or (λ x. is_function_body x.body) o false) is.there
     ∙ is.function in
     none_too_big job inlining (is_stored_function job inlining) none g s is.there (has_some s.body is.function)
-    (and_from (is_function job g) (not (is_inlined inlining g)) function (ap not is.stored))
+    (and_from (is_function_stage job g) (not (is_inlined inlining g)) function (ap not is.stored))
 
 -- ---- where the schedule is known to fit
 
 -- what is wanted is not inlined
-wanted_stored : (job : Pipeline) (inlining : List Bool) (work : StageSelection) (g : ℕ) (s : Stage) → IsSchedule job inlining
+wanted_stored : (job : Pipeline) (inlining : List Bool) (work : TiledStages) (g : ℕ) (s : Stage) → IsSchedule job inlining
     → slice_get job.stages g ≡ Some s → wanted_by job inlining work g ≡ true → is_inlined inlining g ≡ false
 wanted_stored job inlining Functions g s good there is =
-    not-true (is_inlined inlining g) (and_parts (is_function job g) (not (is_inlined inlining g)) is).1
+    not-true (is_inlined inlining g) (and_parts (is_function_stage job g) (not (is_inlined inlining g)) is).1
 wanted_stored job inlining Accumulators g s good there is = by (is_inlined inlining g) refl
   where
     both : (b : Body) → is_accumulator b ≡ true → is_function_body b ≡ true → ⊥
@@ -196,12 +196,12 @@ wanted_stored job inlining Accumulators g s good there is = by (is_inlined inlin
     by false e = refl
     by true e = absurd (both s.body of_accumulator (of_function e))
 
-pub fits_none : (job : Pipeline) (s : Inlining) (work : StageSelection) → IsScheduleOf job s → s.fits ≡ true
+pub fits_none : (job : Pipeline) (s : Inlining) (work : TiledStages) → IsScheduleOf job s → s.fits ≡ true
     → first_too_big job s.inlining (wanted_by job s.inlining work) ≡ None
-fits_none job s work is fits = none_of (lacks_room job s.inlining) (tiles_in_order job (wanted_by job s.inlining work))
+fits_none job s work is fits = none_of (is_tile_over_scratch_limit job s.inlining) (tiles_in_order job (wanted_by job s.inlining work))
     (λ t k. small t (of_work job (wanted_by job s.inlining work) t k))
   where
-    small : (t : Tile) → IsOfWork job (wanted_by job s.inlining work) t → lacks_room job s.inlining t ≡ false
+    small : (t : Tile) → IsOfWork job (wanted_by job s.inlining work) t → is_tile_over_scratch_limit job s.inlining t ≡ false
     small t of =
         let over : ℕ × ℕ → Target = λ place. target_over job s.inlining t.stage (tile_area (grid_of job of.stage) place.0 place.1) in
         let stored = wanted_stored job s.inlining work t.stage of.stage is.inlining of.there of.wanted in

@@ -9,10 +9,10 @@ use Rattle.job.specs.Answers.{grid_of}
 use Rattle.job.specs.Pipeline.{Stage, Pipeline}
 use Rattle.job.specs.Values.{value}
 use Rattle.job.specs.WellFormed.{IsJob}
-use Rattle.tile_boxes.specs.Schedules.{is_function, is_function_body}
+use Rattle.tile_boxes.specs.Schedules.{is_function_stage, is_function_body}
 use Rattle.tile_boxes.proofs.TilesAreTargets.{gridded}
 use Rattle.overlap_tiles.specs.Plans.{Layout, IsTileLayout}
-use Rattle.tile_eval.specs.Buffer.{raster}
+use Rattle.tile_eval.specs.Raster.{raster}
 use Rattle.tile_eval.proofs.Rasters.{raster_len}
 use Rattle.tile_sources.specs.KnownTiles.{KnownTiles, AreWhole}
 use Rattle.one_tile.specs.Runs.{AreLocalOn}
@@ -27,7 +27,7 @@ module _ (job : Pipeline) (inlining : List Bool) (given : KnownTiles) (g : ℕ) 
   whole h s there i j xs tile found =
       ap length (ready.right h s there i j xs tile found) ∙ raster_len (tile_area (grid_of job s) i j) (value job h)
 
-  own : is_function job g ≡ true
+  own : is_function_stage job g ≡ true
   own = ap (λ (o : Option Stage). option_map_or (λ s. is_function_body s.body) o false) ready.function.there ∙ ready.function.function
 
   module _ (i j : ℕ) (l : Layout) (is : IsTileLayout job inlining g i j l) where

@@ -8,7 +8,7 @@ use Rattle.job.specs.Answers.{grid_of}
 use Rattle.job.specs.Values.{value}
 use Rattle.tile_boxes.specs.Costs.{scratch, most_scratch}
 use Rattle.overlap_tiles.specs.Plans.{Layout, IsTileLayout}
-use Rattle.tile_eval.specs.Buffer.{raster}
+use Rattle.tile_eval.specs.Raster.{raster}
 use Rattle.tile_sources.specs.KnownTiles.{KnownTiles, AreTrue}
 use Rattle.one_tile.specs.Runs.{NeedsGiven}
 use Rattle.tile_run.specs.Stored.{numbers_in, IsStoredFunction}

@@ -6,7 +6,7 @@ use Rattle.job.specs.Pipeline.{Stage, Pipeline}
 use Rattle.job.specs.Answers.{grid_of}
 use Rattle.job.specs.Values.{value}
 use Rattle.tile_boxes.specs.Schedules.{is_inlined, is_function_body}
-use Rattle.tile_eval.specs.Buffer.{raster}
+use Rattle.tile_eval.specs.Raster.{raster}
 use Rattle.tile_sources.specs.KnownTiles.{KnownTiles}
 use Rattle.one_tile.specs.declared.tile_rows.TileRow.{TileRow}
 use Rattle.one_tile.specs.declared.tile_rows.StageTiles.{StageTiles}

@@ -15,16 +15,16 @@ mod work_of_points;
 
 pub use fault::RunFault;
 pub use one_tile::{
-    EvalFault, ScratchView, TileInputs, TileJob, TileRow, TileScratch, find_first_missing_key,
-    run_tile,
+    EvalFault, StepScratchView, TileInputs, TileJob, TileRow, TileScratch,
+    find_first_unsupplied_tile, run_tile,
 };
 pub use phase::Phase;
-pub use pieces::{WORK_OF_TILE, estimate_rows_per_thread};
-pub use ranks::{run_all, run_used_functions};
-pub use room::{StageSelection, find_first_oversized_tile};
+pub use pieces::{WORK_OF_TILE, estimate_tile_rows_per_thread};
+pub use ranks::{make_used_function_tiles, run_all};
+pub use room::{TiledStages, find_first_oversized_tile};
 pub use stage_run::StageRun;
 pub use stored::StoredTiles;
-pub use supplied_row::SuppliedRow;
+pub use supplied_row::SuppliedTileRow;
 pub use tile_sources::{TileSource, borrow_supplied_row_part};
 pub use uses::LastReads;
-pub use work_of_points::count_point_work;
+pub use work_of_points::count_point_run_work;

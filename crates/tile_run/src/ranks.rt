@@ -17,12 +17,12 @@ ghost use Rattle.tile_sources.specs.KnownTiles.{AreTrue};
 ghost use Rattle.tile_run.specs.declared.phase.Phase.TheVariants.{Rank};
 
 use crate::fault::RunFault;
-use crate::room::{StageSelection, find_first_oversized_tile};
+use crate::room::{TiledStages, find_first_oversized_tile};
 use crate::stage_run::StageRun;
 use crate::stored::StoredTiles;
 use crate::uses::LastReads;
 use domains::Grid;
-use grouping::{Schedule, last_rank};
+use grouping::{Schedule, find_greatest_rank};
 use job::{Job, Stage, StageKind};
 use one_tile::{StageTiles, TileScratch};
 use std::alloc::{AllocError, Global};
@@ -70,12 +70,12 @@ impl StoredTiles {
             run.now.uses.now.lasts.items (rank + 1) (Rank (rank + 1)) self.new.stages.items }
     {
         for number in 0..run.job.stages().len() {
-            if run.uses.find_last_phase(number).is_over(rank) && !run.job.is_output(number) {
+            if run.uses.find_last_read_phase(number).is_over(rank) && !run.job.is_output(number) {
                 let none = StageTiles {
                     rows: Vec::new(alloc),
                 };
                 let over = mem::replace(&mut self.stages[number], none);
-                scratch.recycle_stage(over);
+                scratch.recycle_stage_tiles(over);
             }
         }
     }
@@ -83,7 +83,7 @@ impl StoredTiles {
 
 impl PhasedRun<'_> {
     // Whether a stage is a function that is used and not inlined.
-    fn is_used_function(&self, number: usize, stage: &Stage) -> bool
+    fn is_used_stored_function(&self, number: usize, stage: &Stage) -> bool
         ensures wanted { result ≡ true → is_function_body (stage_view stage.now).body ≡ true
             × is_inlined self.now.schedule.now.inlining number ≡ false
             × is_used self.now.uses.now.lasts.items number ≡ true }
@@ -112,7 +112,7 @@ impl PhasedRun<'_> {
             self.now.schedule.now.inlining self.now.uses.now.lasts.items stage) }
     {
         match self.job.stage(stage) {
-            Some(found) if self.is_used_function(stage, found) => {
+            Some(found) if self.is_used_stored_function(stage, found) => {
                 let grid = Grid::new(*found.domain(), self.job.sides());
                 let run = StageRun {
                     job: self.job,
@@ -184,7 +184,7 @@ impl PhasedRun<'_> {
 /// # Errors
 ///
 /// Fails only where memory is refused.
-pub fn run_used_functions(
+pub fn make_used_function_tiles(
     rt: &(impl Threads + Sync),
     alloc: Global,
     job: &Job,
@@ -204,7 +204,7 @@ pub fn run_used_functions(
         schedule,
         uses,
     };
-    run.run_phases(rt, alloc, last_rank(job.stages()))
+    run.run_phases(rt, alloc, find_greatest_rank(job.stages()))
 }
 
 /// All tiles of the stored functions of a job: those of a rank after those of lower ranks. Several threads compute those of
@@ -229,10 +229,10 @@ pub fn run_all(
     ensures fault { IfErr result (IsRunFault (program_id_in job.now) (pipeline_in job.now)
         schedule.now.inlining (is_stored_function (pipeline_in job.now) schedule.now.inlining)) }
 {
-    if let Some(key) = find_first_oversized_tile(alloc, job, schedule, StageSelection::Functions)? {
+    if let Some(key) = find_first_oversized_tile(alloc, job, schedule, TiledStages::Functions)? {
         return Err(RunFault::ScratchTooBig(key));
     }
-    let uses = LastReads::from_job(alloc, job)?;
-    let stored = run_used_functions(rt, alloc, job, schedule, &uses)?;
+    let uses = LastReads::keep_stages_for_answer(alloc, job)?;
+    let stored = make_used_function_tiles(rt, alloc, job, schedule, &uses)?;
     Ok(stored)
 }

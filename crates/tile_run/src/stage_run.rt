@@ -11,7 +11,7 @@ ghost use Rattle.tile_run.specs.Stored.{stored_tiles};
 ghost use Rattle.tile_run.specs.inside.Running.{grid_values};
 ghost use Rattle.tile_run.specs.inside.RowWorks.{row_of};
 
-use crate::pieces::estimate_rows_per_thread;
+use crate::pieces::estimate_tile_rows_per_thread;
 use crate::stored::StoredTiles;
 use domains::Grid;
 use grouping::Schedule;
@@ -35,21 +35,21 @@ pub struct StageRun<'a> {
 
 // A row of tiles that is to be made, and vectors of earlier tiles, in which its numbers may be written.
 #[derive(Drop)]
-struct RowTask {
+struct TileRowTask {
     row: u32,
     room: TileRow,
 }
 
 impl StageRun<'_> {
     // The layout of a tile.
-    fn build_layout(&self, alloc: Global, row: u32, col: u32) -> Result<Layout<'_>, AllocError>
+    fn build_tile_layout(&self, alloc: Global, row: u32, col: u32) -> Result<Layout<'_>, AllocError>
         requires ready { IsStageReady (pipeline_in self.now.job.now) self.now.schedule.now.inlining
             (stored_tiles self.now.stored.now.stages.items) self.now.stage self.now.grid }
         requires tile { HasTile self.now.grid row col }
         ensures { IfOk result (IsTileLayout (pipeline_in self.now.job.now)
             self.now.schedule.now.inlining self.now.stage row col) }
     {
-        match Layout::of(alloc, self.job, self.schedule, self.stage, row, col) {
+        match Layout::new(alloc, self.job, self.schedule, self.stage, row, col) {
             Ok(layout) => Ok(layout),
             Err(PlanFault::NoSuchTile | PlanFault::ScratchTooBig) => unreachable!(),
             Err(PlanFault::Memory) => Err(AllocError),
@@ -70,7 +70,7 @@ impl StageRun<'_> {
         ensures { IfOk result (λ values. values.items
             ≡ tile_values (pipeline_in self.now.job.now) self.now.stage self.now.grid row col) }
     {
-        let layout = self.build_layout(alloc, row, col)?;
+        let layout = self.build_tile_layout(alloc, row, col)?;
         let tile = TileJob {
             job: self.job,
             layout: &layout,
@@ -84,7 +84,7 @@ impl StageRun<'_> {
     /// # Errors
     ///
     /// Fails only where memory is refused.
-    pub fn compute_row(
+    pub fn compute_tile_row(
         &self,
         alloc: Global,
         row: u32,
@@ -121,16 +121,16 @@ impl StageRun<'_> {
             ≡ grid_values (pipeline_in self.now.job.now) self.now.stage self.now.grid
             (tile_rows self.now.grid)) }
     {
-        let least = estimate_rows_per_thread(self.job, self.schedule, self.stage);
+        let least = estimate_tile_rows_per_thread(self.job, self.schedule, self.stage);
         if self.grid.tile_rows() as usize / 2 < least {
-            self.compute_rows_in_turn(alloc, scratch)
+            self.compute_tile_rows_in_turn(alloc, scratch)
         } else {
-            self.compute_rows_in_parallel(rt, alloc, scratch, least)
+            self.compute_tile_rows_in_parallel(rt, alloc, scratch, least)
         }
     }
 
     // Those of all rows, row by row.
-    fn compute_rows_in_turn(
+    fn compute_tile_rows_in_turn(
         &self,
         alloc: Global,
         scratch: &mut TileScratch,
@@ -143,30 +143,30 @@ impl StageRun<'_> {
     {
         let mut rows = Vec::new(alloc);
         for row in 0..self.grid.tile_rows() {
-            rows.push(self.compute_row(alloc, row, scratch)?)?;
+            rows.push(self.compute_tile_row(alloc, row, scratch)?)?;
         }
         Ok(StageTiles { rows })
     }
 
     // The rows that are to be made, with the vectors of earlier tiles.
-    fn list_row_tasks(
+    fn list_tile_row_tasks(
         &self,
         alloc: Global,
         scratch: &mut TileScratch,
-    ) -> Result<Vec<RowTask>, AllocError>
+    ) -> Result<Vec<TileRowTask>, AllocError>
         ensures { IfOk result (λ works. map row_of works.items
             ≡ range_with_len 0 (tile_rows self.now.grid)) }
     {
         let mut works = Vec::new(alloc);
         for row in 0..self.grid.tile_rows() {
-            let room = scratch.reuse_row_vectors(alloc, self.grid.tile_cols())?;
-            works.push(RowTask { row, room })?;
+            let room = scratch.reuse_tile_row_vectors(alloc, self.grid.tile_cols())?;
+            works.push(TileRowTask { row, room })?;
         }
         Ok(works)
     }
 
     // Those of all rows: each thread has at least this many, and scratch memory of its own.
-    fn compute_rows_in_parallel(
+    fn compute_tile_rows_in_parallel(
         &self,
         rt: &(impl Threads + Sync),
         alloc: Global,
@@ -179,13 +179,13 @@ impl StageRun<'_> {
             ≡ grid_values (pipeline_in self.now.job.now) self.now.stage self.now.grid
             (tile_rows self.now.grid)) }
     {
-        let works = self.list_row_tasks(alloc, scratch)?;
+        let works = self.list_tile_row_tasks(alloc, scratch)?;
         let rows = works
             .into_par_iter()
             .with_min_len(least)
             .map_init(
                 || TileScratch::new(alloc),
-                |scratch: &mut TileScratch, work: RowTask| -> Result<TileRow, AllocError>
+                |scratch: &mut TileScratch, work: TileRowTask| -> Result<TileRow, AllocError>
                     requires { IsStageReady (pipeline_in self.now.job.now) self.now.schedule.now.inlining
                         (stored_tiles self.now.stored.now.stages.items) self.now.stage self.now.grid
                         × (work.row < tile_rows self.now.grid) }
@@ -194,7 +194,7 @@ impl StageRun<'_> {
                         self.entry.now.grid work.row (tile_cols self.entry.now.grid)) }
                 {
                     scratch.replace_recycled_vectors(work.room);
-                    self.compute_row(alloc, work.row, scratch)
+                    self.compute_tile_row(alloc, work.row, scratch)
                 },
             )
             .collect::<Result<Vec<TileRow>, AllocError>>(rt, alloc)??;

@@ -10,10 +10,9 @@ ghost use Rattle.tile_run.specs.declared.phase.Phase.TheVariants.{Answer};
 ghost use Rattle.tile_run.specs.inside.Lasting.{read_in, all_read_in, with_reads, HasLastsFrom};
 
 use crate::phase::Phase;
-use grouping::{Schedule, last_rank};
+use grouping::{Schedule, find_greatest_rank};
 use job::{Job, Read, Stage, StageKind};
 use std::alloc::{AllocError, Global};
-use tile_eval::stage_of;
 
 /// For each stage of a job the phase in which it is read for the last time.
 #[derive(Drop)]
@@ -22,7 +21,7 @@ pub struct LastReads {
 }
 
 // Records that a stage is read in this phase.
-fn record_read(lasts: &mut [Phase], stage: usize, turn: Phase)
+fn record_last_read(lasts: &mut [Phase], stage: usize, turn: Phase)
     ensures { lasts.new ≡ read_in turn lasts.old stage }
 {
     if stage < lasts.len() {
@@ -31,11 +30,11 @@ fn record_read(lasts: &mut [Phase], stage: usize, turn: Phase)
 }
 
 // Records that all of these are read in this phase.
-fn record_reads(lasts: &mut [Phase], reads: &[Read], turn: Phase)
+fn record_last_reads_of_phase(lasts: &mut [Phase], reads: &[Read], turn: Phase)
     ensures { lasts.new ≡ all_read_in turn lasts.old (map read_view reads.now) }
 {
     for read in reads {
-        record_read(lasts, stage_of(read), turn);
+        record_last_read(lasts, read.stage(), turn);
     }
 }
 
@@ -45,7 +44,7 @@ impl LastReads {
     /// # Errors
     ///
     /// Fails only where memory is refused.
-    pub(crate) fn from_job(alloc: Global, job: &Job) -> Result<LastReads, AllocError>
+    pub(crate) fn keep_stages_for_answer(alloc: Global, job: &Job) -> Result<LastReads, AllocError>
         ensures lasts { IfOk result (λ uses. (inlining : List Bool)
             → HasLasts (pipeline_in job.now) inlining uses.lasts.items) }
         ensures each { IfOk result (λ uses. (g : ℕ)
@@ -70,7 +69,7 @@ impl LastReads {
         ensures { IfOk result (λ uses. HasLasts (pipeline_in job.now) schedule.now.inlining
             uses.lasts.items) }
     {
-        let last = last_rank(job.stages());
+        let last = find_greatest_rank(job.stages());
         let mut uses = LastReads {
             lasts: vec![in alloc; Phase::Never; job.stages().len()]?,
         };
@@ -82,7 +81,7 @@ impl LastReads {
     }
 
     /// When a stage is read for the last time.
-    pub fn find_last_phase(&self, stage: usize) -> Phase
+    pub fn find_last_read_phase(&self, stage: usize) -> Phase
         ensures { result ≡ last_of self.now.lasts.items stage }
     {
         self.lasts.get(stage).copied().unwrap_or(Phase::Never)
@@ -92,14 +91,14 @@ impl LastReads {
     pub fn is_used(&self, stage: usize) -> bool
         ensures { result ≡ is_used self.now.lasts.items stage }
     {
-        match self.find_last_phase(stage) {
+        match self.find_last_read_phase(stage) {
             Phase::Never => false,
             Phase::Rank(_) | Phase::Answer => true,
         }
     }
 
     // The phase in which a stage reads for the last time.
-    fn find_reading_phase(
+    fn find_phase_of_own_reads(
         &self,
         job: &Job,
         schedule: &Schedule,
@@ -110,7 +109,7 @@ impl LastReads {
             self.now.lasts.items number (stage_view stage.now) }
     {
         if schedule.inlined(number) {
-            return self.find_last_phase(number);
+            return self.find_last_read_phase(number);
         }
         match stage.kind() {
             StageKind::Plane => Phase::Never,
@@ -126,8 +125,8 @@ impl LastReads {
             ≡ with_reads (pipeline_in job.now) schedule.now.inlining self.old.lasts.items number }
     {
         if let Some(stage) = job.stage(number) {
-            let turn = self.find_reading_phase(job, schedule, number, stage);
-            record_reads(&mut self.lasts, stage.reads(), turn);
+            let turn = self.find_phase_of_own_reads(job, schedule, number, stage);
+            record_last_reads_of_phase(&mut self.lasts, stage.reads(), turn);
         }
     }
 

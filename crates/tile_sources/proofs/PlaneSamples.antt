@@ -7,7 +7,7 @@ use Rattle.std.proofs.lemmas.Nat.{mul-add-lt}
 use Rattle.domains.specs.Area.{HoldsPoint}
 use Rattle.domains.specs.Index.{Scale, index_at}
 use Rattle.netpbm.specs.Image.{Image}
-use Rattle.plane_samples.specs.declared.samples.Samples.{Samples}
+use Rattle.plane_samples.specs.declared.samples.PlaneSamples.{PlaneSamples}
 use Rattle.plane_samples.specs.Samples.{count_in, sample_in, IsSamples}
 use Rattle.job.specs.Values.{sample_at}
 use Rattle.job.specs.WellFormed.{picture_area}
@@ -41,11 +41,11 @@ row_below p r c (suc m) place is some h =
     omega (arith, sample_below p r (c +ℤ pos m) last)
 
 -- samples are those of the list
-sample_of : (k : ℕ) (samples : Samples) (list : List ℕ) → IsSamples samples list → k < count_in samples → sample_in samples k ≡ slice_index list k
+sample_of : (k : ℕ) (samples : PlaneSamples) (list : List ℕ) → IsSamples samples list → k < count_in samples → sample_in samples k ≡ slice_index list k
 sample_of k samples list are l = are.1 k (omega (arith, are.0))
 
 -- the samples of a row follow one another
-pub sample_along : (p : Image) (n : ℕ) (r c : ℤ) (place k : ℕ) (samples : Samples) (v : ℤ) → IsSamples samples (slice_index_or p.planes n [])
+pub sample_along : (p : Image) (n : ℕ) (r c : ℤ) (place k : ℕ) (samples : PlaneSamples) (v : ℤ) → IsSamples samples (slice_index_or p.planes n [])
     → place + k < count_in samples → place ≡ unsigned_abs r * p.cols + unsigned_abs c → pos 0 ≤ℤ c
     → v ≡ pos (sample_in samples (place + k)) → v ≡ sample_at p n r (c +ℤ pos k)
 sample_along p n r c place k samples v are there is start e =
@@ -75,7 +75,7 @@ module _ (p : Image) (r : ℤ) (x : Scale) (c : ℤ) (far : ℕ → ℕ) (n plac
   pub far_below : (k : ℕ) → k < n → place + far k < p.rows * p.cols
   far_below k l = subst (λ (q : ℕ). q < p.rows * p.cols) (sym (sample_goes k l)) (sample_below p r (index_at x (c +ℤ pos k)) (each k l))
 
-  pub sample_picked : (plane : ℕ) (samples : Samples) (v : ℤ) (k : ℕ) → IsSamples samples (slice_index_or p.planes plane [])
+  pub sample_picked : (plane : ℕ) (samples : PlaneSamples) (v : ℤ) (k : ℕ) → IsSamples samples (slice_index_or p.planes plane [])
       → count_in samples ≡ p.rows * p.cols → k < n
       → v ≡ pos (sample_in samples (place + far k)) → v ≡ sample_at p plane r (index_at x (c +ℤ pos k))
   sample_picked plane samples v k are count l e =

@@ -17,7 +17,7 @@ use Rattle.domains.proofs.Indices.{index_rises}
 use Rattle.domains.proofs.PartsOfSpans.{place_only}
 use Rattle.row_kernels.specs.declared.buffer_view.BufferView.{BufferView}
 use Rattle.tile_eval.specs.Rows.{EachPlace, at}
-use Rattle.tile_eval.specs.Buffer.{place_of}
+use Rattle.tile_eval.specs.Raster.{place_of}
 use Rattle.tile_sources.specs.KnownTiles.{KnownTiles, number_in, number_at, IsGivenAt}
 use Rattle.tile_sources.specs.inside.Tiles.{IsTileAbout}
 

@@ -9,7 +9,7 @@ use Rattle.job.specs.Pipeline.{Stage, Pipeline}
 use Rattle.job.specs.Answers.{grid_of}
 use Rattle.job.specs.Values.{value}
 use Rattle.tile_eval.specs.Rows.{EachPlace, at}
-use Rattle.tile_eval.specs.Buffer.{place_of, raster}
+use Rattle.tile_eval.specs.Raster.{place_of, raster}
 
 -- of a stage, and of the row and the column of a tile in its grid, the numbers of the tile, if they are supplied
 abbrev pub KnownTiles : Type 0

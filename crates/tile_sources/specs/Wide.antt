@@ -4,7 +4,7 @@ use Rattle.domains.specs.Area.{HoldsPoint}
 use Rattle.domains.specs.declared.area.Area.{Area}
 use Rattle.netpbm.specs.Image.{Image}
 use Rattle.job.specs.Values.{sample_at}
-use Rattle.tile_eval.specs.Buffer.{place_of}
+use Rattle.tile_eval.specs.Raster.{place_of}
 use Rattle.tile_eval.specs.Rows.{at}
 use Rattle.tile_sources.specs.declared.plane_buffer.PlaneBuffer.{PlaneBuffer}
 use Rattle.tile_sources.specs.declared.plane_buffers.PlaneBuffers.{PlaneBuffers}

@@ -11,9 +11,9 @@ mod supplied_tiles;
 mod tile_source;
 
 pub use plane_buffers::PlaneBuffers;
-pub use plane_reads::{PlaneAreas, find_plane_areas};
-pub use ranges::borrow_range;
-pub use samples::{gather_plane_row, read_plane_row, read_plane_sample};
+pub use plane_reads::{PlaneAreas, find_plane_areas_to_convert};
+pub use ranges::borrow_tile_number_range;
+pub use samples::{gather_plane_row_for_tile, read_plane_row_for_tile, read_sample_for_tile};
 pub use supplied_rows::borrow_supplied_row_part;
 pub use supplied_tiles::SuppliedTiles;
 pub use tile_source::TileSource;

@@ -4,7 +4,7 @@
 
 use domains::{Area, Index, Span};
 use job::{Body, Formula, Function, Job, JobCase, Kernel};
-use overlap_tiles::Step;
+use overlap_tiles::TileStep;
 
 /// Of each plane the area over which its samples are converted for a tile, if that pays off.
 #[derive(Clone, Copy)]
@@ -16,26 +16,26 @@ pub struct PlaneAreas {
 
 // How a plane is read: how many samples in all, and over which area.
 #[derive(Clone, Copy)]
-struct PlaneReads {
+struct ReadsOfOnePlane {
     samples: u64,
     area: Option<Area>,
 }
 
-impl PlaneReads {
-    fn new() -> PlaneReads {
-        PlaneReads {
+impl ReadsOfOnePlane {
+    fn new() -> ReadsOfOnePlane {
+        ReadsOfOnePlane {
             samples: 0,
             area: None,
         }
     }
 
     // Adds `samples` samples, over this area.
-    fn count_samples(&self, samples: u64, area: Area) -> PlaneReads {
+    fn add_area_reads(&self, samples: u64, area: Area) -> ReadsOfOnePlane {
         let area = match self.area {
             Some(own) => own.hull(&area),
             None => area,
         };
-        PlaneReads {
+        ReadsOfOnePlane {
             samples: self.samples.saturating_add(samples),
             area: Some(area),
         }
@@ -54,7 +54,7 @@ impl PlaneReads {
 }
 
 // What an index takes the numbers of a span to, if the span lies near enough to 0.
-fn map_span_by_index(index: &Index, span: &Span) -> Option<Span> {
+fn find_plane_span_read_by_index(index: &Index, span: &Span) -> Option<Span> {
     if -32_767 <= span.lo() && span.hi() <= 32_768 {
         Some(index.image(span))
     } else {
@@ -62,30 +62,30 @@ fn map_span_by_index(index: &Index, span: &Span) -> Option<Span> {
     }
 }
 
-fn map_region_by_indices(row: &Index, col: &Index, region: &Area) -> Option<Area> {
-    let rows = map_span_by_index(row, &region.rows)?;
-    let cols = map_span_by_index(col, &region.cols)?;
+fn find_plane_region_read_by_indices(row: &Index, col: &Index, region: &Area) -> Option<Area> {
+    let rows = find_plane_span_read_by_index(row, &region.rows)?;
+    let cols = find_plane_span_read_by_index(col, &region.cols)?;
     Some(Area { rows, cols })
 }
 
 // A span with `by` more numbers on each side.
-fn expand_span(span: &Span, by: usize) -> Option<Span> {
+fn extend_plane_span(span: &Span, by: usize) -> Option<Span> {
     let by = by.min(7) as i32;
     Span::new(span.lo() - by, span.hi() + by)
 }
 
-fn expand_region_by_kernel(kernel: &Kernel, region: &Area) -> Option<Area> {
+fn find_plane_region_read_by_kernel(kernel: &Kernel, region: &Area) -> Option<Area> {
     let lines = kernel.as_slice();
     let width = lines.first()?.as_slice().len();
-    let rows = expand_span(&region.rows, lines.len() / 2)?;
-    let cols = expand_span(&region.cols, width / 2)?;
+    let rows = extend_plane_span(&region.rows, lines.len() / 2)?;
+    let cols = extend_plane_span(&region.cols, width / 2)?;
     Some(Area { rows, cols })
 }
 
 // Adds reads of a stage, if it is a plane: of `samples` samples, over this area of its domain.
-fn record_plane_reads(
+fn record_reads_of_plane(
     job: &Job,
-    reads: &mut [PlaneReads],
+    reads: &mut [ReadsOfOnePlane],
     stage: usize,
     samples: u64,
     area: Option<Area>,
@@ -97,92 +97,109 @@ fn record_plane_reads(
         return;
     };
     if *plane < reads.len() {
-        reads[*plane] = reads[*plane].count_samples(samples, within);
+        reads[*plane] = reads[*plane].add_area_reads(samples, within);
     }
 }
 
 // Adds the reads of a formula over a region. One that takes columns that are not adjacent is left out.
-fn record_formula_reads(job: &Job, reads: &mut [PlaneReads], formula: &Formula, region: &Area) {
+fn record_plane_reads_of_formula(
+    job: &Job,
+    reads: &mut [ReadsOfOnePlane],
+    formula: &Formula,
+    region: &Area,
+) {
     match formula {
         Formula::Number(_) | Formula::Coordinate(_) => {}
         Formula::Read(stage, row, col) => {
             if col.mul() == 1 && col.div() == 1 {
-                let area = map_region_by_indices(row, col, region);
-                record_plane_reads(job, reads, *stage, region.points(), area);
+                let area = find_plane_region_read_by_indices(row, col, region);
+                record_reads_of_plane(job, reads, *stage, region.points(), area);
             }
         }
         Formula::Unary(_, a) | Formula::Lookup(_, a) | Formula::Literal(_, a, _) => {
-            record_formula_reads(job, reads, a, region);
+            record_plane_reads_of_formula(job, reads, a, region);
         }
         Formula::Binary(_, a, b) => {
-            record_formula_reads(job, reads, a, region);
-            record_formula_reads(job, reads, b, region);
+            record_plane_reads_of_formula(job, reads, a, region);
+            record_plane_reads_of_formula(job, reads, b, region);
         }
         Formula::Ternary(_, a, b, c) => {
-            record_formula_reads(job, reads, a, region);
-            record_formula_reads(job, reads, b, region);
-            record_formula_reads(job, reads, c, region);
+            record_plane_reads_of_formula(job, reads, a, region);
+            record_plane_reads_of_formula(job, reads, b, region);
+            record_plane_reads_of_formula(job, reads, c, region);
         }
         Formula::Select(a, _, b, first, second) => {
-            record_formula_reads(job, reads, a, region);
-            record_formula_reads(job, reads, b, region);
-            record_formula_reads(job, reads, first, region);
-            record_formula_reads(job, reads, second, region);
+            record_plane_reads_of_formula(job, reads, a, region);
+            record_plane_reads_of_formula(job, reads, b, region);
+            record_plane_reads_of_formula(job, reads, first, region);
+            record_plane_reads_of_formula(job, reads, second, region);
         }
         Formula::Stencil(stage, _, kernel) => {
             let samples = region
                 .points()
                 .saturating_mul(kernel.as_slice().len() as u64);
-            record_plane_reads(
+            record_reads_of_plane(
                 job,
                 reads,
                 *stage,
                 samples,
-                expand_region_by_kernel(kernel, region),
+                find_plane_region_read_by_kernel(kernel, region),
             );
         }
     }
 }
 
-fn record_case_reads(job: &Job, reads: &mut [PlaneReads], case: &JobCase, region: &Area) {
+fn record_plane_reads_of_case(
+    job: &Job,
+    reads: &mut [ReadsOfOnePlane],
+    case: &JobCase,
+    region: &Area,
+) {
     if let Some(area) = case.area() {
         if let Some(common) = area.meet(region) {
-            record_formula_reads(job, reads, case.formula(), &common);
+            record_plane_reads_of_formula(job, reads, case.formula(), &common);
         }
     }
 }
 
-fn record_function_reads(job: &Job, reads: &mut [PlaneReads], function: &Function, region: &Area) {
+fn record_plane_reads_of_function(
+    job: &Job,
+    reads: &mut [ReadsOfOnePlane],
+    function: &Function,
+    region: &Area,
+) {
     for case in function.cases() {
-        record_case_reads(job, reads, case, region);
+        record_plane_reads_of_case(job, reads, case, region);
     }
     if let Some(formula) = function.otherwise() {
-        record_formula_reads(job, reads, formula, region);
+        record_plane_reads_of_formula(job, reads, formula, region);
     }
 }
 
 // Adds the reads of a step.
-fn record_step_reads(job: &Job, reads: &mut [PlaneReads], step: &Step) {
+fn record_plane_reads_of_step(job: &Job, reads: &mut [ReadsOfOnePlane], step: &TileStep) {
     let Some(found) = job.stage(step.stage) else {
         return;
     };
     match found.body() {
         Body::Plane(_) => {}
-        Body::Function(function) => record_function_reads(job, reads, function, &step.area),
+        Body::Function(function) => record_plane_reads_of_function(
+            job, reads, function, &step.area,
+        ),
         Body::Accumulator(accumulator) => {
-            record_formula_reads(job, reads, accumulator.value(), &step.area);
-            record_formula_reads(job, reads, accumulator.bin(), &step.area);
+            record_plane_reads_of_formula(job, reads, accumulator.value(), &step.area);
+            record_plane_reads_of_formula(job, reads, accumulator.bin(), &step.area);
         }
     }
 }
 
 /// Of each plane the area over which these steps read its samples. There is one if they read them repeatedly, row by row,
 /// and it has no more points than four times the largest step.
-pub fn find_plane_areas(job: &Job, steps: &[Step]) -> PlaneAreas {
-    let mut reads = [PlaneReads::new(); 3];
+pub fn find_plane_areas_to_convert(job: &Job, steps: &[TileStep]) -> PlaneAreas {
+    let mut reads = [ReadsOfOnePlane::new(); 3];
     let mut largest = 0;
     for step in steps {
-        record_step_reads(job, &mut reads, step);
+        record_plane_reads_of_step(job, &mut reads, step);
         largest = step.area.points().max(largest);
     }
     let most = largest.saturating_mul(4);

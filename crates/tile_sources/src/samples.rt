@@ -10,12 +10,12 @@ ghost use Rattle.job.specs.WellFormed.{picture_area};
 ghost use Rattle.tile_eval.specs.Rows.{EachPlace, at};
 
 use domains::Index;
-use netpbm::{Picture, Samples};
-use row_kernels::{RowSpan, gather_samples, take_samples};
+use netpbm::{Picture, PlaneSamples};
+use row_kernels::{RowSpan, convert_samples_to_row, gather_samples};
 
 // The place of a sample among those of a plane.
 #[tactic(auto, using(crate::proofs::PlaneSamples::sample_below))]
-fn locate_sample(picture: &Picture, row: i32, col: i32) -> usize
+fn locate_sample_for_tile(picture: &Picture, row: i32, col: i32) -> usize
     requires { HoldsPoint (picture_area picture.now) row col }
     ensures place { result ≡ unsigned_abs row * picture.now.cols + unsigned_abs col }
     ensures below { result < picture.now.rows * picture.now.cols }
@@ -24,7 +24,7 @@ fn locate_sample(picture: &Picture, row: i32, col: i32) -> usize
 }
 
 // The samples of a plane, row by row.
-fn borrow_plane_samples(picture: &Picture, plane: usize) -> Samples<'_>
+fn borrow_plane_for_tile(picture: &Picture, plane: usize) -> PlaneSamples<'_>
     requires { plane < length picture.now.planes }
     ensures samples { IsSamples result (slice_index_or picture.now.planes plane []) }
     ensures count { count_in result ≡ picture.now.rows * picture.now.cols }
@@ -33,7 +33,13 @@ fn borrow_plane_samples(picture: &Picture, plane: usize) -> Samples<'_>
 }
 
 /// The samples of a plane along a row, from a column on.
-pub fn read_plane_row(picture: &Picture, plane: usize, row: i32, first: i32, out: &mut [i32])
+pub fn read_plane_row_for_tile(
+    picture: &Picture,
+    plane: usize,
+    row: i32,
+    first: i32,
+    out: &mut [i32],
+)
     requires plane { plane < length picture.now.planes }
     requires there { EachPlace (length out.old)
         (λ k. HoldsPoint (picture_area picture.now) row (first +ℤ pos k)) }
@@ -41,13 +47,13 @@ pub fn read_plane_row(picture: &Picture, plane: usize, row: i32, first: i32, out
         (λ k. at out.new k ≡ sample_at picture.now plane row (first +ℤ pos k)) }
 {
     if !out.is_empty() {
-        let place = locate_sample(picture, row, first);
-        take_samples(&borrow_plane_samples(picture, plane), place, out);
+        let place = locate_sample_for_tile(picture, row, first);
+        convert_samples_to_row(&borrow_plane_for_tile(picture, plane), place, out);
     }
 }
 
 /// The samples of a plane along a row, at the columns that an index takes at the columns of some points.
-pub fn gather_plane_row(
+pub fn gather_plane_row_for_tile(
     picture: &Picture,
     plane: usize,
     row: i32,
@@ -65,9 +71,9 @@ pub fn gather_plane_row(
     if out.is_empty() {
         return;
     }
-    let place = locate_sample(picture, row, col.at(points.col));
+    let place = locate_sample_for_tile(picture, row, col.at(points.col));
     gather_samples(
-        &borrow_plane_samples(picture, plane),
+        &borrow_plane_for_tile(picture, plane),
         place,
         col,
         points,
@@ -76,7 +82,7 @@ pub fn gather_plane_row(
 }
 
 /// A sample of a plane.
-pub fn read_plane_sample(picture: &Picture, plane: usize, row: i32, col: i32) -> i32
+pub fn read_sample_for_tile(picture: &Picture, plane: usize, row: i32, col: i32) -> i32
     requires plane { plane < length picture.now.planes }
     requires there { HoldsPoint (picture_area picture.now) row col }
     ensures { result ≡ sample_at picture.now plane row col }

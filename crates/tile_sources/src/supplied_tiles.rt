@@ -6,13 +6,13 @@ ghost use Rattle.domains.specs.Area.{HoldsPoint, IsArea};
 ghost use Rattle.domains.specs.Index.{index_at};
 ghost use Rattle.domains.specs.Span.{Holds};
 ghost use Rattle.tile_eval.specs.Rows.{EachPlace, at};
-ghost use Rattle.tile_eval.specs.Buffer.{place_of};
+ghost use Rattle.tile_eval.specs.Raster.{place_of};
 ghost use Rattle.tile_sources.specs.KnownTiles.{number_at, HasWholeTiles, IsGivenAt};
 ghost use Rattle.tile_sources.specs.inside.Tiles.{IsTileAbout};
 
 use crate::tile_source::TileSource;
 use domains::{Grid, Index, Span};
-use row_kernels::{BufferView, RowSpan, number_after};
+use row_kernels::{BufferView, RowSpan, offset_coordinate};
 
 /// The supplied tiles of one stage.
 #[derive(Drop)]
@@ -26,7 +26,7 @@ pub struct SuppliedTiles<'a, K: TileSource> {
 
 // How many numbers of a span there are from this one on, but at most `most`.
 #[tactic(auto, using(std::proofs::lemmas::Int::ints))]
-fn count_remaining_at_most(span: &Span, first: i32, most: usize) -> usize
+fn count_tile_columns_from(span: &Span, first: i32, most: usize) -> usize
     requires held { Holds span.now first }
     requires some { 0 < most }
     ensures some { 0 < result }
@@ -38,7 +38,7 @@ fn count_remaining_at_most(span: &Span, first: i32, most: usize) -> usize
 
 // How many of some points, from the first on, an index takes into a span. An index never falls: between two columns that it
 // takes into the span it takes all columns there, so the last is found by binary search.
-fn count_points_in_span(span: &Span, col: &Index, points: &RowSpan) -> usize
+fn count_points_in_tile_columns(span: &Span, col: &Index, points: &RowSpan) -> usize
     requires held { Holds span.now (index_at col.now points.now.col) }
     requires some { 0 < points.now.len }
     ensures some { 0 < result }
@@ -60,7 +60,7 @@ fn count_points_in_span(span: &Span, col: &Index, points: &RowSpan) -> usize
 }
 
 // `count` numbers of a block along a row, from a column on, if its columns go so far.
-fn borrow_tile_row<'a>(
+fn borrow_row_within_tile<'a>(
     block: &BufferView<'a>,
     row: i32,
     first: i32,
@@ -73,10 +73,10 @@ fn borrow_tile_row<'a>(
     ensures values { IfSome result (λ line. EachPlace count (λ k. at line.now k
         ≡ at block.now.values.now (place_of block.now.area row (first +ℤ pos k)))) }
 {
-    if count == 0 || count_remaining_at_most(block.columns(), first, count) < count {
+    if count == 0 || count_tile_columns_from(block.columns(), first, count) < count {
         return None;
     }
-    Some(block.slice(row, first, count))
+    Some(block.slice_row(row, first, count))
 }
 
 impl<'a, K: TileSource> SuppliedTiles<'a, K> {
@@ -105,10 +105,10 @@ impl<'a, K: TileSource> SuppliedTiles<'a, K> {
             (first +ℤ pos k)) }
     {
         match self.view_tile_at(row, first) {
-            Some(block) => block.slice(
+            Some(block) => block.slice_row(
                 row,
                 first,
-                count_remaining_at_most(block.columns(), first, most),
+                count_tile_columns_from(block.columns(), first, most),
             ),
             None => unreachable!(),
         }
@@ -140,7 +140,7 @@ impl<'a, K: TileSource> SuppliedTiles<'a, K> {
     {
         let mut done = 0;
         while done < out.len() {
-            done += self.read_row_part(row, number_after(first, done), &mut out[done..]);
+            done += self.read_row_part(row, offset_coordinate(first, done), &mut out[done..]);
         }
     }
 
@@ -157,10 +157,10 @@ impl<'a, K: TileSource> SuppliedTiles<'a, K> {
             ≡ number_at (K.given self.now.known.now) self.now.stage self.now.grid row
             (index_at col.now (points.now.col +ℤ pos k))) }
     {
-        match self.view_tile_at(row, points.col_at(col)) {
+        match self.view_tile_at(row, points.first_column_at_index(col)) {
             Some(block) => {
-                let count = count_points_in_span(block.columns(), col, points);
-                block.gather(row, col, &points.first(count), &mut out[..count]);
+                let count = count_points_in_tile_columns(block.columns(), col, points);
+                block.gather_row(row, col, &points.first_points(count), &mut out[..count]);
                 count
             }
             None => out.len(),
@@ -168,7 +168,7 @@ impl<'a, K: TileSource> SuppliedTiles<'a, K> {
     }
 
     /// Writes the numbers along a row, at the columns that an index takes at the columns of some points.
-    pub fn gather(&self, row: i32, col: &Index, points: &RowSpan, out: &mut [i32])
+    pub fn gather_row(&self, row: i32, col: &Index, points: &RowSpan, out: &mut [i32])
         requires fits { length out.old ≡ points.now.len }
         requires there { EachPlace (length out.old) (λ k. IsGivenAt (K.given self.now.known.now)
             self.now.stage self.now.grid row (index_at col.now (points.now.col +ℤ pos k))) }
@@ -178,7 +178,12 @@ impl<'a, K: TileSource> SuppliedTiles<'a, K> {
     {
         let mut done = 0;
         while done < out.len() {
-            done += self.gather_row_part(row, col, &points.part(done, out.len()), &mut out[done..]);
+            done += self.gather_row_part(
+                row,
+                col,
+                &points.slice_points(done, out.len()),
+                &mut out[done..],
+            );
         }
     }
 
@@ -192,7 +197,7 @@ impl<'a, K: TileSource> SuppliedTiles<'a, K> {
             (first +ℤ pos k))) }
     {
         match self.view_tile_at(row, first) {
-            Some(block) => borrow_tile_row(&block, row, first, count),
+            Some(block) => borrow_row_within_tile(&block, row, first, count),
             None => None,
         }
     }
@@ -204,7 +209,7 @@ impl<'a, K: TileSource> SuppliedTiles<'a, K> {
             ≡ number_at (K.given self.now.known.now) self.now.stage self.now.grid row col }
     {
         match self.view_tile_at(row, col) {
-            Some(block) => block.sample(row, col),
+            Some(block) => block.read_sample(row, col),
             None => 0,
         }
     }

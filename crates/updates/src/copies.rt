@@ -18,7 +18,7 @@ pub fn copy_updates(alloc: Global, updates: &[Update]) -> Result<Vec<Update>, Al
 }
 
 /// The update that is this fact, alone.
-pub fn wrap_fact(alloc: Global, fact: &Fact) -> Result<Vec<Update>, AllocError>
+pub fn copy_fact_to_updates(alloc: Global, fact: &Fact) -> Result<Vec<Update>, AllocError>
     ensures { IfOk result (λ updates. updates.items ≡ update.Fact fact.now ∷ []) }
 {
     let mut updates = Vec::with_capacity(alloc, 1)?;

@@ -3,4 +3,4 @@
 
 mod copies;
 
-pub use copies::{copy_updates, wrap_fact};
+pub use copies::{copy_fact_to_updates, copy_updates};

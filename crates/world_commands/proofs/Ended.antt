@@ -9,14 +9,14 @@ use Rattle.gossip_events.specs.declared.event.Event.{Event}
 use Rattle.worlds.specs.Worlds.{RunsOn, WorldView}
 use Rattle.world_commands.specs.WorldLines.{count_line, node_lines}
 use Rattle.world_commands.specs.WorldSayings.{IsOutcome}
-use Rattle.world_commands.specs.declared.contents.NodeContents.{NodeContents}
+use Rattle.world_commands.specs.declared.contents.WorldNodeReport.{WorldNodeReport}
 use Rattle.world_commands.specs.inside.Outcomes.{held_line}
 
 -- all events were gone through
 all_gone : (events : List Event) (done : ℕ) → done ≡ length events → take done events ≡ events
 all_gone events done all = let long : length events ≤ done = omega (arith, all) in take_all done events long
 
-pub run_outcome : (u : WorldWork) (size : ℕ) (events : List Event) (w : WorldView) (done refused : ℕ) (nodes : List NodeContents) → w.work ≡ u
+pub run_outcome : (u : WorldWork) (size : ℕ) (events : List Event) (w : WorldView) (done refused : ℕ) (nodes : List WorldNodeReport) → w.work ≡ u
     → RunsOn w size [] [] (take done events) refused → done ≡ length events → flat_map held_line nodes ≡ node_lines size w.network
     → IsOutcome u size events (count_line done refused ++ flat_map held_line nodes)
 run_outcome u size events w done refused nodes same ran all lines =

@@ -9,7 +9,7 @@ use Rattle.gossip_core.specs.Steps.{held, no_states}
 use Rattle.tile_boxes.proofs.Lists.{flat_map_range_more}
 use Rattle.node_state.specs.States.{State, facts_in, retired_in}
 use Rattle.world_commands.specs.WorldLines.{contents_line, node_line, node_lines}
-use Rattle.world_commands.specs.declared.contents.NodeContents.{NodeContents}
+use Rattle.world_commands.specs.declared.contents.WorldNodeReport.{WorldNodeReport}
 use Rattle.world_commands.specs.inside.Outcomes.{held_line}
 
 -- what a node holds that is there
@@ -22,7 +22,7 @@ held_there w n s is =
     ] is
 
 -- the line of one node more
-pub node_more : (w : Network) (n : ℕ) (before now : List NodeContents) (next : NodeContents) → flat_map held_line before ≡ node_lines n w
+pub node_more : (w : Network) (n : ℕ) (before now : List WorldNodeReport) (next : WorldNodeReport) → flat_map held_line before ≡ node_lines n w
     → next.node ≡ n → next.retired.items ≡ retired_in (held w n) → next.facts.items ≡ facts_in (held w n) → now ≡ before ++ next ∷ [] → flat_map held_line now ≡ node_lines (n + 1) w
 node_more w n before now next was node retired facts is =
     ap (flat_map held_line) is ∙ sym (flat_map_more held_line [] before next)

@@ -5,7 +5,7 @@ use Rattle.std.specs.List.{flat_map, range_with_len}
 use Rattle.fact_lines.specs.Written.{written}
 use Rattle.gossip_core.specs.Networks.{Network}
 use Rattle.gossip_core.specs.Steps.{held}
-use Rattle.identity.specs.declared.job_ids.Ids.{Ids}
+use Rattle.identity.specs.declared.job_ids.JobId.{JobId}
 use Rattle.node_state.specs.States.{State, facts_in, retired_in}
 use Rattle.tile_fact.specs.declared.fact.Fact.{Fact}
 
@@ -18,7 +18,7 @@ abbrev pub node_head : ℕ → List ℕ
 node_head n = codes "node " ++ decimal n ++ 32 ∷ []
 
 -- and the line of the file of these retired jobs and facts
-abbrev pub contents_line : ℕ → List Ids → List Fact → List ℕ
+abbrev pub contents_line : ℕ → List JobId → List Fact → List ℕ
 contents_line n retired facts = node_head n ++ written retired facts
 
 -- which are those of the node's state

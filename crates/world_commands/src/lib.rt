@@ -10,4 +10,4 @@ mod stream;
 mod world_input;
 
 pub use stream::world_stream;
-pub use world_input::read_world;
+pub use world_input::read_world_input;

@@ -6,48 +6,48 @@ ghost use Rattle.world_commands.specs.WorldFaults.{IsWorldFault};
 ghost use Rattle.world_commands.specs.WorldSayings.{IsOutcome, IsSaidOfWorld};
 ghost use Rattle.world_commands.specs.inside.Outcomes.{outcome_lines};
 
-use crate::contents::NodeContents;
-use crate::holding::collect_contents;
-use crate::start::begin;
-use crate::world_input::read_world;
+use crate::contents::WorldNodeReport;
+use crate::holding::collect_world_node_reports;
+use crate::start::make_world_of_options;
+use crate::world_input::read_world_input;
 use command_faults::StreamFault;
-use command_line::{NodeCount, Options};
+use command_line::{NodesArg, Options};
 use gossip_events::Event;
 use std::alloc::{AllocError, Global};
 use worlds::World;
 
 /// How many events there were, how many of these were refused, and what each node then holds.
 #[derive(Drop)]
-pub struct Outcome {
+pub struct WorldOutcome {
     pub done: usize,
     pub refused: usize,
-    pub nodes: Vec<NodeContents>,
+    pub nodes: Vec<WorldNodeReport>,
 }
 
 /// What becomes of so many nodes by the script of an input. The input is freed.
-pub fn compute_outcome(
+pub fn compute_outcome_of_world_input(
     alloc: Global,
-    nodes: NodeCount,
+    nodes: NodesArg,
     options: &Options,
     given: &[(String, i32)],
     input: Vec<u8>,
-) -> Result<Outcome, StreamFault>
+) -> Result<WorldOutcome, StreamFault>
     ensures said { IfOk result (λ outcome. IsSaidOfWorld nodes options.now given.now input.items
         (outcome_lines outcome)) }
     ensures fault { IfErr result (IsWorldFault input.items given.now options.now.sides) }
 {
-    let (catalog, events) = read_world(alloc, options, given, input)?;
-    let world = begin(alloc, nodes, options, catalog)?;
-    Ok(run_events(alloc, nodes, world, &events)?)
+    let (catalog, events) = read_world_input(alloc, options, given, input)?;
+    let world = make_world_of_options(alloc, nodes, options, catalog)?;
+    Ok(run_events_of_world_input(alloc, nodes, world, &events)?)
 }
 
 /// What becomes by the events of a world of so many nodes that hold nothing.
-fn run_events(
+fn run_events_of_world_input(
     alloc: Global,
-    nodes: NodeCount,
+    nodes: NodesArg,
     world: World,
     events: &[Event],
-) -> Result<Outcome, AllocError>
+) -> Result<WorldOutcome, AllocError>
     requires { Leads world.work nodes [] [] world.network }
     ensures { IfOk result
         (λ outcome. IsOutcome world.work nodes events.now (outcome_lines outcome)) }
@@ -57,9 +57,9 @@ fn run_events(
     if ran.memory {
         return Err(AllocError);
     }
-    Ok(Outcome {
+    Ok(WorldOutcome {
         done: ran.done,
         refused: ran.refused,
-        nodes: collect_contents(alloc, nodes, &world)?,
+        nodes: collect_world_node_reports(alloc, nodes, &world)?,
     })
 }

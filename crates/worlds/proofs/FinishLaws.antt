@@ -9,7 +9,7 @@ use Rattle.gossip_events.specs.declared.event.Event.{Event}
 use Rattle.identity.specs.declared.key.Key.{Key}
 use Rattle.held_facts.specs.Facts.{FactSet}
 use Rattle.node_state.specs.States.{retires}
-use Rattle.overlap_tiles.specs.Work.{first_without_room, wanted_keys, work_keys}
+use Rattle.overlap_tiles.specs.Work.{find_key_over_scratch_limit, wanted_keys, work_keys}
 use Rattle.worlds.specs.Finishes.{Finishes, IsFinishFault, LacksRoom}
 use Rattle.worlds.specs.Worlds.{IsWorld, WorldView}
 use Rattle.worlds.specs.declared.fault.FinishFault.{FinishFault}
@@ -25,7 +25,7 @@ module _ (w : WorldView) (n j : ℕ) (entry : Entry) (inlining : List Bool) (s :
     inlining = inlining;
     planned = planned;
     live = live;
-    first = subst (λ t. first_without_room entry.pipeline inlining (lacked_work t entry inlining) ≡ Some key) held_is h;
+    first = subst (λ t. find_key_over_scratch_limit entry.pipeline inlining (lacked_work t entry inlining) ≡ Some key) held_is h;
   }
   room_fault there finish.Memory h = there
   room_fault there finish.NoSuchNode h = absurd h
@@ -34,13 +34,13 @@ module _ (w : WorldView) (n j : ℕ) (entry : Entry) (inlining : List Bool) (s :
 
   module _ (is : IsWorld w.work w.network) (here : n < length w.network.nodes) (keys : List Key)
       (keys_are : keys ≡ lacked_work s entry inlining)
-      (room : first_without_room entry.pipeline inlining keys ≡ None) (events : List Event)
+      (room : find_key_over_scratch_limit entry.pipeline inlining keys ≡ None) (events : List Event)
       (events_are : events ≡ makings n (length w.network.messages) keys) where
     lacked_is : keys ≡ lacked_work (held w.network n).facts entry inlining
     lacked_is = keys_are ∙ ap (λ t. lacked_work t entry inlining) held_is
 
-    has_room : first_without_room entry.pipeline inlining (lacked_work (held w.network n).facts entry inlining) ≡ None
-    has_room = subst (λ ks. first_without_room entry.pipeline inlining ks ≡ None) lacked_is room
+    has_room : find_key_over_scratch_limit entry.pipeline inlining (lacked_work (held w.network n).facts entry inlining) ≡ None
+    has_room = subst (λ ks. find_key_over_scratch_limit entry.pipeline inlining ks ≡ None) lacked_is room
 
     are : events ≡ makings n (length w.network.messages) (lacked_work (held w.network n).facts entry inlining)
     are = events_are ∙ ap (makings n (length w.network.messages)) lacked_is

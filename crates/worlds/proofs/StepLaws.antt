@@ -6,7 +6,7 @@ use Rattle.std.proofs.lemmas.Bool.{eq-eqb}
 use Rattle.std.specs.Prelude.{slice_get, slice_set, unwrap_or}
 use Rattle.std.proofs.lemmas.Option.{none-some, same_Some, slice_get_within, slice_get-get_or}
 use Rattle.catalog.specs.Entries.{StandsAt, ids_in}
-use Rattle.identity.specs.declared.job_ids.Ids.{Ids}
+use Rattle.identity.specs.declared.job_ids.JobId.{JobId}
 use Rattle.identity.specs.declared.key.Key.{Key}
 use Rattle.held_facts.specs.declared.make_fault.MakeFault.{MakeFault}
 use Rattle.held_facts.specs.declared.make_fault.MakeFault.TheVariants as makes
@@ -43,7 +43,7 @@ not_there u v w e n view named past = record {
 
 -- ---- schedules
 
-module _ (u v : WorldWork) (view : v ≡ u) (n job : ℕ) (key : Key) (ids : Ids) (ids_are : ids ≡ ids_in key) (schedules : List (List Bool))
+module _ (u v : WorldWork) (view : v ≡ u) (n job : ℕ) (key : Key) (ids : JobId) (ids_are : ids ≡ ids_in key) (schedules : List (List Bool))
     (within : n < length u.schedules) (of_node : schedules ≡ get_or v.schedules n schedules) (stands : StandsAt v.jobs ids job) where
   node_has : slice_get v.schedules n ≡ Some schedules
   node_has = slice_get-get_or v.schedules n schedules (subst (λ (x : WorldWork). n < length x.schedules) (sym view) within) ∙ ap Some
@@ -166,7 +166,7 @@ module _ (u : WorldWork) (v w : Network) (view : v ≡ w) (n : ℕ) (within : n 
 
   -- ---- retirements
 
-  pub retired : (ids : Ids) (new : Network) → new ≡ with_message w n (of_retirement ids) → Accepts u w (Retire n ids) new
+  pub retired : (ids : JobId) (new : Network) → new ≡ with_message w n (of_retirement ids) → Accepts u w (Retire n ids) new
   retired ids new after = subst (λ x. new ≡ with_message x n (of_retirement ids) → Accepts u x (Retire n ids) new) view (λ same. (here, same)) after
 
   -- ---- deliveries

@@ -4,7 +4,7 @@ use Rattle.catalog.specs.Entries.{Entry, ids_of}
 use Rattle.tile_boxes.specs.Schedules.{StoresOutputs}
 use Rattle.identity.specs.declared.key.Key.{Key}
 use Rattle.node_state.specs.States.{retires}
-use Rattle.overlap_tiles.specs.Work.{first_without_room, wanted_keys, work_keys}
+use Rattle.overlap_tiles.specs.Work.{find_key_over_scratch_limit, wanted_keys, work_keys}
 use Rattle.gossip_core.specs.Finishing.{GivesAll, IsPlanned, NoneRefused, lacked_work, makings}
 use Rattle.gossip_core.specs.Steps.{held}
 use Rattle.gossip_events.specs.declared.event.Event.{Event}
@@ -37,7 +37,7 @@ pub record LacksRoom (w : WorldView) (n j : ℕ) (key : Key) : Type 0 where
   pub inlining : List Bool
   pub planned : IsPlanned w.work n j entry inlining
   pub live : retires (held w.network n) (ids_of entry) ≡ false
-  pub first : first_without_room entry.pipeline inlining (lacked_work (held w.network n).facts entry inlining) ≡ Some key
+  pub first : find_key_over_scratch_limit entry.pipeline inlining (lacked_work (held w.network n).facts entry inlining) ≡ Some key
 
 -- memory is refused only if the node and the job exist, and the node has not retired it
 abbrev pub IsFinishFault : WorldView → ℕ → ℕ → FinishFault → Type 0

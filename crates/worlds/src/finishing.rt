@@ -5,7 +5,7 @@ ghost use Rattle.gossip_core.specs.Finishing.{IsPlanned, lacked_work, makings};
 ghost use Rattle.gossip_core.specs.Steps.{held};
 ghost use Rattle.job.specs.Kept.{pipeline_in};
 ghost use Rattle.node_state.specs.States.{retires};
-ghost use Rattle.overlap_tiles.specs.Work.{first_without_room};
+ghost use Rattle.overlap_tiles.specs.Work.{find_key_over_scratch_limit};
 ghost use Rattle.std.specs.Prelude.{◌≡◌, IfErr, IfOk, None, false};
 ghost use Rattle.worlds.specs.Finishes.{Finishes, IsFinishFault};
 ghost use Rattle.worlds.specs.declared.fault.FinishFault.TheVariants as faults;
@@ -13,14 +13,14 @@ ghost use Rattle.worlds.specs.inside.Making.{IsRoomFault};
 
 use crate::fault::FinishFault;
 use crate::world::World;
-use catalog::ids_of;
+use catalog::compute_job_ids;
 use fact_store::FactStore;
 use gossip_events::Event;
 use grouping::Schedule;
 use held_facts::HeldFacts;
 use identity::Key;
 use job::Job;
-use overlap_tiles::{first_without_room, work_keys};
+use overlap_tiles::{find_key_over_scratch_limit, list_work_keys};
 use std::alloc::{AllocError, Global};
 
 impl<S: FactStore> World<S> {
@@ -36,13 +36,13 @@ impl<S: FactStore> World<S> {
         ensures finishes { IfOk result (λ events. Finishes self.now n job events.items) }
         ensures fault { IfErr result (IsFinishFault self.now n job) }
     {
-        let planned = self.find_node_job(n, job)?;
-        let keys = find_makable_keys(self.alloc, &planned)?;
-        Ok(list_making_events(self.alloc, n, self.network.count_messages(), &keys)?)
+        let planned = self.find_job_to_finish(n, job)?;
+        let keys = list_and_check_keys_to_finish(self.alloc, &planned)?;
+        Ok(list_make_and_deliver_events(self.alloc, n, self.network.count_messages(), &keys)?)
     }
 
     // The job, which node n has not retired, and what the node holds and how it makes its tiles.
-    fn find_node_job(&self, n: u8, job: usize) -> Result<NodeJob<'_, S>, FinishFault>
+    fn find_job_to_finish(&self, n: u8, job: usize) -> Result<WorldNodeJob<'_, S>, FinishFault>
         ensures planned { IfOk result (λ p. IsPlanned self.now.work n job
             (entry_of p.job.now) p.schedule.now.inlining) }
         ensures held { IfOk result (λ p. p.held.now ≡ (held self.now.network n).facts) }
@@ -57,13 +57,13 @@ impl<S: FactStore> World<S> {
         let Some(planned) = self.jobs.catalog.job(job) else {
             return Err(FinishFault::NoSuchJob);
         };
-        let Some(schedule) = self.jobs.schedules[usize::from(n)].find_schedule(job) else {
+        let Some(schedule) = self.jobs.schedules[usize::from(n)].find_schedule_of_job(job) else {
             unreachable!();
         };
-        if node.held.has_retired(&ids_of(planned)) {
+        if node.held.has_retired_job(&compute_job_ids(planned)) {
             return Err(FinishFault::Retired);
         }
-        Ok(NodeJob {
+        Ok(WorldNodeJob {
             held: node.held.held(),
             job: planned,
             schedule,
@@ -73,33 +73,33 @@ impl<S: FactStore> World<S> {
 
 // What a node holds, a job, and the node's schedule for it.
 #[derive(Clone, Copy)]
-struct NodeJob<'a, S: FactStore> {
+struct WorldNodeJob<'a, S: FactStore> {
     held: &'a HeldFacts<S>,
     job: &'a Job,
     schedule: &'a Schedule,
 }
 
 // The keys of the work tiles of which nothing is held, if each of these fits in scratch memory.
-fn find_makable_keys<S: FactStore>(
+fn list_and_check_keys_to_finish<S: FactStore>(
     alloc: Global,
-    planned: &NodeJob<'_, S>,
+    planned: &WorldNodeJob<'_, S>,
 ) -> Result<Vec<Key>, FinishFault>
     ensures keys { let p = planned.now in IfOk result (λ keys. keys.items
         ≡ lacked_work p.held.now (entry_of p.job.now) p.schedule.now.inlining) }
     ensures room { let p = planned.now in IfOk result (λ keys.
-        first_without_room (pipeline_in p.job.now) p.schedule.now.inlining keys.items ≡ None) }
+        find_key_over_scratch_limit (pipeline_in p.job.now) p.schedule.now.inlining keys.items ≡ None) }
     ensures fault { let p = planned.now in IfErr result
         (IsRoomFault p.held.now (entry_of p.job.now) p.schedule.now.inlining) }
 {
-    let keys = find_lacked_keys(alloc, planned.held, planned.job, planned.schedule)?;
-    match first_without_room(alloc, planned.job, planned.schedule, &keys)? {
+    let keys = list_keys_to_finish(alloc, planned.held, planned.job, planned.schedule)?;
+    match find_key_over_scratch_limit(alloc, planned.job, planned.schedule, &keys)? {
         None => Ok(keys),
         Some(key) => Err(FinishFault::ScratchTooBig(key)),
     }
 }
 
 // The keys of the work tiles of which nothing is held.
-fn find_lacked_keys<S: FactStore>(
+fn list_keys_to_finish<S: FactStore>(
     alloc: Global,
     held: &HeldFacts<S>,
     job: &Job,
@@ -108,13 +108,13 @@ fn find_lacked_keys<S: FactStore>(
     ensures { IfOk result (λ keys. keys.items
         ≡ lacked_work held.now (entry_of job.now) schedule.now.inlining) }
 {
-    let mut keys = work_keys(alloc, job, schedule)?;
+    let mut keys = list_work_keys(alloc, job, schedule)?;
     keys.retain(|key| held.count_facts_of_key(key) == 0);
     Ok(keys)
 }
 
 // A making of each key by the node, and its delivery, if `sent` messages were sent before.
-fn list_making_events(
+fn list_make_and_deliver_events(
     alloc: Global,
     n: u8,
     sent: usize,

@@ -10,24 +10,24 @@ ghost use Rattle.worlds.specs.inside.Making.{refusal_of};
 ghost use Rattle.std.specs.Prelude.{◌≡◌, IfErr, IfOk, OnErr, OnOk, length, slice_get};
 
 use crate::node::{Message, WorldNode};
-use crate::planned::PlannedJobs;
+use crate::planned::WorldJobs;
 use fact_store::FactStore;
 use gossip_core::{Done, StepFault};
 use gossip_events::Event;
-use identity::{Ids, Key};
+use identity::{JobId, Key};
 use node_state::{LendFault, MakeFault, NodeState};
 use std::alloc::{AllocError, Global};
 use std::marker::Model;
 
 /// The nodes, and all messages that were ever sent.
 #[derive(Drop)]
-pub struct Network<S: FactStore> {
+pub struct WorldNetwork<S: FactStore> {
     alloc: Global,
     nodes: Vec<WorldNode<S>>,
     messages: Vec<Message<S>>,
 }
 
-impl<S: FactStore> Model for Network<S> {
+impl<S: FactStore> Model for WorldNetwork<S> {
     ghost use Rattle.gossip_core.specs.Networks.{Network, coded_network};
 
     ghost Value = { Network };
@@ -37,9 +37,9 @@ impl<S: FactStore> Model for Network<S> {
     ghost view = { λ w. record { nodes = w.nodes.items; messages = w.messages.items } };
 }
 
-impl<S: FactStore> Network<S> {
+impl<S: FactStore> WorldNetwork<S> {
     /// `size` nodes that hold nothing, and no message.
-    pub fn new(alloc: Global, size: usize) -> Result<Network<S>, AllocError>
+    pub fn new(alloc: Global, size: usize) -> Result<WorldNetwork<S>, AllocError>
         ensures { IfOk result (λ w. w ≡ start size) }
     {
         let mut nodes = Vec::with_capacity(alloc, size)?;
@@ -49,7 +49,7 @@ impl<S: FactStore> Network<S> {
                 kept: NodeState::new(alloc),
             })?;
         }
-        Ok(Network {
+        Ok(WorldNetwork {
             alloc,
             nodes,
             messages: Vec::new(alloc),
@@ -57,7 +57,7 @@ impl<S: FactStore> Network<S> {
     }
 
     /// How many nodes there are.
-    pub fn len(&self) -> usize
+    pub fn count_nodes(&self) -> usize
         ensures { result ≡ length self.now.nodes }
     {
         self.nodes.len()
@@ -78,15 +78,15 @@ impl<S: FactStore> Network<S> {
     }
 
     /// What the event does, if it is accepted.
-    pub fn step(&mut self, jobs: &PlannedJobs, event: &Event) -> Result<Done, StepFault>
+    pub fn apply_event(&mut self, jobs: &WorldJobs, event: &Event) -> Result<Done, StepFault>
         requires { length jobs.now.schedules ≡ length self.old.nodes }
         ensures done { OnOk result (Accepts jobs.now self.old event.now self.new) }
         ensures answer { IfOk result (IsDone self.old event.now self.new) }
         ensures refused { IfErr result (Refuses jobs.now self.old event.now self.new) }
     {
         match event {
-            Event::Make { node, key } => self.make_fact(jobs, usize::from(*node), key),
-            Event::Retire { node, ids } => self.retire_job(usize::from(*node), ids),
+            Event::Make { node, key } => self.make_fact_as_message(jobs, usize::from(*node), key),
+            Event::Retire { node, ids } => self.retire_job_by_message(usize::from(*node), ids),
             Event::Send { node, to, keys } => {
                 self.send_facts(usize::from(*node), usize::from(*to), keys.as_slice())
             }
@@ -94,12 +94,17 @@ impl<S: FactStore> Network<S> {
                 self.deliver_message(usize::from(*node), *message as usize)
             }
             Event::Merge { node, other } => self.merge(usize::from(*node), usize::from(*other)),
-            Event::Keep { node } => self.keep_state(usize::from(*node)),
+            Event::Keep { node } => self.keep_held_state(usize::from(*node)),
             Event::Restart { node } => self.restart_node(usize::from(*node)),
         }
     }
 
-    fn make_fact(&mut self, jobs: &PlannedJobs, n: usize, key: &Key) -> Result<Done, StepFault>
+    fn make_fact_as_message(
+        &mut self,
+        jobs: &WorldJobs,
+        n: usize,
+        key: &Key,
+    ) -> Result<Done, StepFault>
         requires { length jobs.now.schedules ≡ length self.old.nodes }
         ensures done { OnOk result (Accepts jobs.now self.old (Make n key.now) self.new) }
         ensures answer { IfOk result (IsDone self.old (Make n key.now) self.new) }
@@ -109,16 +114,16 @@ impl<S: FactStore> Network<S> {
             return Err(StepFault::NoSuchNode);
         }
         let node = &self.nodes[n];
-        let fact = match jobs.make_fact(n, &node.held, key) {
+        let fact = match jobs.make_fact_at_node(n, &node.held, key) {
             Ok(fact) => fact,
-            Err(fault) => return Err(convert_make_fault(fault)),
+            Err(fault) => return Err(convert_make_fault_to_step_fault(fault)),
         };
         let mut state = NodeState::new(self.alloc);
         state.take(fact)?;
         self.append_message(n, state)
     }
 
-    fn retire_job(&mut self, n: usize, ids: &Ids) -> Result<Done, StepFault>
+    fn retire_job_by_message(&mut self, n: usize, ids: &JobId) -> Result<Done, StepFault>
         ensures done { (u : WorldWork) → OnOk result (Accepts u self.old (Retire n ids.now) self.new) }
         ensures answer { IfOk result (IsDone self.old (Retire n ids.now) self.new) }
         ensures refused { (u : WorldWork)
@@ -197,7 +202,7 @@ impl<S: FactStore> Network<S> {
         Ok(Done::New(count))
     }
 
-    fn keep_state(&mut self, n: usize) -> Result<Done, StepFault>
+    fn keep_held_state(&mut self, n: usize) -> Result<Done, StepFault>
         ensures done { (u : WorldWork) → OnOk result (Accepts u self.old (Keep n) self.new) }
         ensures answer { IfOk result (IsDone self.old (Keep n) self.new) }
         ensures refused { (u : WorldWork) → IfErr result (Refuses u self.old (Keep n) self.new) }
@@ -225,7 +230,7 @@ impl<S: FactStore> Network<S> {
 }
 
 // The fault of a step whose node cannot make the fact.
-fn convert_make_fault(fault: MakeFault) -> StepFault
+fn convert_make_fault_to_step_fault(fault: MakeFault) -> StepFault
     ensures { result ≡ refusal_of fault }
 {
     match fault {

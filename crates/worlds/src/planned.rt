@@ -10,19 +10,19 @@ use crate::schedules::NodeSchedules;
 use catalog::Catalog;
 use fact_store::FactStore;
 use grouping::Schedule;
-use identity::{Ids, Key};
+use identity::{JobId, Key};
 use node_state::{MakeFault, NodeState};
 use std::marker::Model;
 use tile_fact::Fact;
 
 /// The jobs of a world, and for each node a schedule for each of them.
 #[derive(Debug, Drop)]
-pub struct PlannedJobs {
+pub struct WorldJobs {
     pub catalog: Catalog,
     pub schedules: Vec<NodeSchedules>,
 }
 
-impl Model for PlannedJobs {
+impl Model for WorldJobs {
     ghost use Rattle.gossip_core.specs.Steps.{WorldWork};
     ghost use Rattle.catalog.specs.Codes.{formula_code};
     ghost use Rattle.std.specs.Coded.{codes};
@@ -40,16 +40,16 @@ impl Model for PlannedJobs {
     }) };
 }
 
-impl PlannedJobs {
+impl WorldJobs {
     /// These jobs and schedules.
-    pub fn new(catalog: Catalog, schedules: Vec<NodeSchedules>) -> PlannedJobs
+    pub fn new(catalog: Catalog, schedules: Vec<NodeSchedules>) -> WorldJobs
         requires { HasSchedules (record { jobs = catalog; schedules = schedules.items }) }
         ensures same { result ≡ record { jobs = catalog; schedules = schedules.items } }
         ensures good { IsPlannedWork result }
     {
         // The contract of `job` specifies what each catalog is, for any index.
         let _ = catalog.job(0);
-        PlannedJobs { catalog, schedules }
+        WorldJobs { catalog, schedules }
     }
 
     /// Node n's schedule for the job whose tile the key names, if there is that job.
@@ -59,12 +59,12 @@ impl PlannedJobs {
         ensures none { IfNone result
             ((i : ℕ) → ¬ (StandsAt self.now.jobs (ids_in key.now) i)) }
     {
-        let job = self.catalog.find(&Ids::of_key(key))?;
-        self.schedules[n].find_schedule(job)
+        let job = self.catalog.find(&JobId::from_key(key))?;
+        self.schedules[n].find_schedule_of_job(job)
     }
 
     /// The fact of the key, as node n makes it from a state.
-    pub fn make_fact<S: FactStore>(
+    pub fn make_fact_at_node<S: FactStore>(
         &self,
         n: usize,
         state: &NodeState<S>,

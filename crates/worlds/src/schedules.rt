@@ -39,7 +39,7 @@ impl NodeSchedules {
     }
 
     /// The schedule for the job of this index.
-    pub fn find_schedule(&self, job: usize) -> Option<&Schedule>
+    pub fn find_schedule_of_job(&self, job: usize) -> Option<&Schedule>
         ensures { option_map (λ s. s.now.inlining) result ≡ slice_get self.now job }
     {
         self.items.as_slice().get(job)

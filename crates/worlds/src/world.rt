@@ -14,8 +14,8 @@ ghost use Rattle.std.specs.Prelude.{◌≡◌, ◌≤◌, ◌↔◌, ℕ, List, 
 ghost use Rattle.worlds.specs.Worlds.{IsCounted, IsRefusedWorld, RunsOn, StopsAt};
 
 use crate::fault::WorldFault;
-use crate::network::Network;
-use crate::planned::PlannedJobs;
+use crate::network::WorldNetwork;
+use crate::planned::WorldJobs;
 use crate::ran::Ran;
 use crate::schedules::NodeSchedules;
 use catalog::Catalog;
@@ -34,8 +34,8 @@ const MAX_NODES: usize = 16;
 #[derive(Drop)]
 pub struct World<S: FactStore = TableFacts> {
     pub(crate) alloc: Global,
-    pub(crate) jobs: PlannedJobs,
-    pub(crate) network: Network<S>,
+    pub(crate) jobs: WorldJobs,
+    pub(crate) network: WorldNetwork<S>,
 }
 
 impl<S: FactStore> Model for World<S> {
@@ -76,13 +76,13 @@ impl<S: FactStore> World<S> {
         ensures fault { IfErr result (λ back. IsRefusedWorld
             (record { jobs = catalog; schedules = schedules.items }) back.2) }
     {
-        if !has_schedules_for_jobs(&catalog, &schedules) {
+        if !has_valid_world_counts(&catalog, &schedules) {
             return Err((catalog, schedules, WorldFault::BadCount));
         }
-        match Network::new(alloc, schedules.len()) {
+        match WorldNetwork::new(alloc, schedules.len()) {
             Ok(network) => Ok(World {
                 alloc,
-                jobs: PlannedJobs::new(catalog, schedules),
+                jobs: WorldJobs::new(catalog, schedules),
                 network,
             }),
             Err(_) => Err((catalog, schedules, WorldFault::Memory)),
@@ -106,7 +106,7 @@ impl<S: FactStore> World<S> {
         ensures work { self.new.work ≡ self.old.work }
         ensures truth { AllTrue self.new.work.jobs self.new.network }
     {
-        self.network.step(&self.jobs, event)
+        self.network.apply_event(&self.jobs, event)
     }
 
     /// Processes the events in order. Refused ones are counted and skipped, but if memory is refused it stops.
@@ -195,7 +195,7 @@ impl<S: FactStore> World<S> {
 }
 
 /// Whether there are 1 to 16 nodes, each with a schedule for each job.
-fn has_schedules_for_jobs(catalog: &Catalog, schedules: &[NodeSchedules]) -> bool
+fn has_valid_world_counts(catalog: &Catalog, schedules: &[NodeSchedules]) -> bool
     ensures { IsTrue result
         ↔ IsCounted (record { jobs = catalog.now; schedules = schedules.now }) }
 {

@@ -11,7 +11,7 @@ ghost use Rattle.write_buffer.specs.Passing.{Puts};
 use arrayvec::ArrayVec;
 use itoa::Buffer;
 use std::marker::Model;
-use streams::{Sink, WriteFailed, write_whole};
+use streams::{Sink, WriteFailed, write_all_bytes};
 
 const ROOM: usize = 4096;
 
@@ -43,7 +43,7 @@ impl WriteBuffer {
     }
 
     /// Puts bytes after those that wait.
-    pub fn put<W: Sink>(&mut self, writer: &mut W, bytes: &[u8]) -> Result<(), WriteFailed>
+    pub fn put_bytes<W: Sink>(&mut self, writer: &mut W, bytes: &[u8]) -> Result<(), WriteFailed>
         ensures { Puts result bytes.now self.old self.new
             (W.contents writer.old) (W.contents writer.new)
             (W.failures writer.old) (W.failures writer.new) }
@@ -51,11 +51,15 @@ impl WriteBuffer {
         let Err(_) = self.bytes.try_extend_from_slice(bytes) else {
             return Ok(());
         };
-        self.pass(writer, bytes)
+        self.flush_and_put_bytes(writer, bytes)
     }
 
     // Writes all bytes that wait, and lets these wait instead; or writes these too, if there is no room for all of them.
-    fn pass<W: Sink>(&mut self, writer: &mut W, bytes: &[u8]) -> Result<(), WriteFailed>
+    fn flush_and_put_bytes<W: Sink>(
+        &mut self,
+        writer: &mut W,
+        bytes: &[u8],
+    ) -> Result<(), WriteFailed>
         ensures { Puts result bytes.now self.old self.new
             (W.contents writer.old) (W.contents writer.new)
             (W.failures writer.old) (W.failures writer.new) }
@@ -64,17 +68,21 @@ impl WriteBuffer {
         let Err(_) = self.bytes.try_extend_from_slice(bytes) else {
             return Ok(());
         };
-        write_whole(writer, bytes)
+        write_all_bytes(writer, bytes)
     }
 
     /// Puts the parts, one after the other.
-    pub fn put_parts<W: Sink>(&mut self, writer: &mut W, parts: &[&[u8]]) -> Result<(), WriteFailed>
+    pub fn put_slices<W: Sink>(
+        &mut self,
+        writer: &mut W,
+        parts: &[&[u8]],
+    ) -> Result<(), WriteFailed>
         ensures { Puts result (flat_map (λ part. part.now) parts.now) self.old self.new
             (W.contents writer.old) (W.contents writer.new)
             (W.failures writer.old) (W.failures writer.new) }
     {
         for part in parts {
-            self.put(writer, part)?;
+            self.put_bytes(writer, part)?;
         }
         Ok(())
     }
@@ -86,13 +94,13 @@ impl WriteBuffer {
             (W.failures writer.old) (W.failures writer.new) }
     {
         for byte in bytes {
-            self.put(writer, &digits_of(*byte))?;
+            self.put_bytes(writer, &encode_hex_byte(*byte))?;
         }
         Ok(())
     }
 
     /// Puts two lower-case hexadecimal digits for each byte of the parts, one after the other.
-    pub fn put_hex_parts<W: Sink>(
+    pub fn put_hex_slices<W: Sink>(
         &mut self,
         writer: &mut W,
         parts: &[&[u8]],
@@ -114,7 +122,7 @@ impl WriteBuffer {
             (W.failures writer.old) (W.failures writer.new) }
     {
         let mut digits = Buffer::new();
-        self.put(writer, digits.format(number).as_bytes())
+        self.put_bytes(writer, digits.format(number).as_bytes())
     }
 
     /// Writes all bytes that wait, after which none does.
@@ -125,14 +133,14 @@ impl WriteBuffer {
         ensures failed { CountsFailure result (W.failures writer.old) (W.failures writer.new) }
         ensures none { OnOk result (self.new ≡ []) }
     {
-        write_whole(writer, self.bytes.as_slice())?;
+        write_all_bytes(writer, self.bytes.as_slice())?;
         self.bytes.clear();
         Ok(())
     }
 }
 
 // The lower-case hexadecimal digits of a byte.
-fn digits_of(byte: u8) -> [u8; 2]
+fn encode_hex_byte(byte: u8) -> [u8; 2]
     ensures { result ≡ encode_lower (byte ∷ []) }
 {
     [

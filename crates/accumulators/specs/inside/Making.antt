@@ -5,7 +5,7 @@ use Rattle.domains.specs.Span.{Ends}
 use Rattle.domains.specs.Tiles.{tile_area, tile_cols}
 use Rattle.domains.specs.declared.grid.Grid.{Grid}
 use Rattle.grouping.specs.Inlining.{IsScheduleOf}
-use Rattle.operators.specs.declared.operator.Fold.{Fold}
+use Rattle.operators.specs.declared.operator.ReductionOp.{ReductionOp}
 use Rattle.job.specs.Answers.{grid_of}
 use Rattle.job.specs.Formula.{Formula}
 use Rattle.job.specs.Kept.{pipeline_in}
@@ -35,7 +35,7 @@ abbrev pub TotalsFit : ComputedJob → Type 0
 TotalsFit c = first_too_big (pipeline_in c.job.now) c.schedule.now.inlining (is_accumulator_at (pipeline_in c.job.now)) ≡ None
 
 -- stage g is an accumulator with this operation, these bins and this grid
-pub record IsGathered (job : Pipeline) (g : ℕ) (way : Fold) (bins : Ends) (grid : Grid) : Type 0 where
+pub record IsGathered (job : Pipeline) (g : ℕ) (way : ReductionOp) (bins : Ends) (grid : Grid) : Type 0 where
   pub stage : Stage
   pub there : slice_get job.stages g ≡ Some stage
   pub value : Formula
@@ -51,7 +51,7 @@ pub record IsTally (t : Accumulation) : Type 0 where
   pub gathered : IsGathered (pipeline_in t.of.job.now) t.stage t.accumulator.now.fold t.accumulator.now.bins t.grid
 
 -- the bins after the totals over a tile came in
-abbrev pub with_tile : Pipeline → ℕ → Fold → Grid → List ℤ → ℕ × ℕ → List ℤ
+abbrev pub with_tile : Pipeline → ℕ → ReductionOp → Grid → List ℤ → ℕ × ℕ → List ℤ
 with_tile job g way grid bins t = joined_bins way bins (totals_over job (tile_area grid t.0 t.1) g)
 
 -- the bins of an accumulator that began with their initial values, after the totals over row i of the tiles came in

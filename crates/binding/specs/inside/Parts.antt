@@ -6,7 +6,7 @@ use Rattle.netpbm.specs.Image.{Image as Picture, IsImage}
 use Rattle.pipe_tree.specs.declared.tree.Image.{Image}
 use Rattle.pipe_tree.specs.Tree.{Declaration}
 use Rattle.pipe_bounds.specs.InBounds.{IsInBounds}
-use Rattle.binding.specs.declared.bound.Parts.{Parts}
+use Rattle.binding.specs.declared.bound.JobParts.{JobParts}
 use Rattle.binding.specs.declared.fault.BindFault.{BindFault}
 use Rattle.binding.specs.Binding.{Program, AreSmall, AreSmallTables, settings_for, item_images, item_tables, TablesFit, item_stages, item_outputs, parameter_of}
 use Rattle.binding.specs.Fits.{PlanesFit, ExtentsFit}
@@ -14,13 +14,13 @@ use Rattle.binding.specs.BindFaults.{IsEarlyFault, settled_program}
 use Rattle.job.specs.Views.{stage_view, output_view, parameter_view}
 
 -- the stages, the output and the parameters are those of the items
-pub record ArePartsOf (p : Program) (items : List Declaration) (parts : Parts) : Type 0 where
+pub record ArePartsOf (p : Program) (items : List Declaration) (parts : JobParts) : Type 0 where
   pub stages : map stage_view parts.stages.items ≡ flat_map (item_stages p) items
   pub output : option_map output_view parts.output ≡ slice_get (flat_map (item_outputs p) items) 0
   pub params : map parameter_view parts.params.items ≡ map parameter_of p.settings
 
 -- and bounds and picture have no fault
-pub record AreBoundParts (items : List Declaration) (p : Program) (picture : Picture) (parts : Parts) : Type 0 where
+pub record AreBoundParts (items : List Declaration) (p : Program) (picture : Picture) (parts : JobParts) : Type 0 where
   pub image : Image
   pub declared : flat_map item_images items ≡ image ∷ []
   pub are : ArePartsOf (settled_program p image picture) items parts

@@ -1,14 +1,14 @@
 -- What is computed before facts are judged.
 use Rattle.std.specs.Prelude.{ℕ, ◌≡◌, List, Some, Contains, slice_get}
 use Rattle.catalog.specs.Entries.{Entry, StandsAt, entry_of, ids_in, ids_of}
-use Rattle.identity.specs.declared.job_ids.Ids.{Ids}
+use Rattle.identity.specs.declared.job_ids.JobId.{JobId}
 use Rattle.job.specs.Kept.{pipeline_in}
-use Rattle.tile_eval.specs.Buffer.{IsServed}
-use Rattle.tile_eval.specs.declared.true_stages.TrueStages.{TrueStages}
+use Rattle.whole_stages.specs.Known.{IsServed}
+use Rattle.whole_stages.specs.declared.true_stages.TrueStages.{TrueStages}
 use Rattle.tile_fact.specs.declared.fact.Fact.{Fact}
 
 -- these are all stages that the facts name of the job of these identities
-abbrev pub AreNamed : Ids → List Fact → List ℕ → Type 0
+abbrev pub AreNamed : JobId → List Fact → List ℕ → Type 0
 AreNamed ids facts stages = (k : ℕ) (fact : Fact) → slice_get facts k ≡ Some fact → ids ≡ ids_in fact.key → Contains stages fact.key.stage
 
 -- all that is needed to judge a fact of this job is computed

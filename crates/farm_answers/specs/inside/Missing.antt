@@ -11,7 +11,7 @@ use Rattle.held_facts.specs.Making.{IsMakeFault}
 use Rattle.held_facts.specs.declared.make_fault.MakeFault.{MakeFault}
 use Rattle.held_facts.specs.declared.make_fault.MakeFault.TheVariants as makes
 use Rattle.overlap_tiles.specs.Needs.{key_of}
-use Rattle.overlap_tiles.specs.Work.{IsWork, IsWorkedBefore, lacks_room, wanted_keys}
+use Rattle.overlap_tiles.specs.Work.{IsWork, IsWorkedBefore, is_tile_over_scratch_limit, wanted_keys}
 
 -- the key of a tile of the job
 abbrev pub key_in : Entry → Tile → Key
@@ -29,7 +29,7 @@ pub record LeavesTiles (catalog : List Entry) (entry : Entry) (inlining : List B
   pub good : IsJob entry.pipeline
   pub index : ℕ
   pub there : slice_get catalog index ≡ Some entry
-  pub roomy : (t : Tile) → IsWork entry.pipeline inlining t → lacks_room entry.pipeline inlining t ≡ false
+  pub roomy : (t : Tile) → IsWork entry.pipeline inlining t → is_tile_over_scratch_limit entry.pipeline inlining t ≡ false
   pub truth : HoldsTrueFacts catalog s
   pub work : (t : Tile) → Contains tiles t → IsWork entry.pipeline inlining t
   pub order : AllPairs (IsWorkedBefore entry.pipeline) tiles

@@ -8,17 +8,17 @@ use Rattle.job.specs.Readers.{grid_at}
 use Rattle.tile_boxes.specs.Schedules.{is_inlined}
 use Rattle.tile_boxes.specs.Targets.{box, target_over}
 use Rattle.tile_boxes.specs.Costs.{scratch, stage_fits}
-use Rattle.tile_boxes.specs.Tallies.{areas_of_tiles}
+use Rattle.tile_boxes.specs.Tallies.{list_tile_areas}
 use Rattle.grouping.specs.inside.Crossed.{boxes_in}
 use Rattle.grouping.specs.Greedy.{Grouping, group, cost_or_zero}
-use Rattle.grouping.specs.declared.standing.Standing.{Standing}
-use Rattle.grouping.specs.declared.standing.Standing.TheVariants.{Stored, Inlined}
+use Rattle.grouping.specs.declared.standing.StageStatus.{StageStatus}
+use Rattle.grouping.specs.declared.standing.StageStatus.TheVariants.{Stored, Inlined}
 
 -- ---- tiles
 
 -- the areas of a stage's tiles; planes have none
 abbrev pub areas_at : Pipeline → ℕ → List Area
-areas_at job h = option_map_or areas_of_tiles (grid_at job h) []
+areas_at job h = option_map_or list_tile_areas (grid_at job h) []
 
 -- what each tile of stage h has in scratch memory
 abbrev pub scratch_by_tile : Pipeline → List Bool → ℕ → List ℕ
@@ -49,16 +49,16 @@ pub record StandsInlined (job : Pipeline) (c : Grouping) (g : ℕ) (tiles : List
       → box (target_over job c.inlining h a) g ≡ None
 
 -- the status of a stage is the one that is kept of it
-abbrev pub Stands : Pipeline → Grouping → ℕ → Standing → Type 0
+abbrev pub Stands : Pipeline → Grouping → ℕ → StageStatus → Type 0
 Stands job c g (Stored points tiles) = StandsStored job c g points tiles.items
 Stands job c g (Inlined tiles) = StandsInlined job c g (boxes_in tiles)
 
 -- each stage has the status that is kept of it
-pub record AllStand (job : Pipeline) (c : Grouping) (standings : List Standing) : Type 0 where
+pub record AllStand (job : Pipeline) (c : Grouping) (standings : List StageStatus) : Type 0 where
   pub inlining : length c.inlining ≡ length job.stages
   pub groups : length c.groups ≡ length job.stages
   pub all : length standings ≡ length job.stages
-  pub each : (g : ℕ) (s : Standing) → slice_get standings g ≡ Some s → Stands job c g s
+  pub each : (g : ℕ) (s : StageStatus) → slice_get standings g ≡ Some s → Stands job c g s
 
 -- no function of lesser rank than stage g is inlined
 abbrev pub NoneInlinedBelow : Pipeline → List Bool → ℕ → Type 0

@@ -18,7 +18,7 @@ use Rattle.pipe_checks.specs.declared.access.Access.{Access}
 use Rattle.pipe_checks.specs.declared.access.Access.TheVariants.{Read, Stencil}
 use Rattle.pipe_bounds.specs.declared.taken.Departure.{Departure}
 use Rattle.pipe_bounds.specs.InBounds.{ReadCase, AllStay, StageStays, IsFirstRead, IsFirstCase, item_cases, scale_of}
-use Rattle.pipe_bounds.specs.declared.domain.Place.{Place}
+use Rattle.pipe_bounds.specs.declared.domain.StageDomain.{StageDomain}
 use Rattle.pipe_bounds.specs.Settings.{affine_value}
 use Rattle.pipe_bounds.specs.Domains.{IsBins, IsDomain}
 use Rattle.pipe_bounds.specs.StageBounds.{HasBins}
@@ -89,10 +89,10 @@ AreTables ds tables = (k : ℕ) (s : Symbol) → slice_get tables k ≡ Some s �
 
 -- ---- the domain and the bins of an item's stages, and the span of a table
 
-abbrev pub IsPlace : List Setting → Declaration → Place → Type 0
+abbrev pub IsPlace : List Setting → Declaration → StageDomain → Type 0
 IsPlace ss d place = IsDomain ss d (Ok place.domain) × HasBins ss d place.bins
 
-abbrev pub IsPlaced : List Setting → Declaration → Result Place IntervalFault → Type 0
+abbrev pub IsPlaced : List Setting → Declaration → Result StageDomain IntervalFault → Type 0
 IsPlaced ss d (Ok place) = IsPlace ss d place
 IsPlaced ss d (Err f) = IsDomain ss d (Err f)
 
@@ -120,24 +120,24 @@ AnswersReads areas Box accesses k n r = IsAnswer (λ u. AllStay areas Box access
 abbrev pub AnswersCases : List Setting → List Area → Area → List ReadCase → ℕ → Result (Unit {0}) BoundFault → Type 0
 AnswersCases ss areas domain cases k r = IsAnswer (λ u. StageStays ss areas domain cases) (IsFirstCase ss areas domain cases k) r
 
-abbrev pub domain_fault : IntervalFault → ℕ → BoundFault
-domain_fault Empty k = EmptyDomain k
-domain_fault TooWide k = DomainTooWide k
+abbrev pub stage_domain_fault : IntervalFault → ℕ → BoundFault
+stage_domain_fault Empty k = EmptyDomain k
+stage_domain_fault TooWide k = DomainTooWide k
 
 -- f reports the first stage whose domain is faulty
 pub record TellsDomain (ss : List Setting) (ds : List Declaration) (stages : List Symbol) (f : BoundFault) : Type 0 where
   pub fault : IntervalFault
   pub stage : ℕ
-  pub told : f ≡ domain_fault fault stage
+  pub told : f ≡ stage_domain_fault fault stage
   pub first : IsFirstFaultyDomain ss ds stages fault stage
 
-abbrev pub table_fault : IntervalFault → ℕ → BoundFault
-table_fault Empty k = EmptyTable k
-table_fault TooWide k = TableTooWide k
+abbrev pub table_span_fault : IntervalFault → ℕ → BoundFault
+table_span_fault Empty k = EmptyTable k
+table_span_fault TooWide k = TableTooWide k
 
 -- f reports the first table whose span is faulty
 pub record TellsTable (ss : List Setting) (ds : List Declaration) (tables : List Symbol) (f : BoundFault) : Type 0 where
   pub fault : IntervalFault
   pub number : ℕ
-  pub told : f ≡ table_fault fault number
+  pub told : f ≡ table_span_fault fault number
   pub first : IsFirstFaultyTable ss ds tables fault number

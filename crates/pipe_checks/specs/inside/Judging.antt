@@ -2,7 +2,7 @@
 use Rattle.std.specs.Prelude.{Option, Some, None, Result, Ok, Err, List, [], ◌∷◌}
 use Rattle.pipe_checks.specs.declared.symbol.Symbol.{Symbol}
 use Rattle.pipe_checks.specs.declared.fault.Violation.{Violation}
-use Rattle.pipe_checks.specs.declared.uses.Locals.{Locals}
+use Rattle.pipe_checks.specs.declared.uses.ItemVariables.{ItemVariables}
 use Rattle.pipe_checks.specs.Uses.{Place, wrong_at}
 
 -- Ok, or the fault
@@ -18,6 +18,6 @@ abbrev pub and_then : Verdict → Verdict → Verdict
 and_then (Ok u) v = v
 and_then (Err e) v = Err e
 
-abbrev pub judged : List Symbol → Locals → List Place → Verdict
+abbrev pub judged : List Symbol → ItemVariables → List Place → Verdict
 judged names locals [] = Ok tt
 judged names locals (p ∷ ps) = and_then (verdict (wrong_at names locals p)) (judged names locals ps)

@@ -6,10 +6,10 @@ use Rattle.std.specs.List.{list_any}
 use Rattle.pipe_checks.specs.declared.fault.CheckFault.{CheckFault}
 use Rattle.pipe_checks.specs.declared.fault.CheckFault.TheVariants.{Unknown, Twice, Kind, BadKernel, BadLiteral, NoResult, Cycle, Memory}
 use Rattle.pipe_checks.specs.declared.symbol.Symbol.{Symbol}
-use Rattle.pipe_checks.specs.declared.checked.Found.{Found}
+use Rattle.pipe_checks.specs.declared.checked.CheckedLists.{CheckedLists}
 use Rattle.pipe_checks.specs.declared.fault.Violation.{Violation}
 use Rattle.pipe_checks.specs.declared.fault.Violation.TheVariants as violation
-use Rattle.pipe_checks.specs.Links.{Links}
+use Rattle.pipe_checks.specs.StageLinks.{StageLinks}
 use Rattle.pipe_checks.specs.Names.{params_of, tables_of, stages_of}
 use Rattle.pipe_checks.specs.Accesses.{graph_of}
 use Rattle.pipe_checks.specs.Graph.{links_at, Reads, Way, IsRanking, IsShortestCycle}
@@ -27,7 +27,7 @@ abbrev pub known_rank : List (Option ℕ) → ℕ → ℕ
 known_rank ranks t = unwrap_or (slice_index_or ranks t None) 0
 
 -- the rank of a stage by the ranks of those that it reads: 0 for a plane, else 1 more than the greatest, or 1
-abbrev pub rank_over : (ℕ → ℕ) → Links → ℕ
+abbrev pub rank_over : (ℕ → ℕ) → StageLinks → ℕ
 rank_over rank l = if l.is_plane then 0 else greatest (map rank l.reads) + 1
 
 -- a known rank and the number of unknown ranks are together at most n
@@ -39,7 +39,7 @@ abbrev pub SomeUnranked : List (Option ℕ) → List ℕ → Type 0
 SomeUnranked ranks reads = Any (λ t. slice_get ranks t ≡ Some None) reads
 
 -- each known rank is the stage's rank by those that it reads, and these are known too
-pub record AreRanked (g : List Links) (ranks : List (Option ℕ)) : Type 0 where
+pub record AreRanked (g : List StageLinks) (ranks : List (Option ℕ)) : Type 0 where
   pub each : length ranks ≡ length g
   pub bounded : IsBounded ranks (length g)
   pub rank : (s r : ℕ) → slice_get ranks s ≡ Some (Some r) → r ≡ rank_over (known_rank ranks) (links_at g s)
@@ -52,23 +52,23 @@ abbrev pub SomeAt : List (Option ℕ) → List ℕ → ℕ → Type 0
 SomeAt far reads k = Any (λ t. slice_get far t ≡ Some (Some k)) reads
 
 -- a stage whose distance is unknown reads one that is known to be at this distance
-abbrev pub LeadsOn : List Links → List (Option ℕ) → ℕ → Type 0
+abbrev pub LeadsOn : List StageLinks → List (Option ℕ) → ℕ → Type 0
 LeadsOn g far k = (s : ℕ) × (slice_get far s ≡ Some None) × SomeAt far (links_at g s).reads k
 
 -- how a distance changes: it stays, or is found to be k + 1, or stays unknown
-abbrev pub IsStepAt : List Links → List (Option ℕ) → ℕ → ℕ → Option ℕ → Type 0
+abbrev pub IsStepAt : List StageLinks → List (Option ℕ) → ℕ → ℕ → Option ℕ → Type 0
 IsStepAt g far k s d =
     ((e : ℕ) × (slice_get far s ≡ Some (Some e)) × (d ≡ Some e))
     ⊎ (((slice_get far s ≡ Some None) × SomeAt far (links_at g s).reads k × (d ≡ Some (k + 1)))
     ⊎ ((slice_get far s ≡ Some None) × (SomeAt far (links_at g s).reads k → ⊥) × (d ≡ None)))
 
 -- the distances, with those of k + 1 added
-pub record IsStepFrom (g : List Links) (far : List (Option ℕ)) (k : ℕ) (next : List (Option ℕ)) : Type 0 where
+pub record IsStepFrom (g : List StageLinks) (far : List (Option ℕ)) (k : ℕ) (next : List (Option ℕ)) : Type 0 where
   pub each : length next ≡ length far
   pub step : (s : ℕ) (d : Option ℕ) → slice_get next s ≡ Some d → IsStepAt g far k s d
 
 -- all stages that lead to the goal are known, with the least number of reads
-pub record AreDistances (g : List Links) (goal : ℕ) (far : List (Option ℕ)) : Type 0 where
+pub record AreDistances (g : List StageLinks) (goal : ℕ) (far : List (Option ℕ)) : Type 0 where
   pub each : length far ≡ length g
   pub way : (t d : ℕ) → slice_get far t ≡ Some (Some d) → Way g d t goal
   pub low : (t d : ℕ) → slice_get far t ≡ Some (Some d) → d < length g
@@ -76,7 +76,7 @@ pub record AreDistances (g : List Links) (goal : ℕ) (far : List (Option ℕ)) 
 
 -- a list of stages from the start back to it, of which each reads the next. It has the least of those at the distance left, then
 -- the least of those at one less, and so on
-pub record IsWayBack (g : List Links) (start : ℕ) (far : List (Option ℕ)) (left : ℕ) (c : List ℕ) : Type 0 where
+pub record IsWayBack (g : List StageLinks) (start : ℕ) (far : List (Option ℕ)) (left : ℕ) (c : List ℕ) : Type 0 where
   pub long : length c ≡ left + 2
   pub first : slice_index c 0 ≡ start
   pub last : slice_index c (length c - 1) ≡ start
@@ -99,7 +99,7 @@ IsJudged names ds (Ok u) = AllGood names ds
 IsJudged names ds (Err f) = (wrong : Violation) × (n : ℕ) × (f ≡ fault_of wrong n) × IsFirstWrong names ds wrong n
 
 -- stages that read each other in a cycle, or memory
-abbrev pub IsCyclic : List Links → CheckFault → Type 0
+abbrev pub IsCyclic : List StageLinks → CheckFault → Type 0
 IsCyclic g (Cycle c) = IsShortestCycle g c
 IsCyclic g Memory = Unit {0}
 IsCyclic g (Twice n) = ⊥
@@ -110,7 +110,7 @@ IsCyclic g (BadLiteral n) = ⊥
 IsCyclic g NoResult = ⊥
 
 -- the results for a program without a fault
-pub record IsFound (ds : List Declaration) (f : Found) : Type 0 where
+pub record IsFound (ds : List Declaration) (f : CheckedLists) : Type 0 where
   pub named : IsNamed ds
   pub result : list_any is_result ds ≡ true
   pub stages : f.stages.items ≡ stages_of ds

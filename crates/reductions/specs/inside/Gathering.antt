@@ -2,16 +2,16 @@
 use Rattle.std.specs.Prelude.{ℕ, ℤ, pos, ◌+ℤ◌, ◌≡◌, Bool, if◌then◌else◌, List, map, filter, fold, length, zip}
 use Rattle.std.specs.Ordering.{int_eq}
 use Rattle.domains.specs.Span.{numbers_from}
-use Rattle.operators.specs.declared.operator.Fold.{Fold}
+use Rattle.operators.specs.declared.operator.ReductionOp.{ReductionOp}
 use Rattle.job.specs.Totals.{joined}
 use Rattle.tile_eval.specs.Rows.{EachPlace, at}
 
 -- the content of a bin after a value, if the value is of this bin
-abbrev pub once_came : Fold → Bool → ℤ → ℤ → ℤ
+abbrev pub once_came : ReductionOp → Bool → ℤ → ℤ → ℤ
 once_came way here total v = if here then joined way total v else total
 
 -- the content of a bin after values, accumulated one after the other
-abbrev pub after_values : Fold → ℤ → List ℤ → ℤ
+abbrev pub after_values : ReductionOp → ℤ → List ℤ → ℤ
 after_values way total vs = fold (joined way) total vs
 
 -- those of a row of values that are of bin b, where a second row has the bin of each
@@ -27,6 +27,6 @@ abbrev pub points_along : ℤ → ℤ → ℕ → List (ℤ × ℤ)
 points_along r c n = map (λ v. (r, v)) (numbers_from c n)
 
 -- each bin, from lo on, accumulated its values at these points
-abbrev pub TookIn : Fold → (ℤ → ℤ → ℤ) → (ℤ → ℤ → ℤ) → ℤ → List (ℤ × ℤ) → List ℤ → List ℤ → Type 0
+abbrev pub TookIn : ReductionOp → (ℤ → ℤ → ℤ) → (ℤ → ℤ → ℤ) → ℤ → List (ℤ × ℤ) → List ℤ → List ℤ → Type 0
 TookIn way value bin lo points old new =
     EachPlace (length old) (λ j. at new j ≡ after_values way (at old j) (values_among value bin points (lo +ℤ pos j)))

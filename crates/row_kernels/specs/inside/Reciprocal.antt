@@ -6,11 +6,11 @@ abbrev pub IsReciprocal : (divisor factor shift : ℕ) → Type 0
 IsReciprocal divisor factor shift = (n : ℕ) → n < 2 ^ 31 → n * factor / 2 ^ shift ≡ n / divisor
 
 -- how far a number lies from 0, and one below 0 from -1
-abbrev pub distance : ℤ → ℕ
-distance (pos n) = n
-distance (negsuc n) = n
+abbrev pub complement_negative_dividend : ℤ → ℕ
+complement_negative_dividend (pos n) = n
+complement_negative_dividend (negsuc n) = n
 
 -- the number that lies so far from 0 or from -1, on the side of z
-abbrev pub on_side : ℤ → ℕ → ℤ
-on_side (pos n) m = pos m
-on_side (negsuc n) m = negsuc m
+abbrev pub restore_sign : ℤ → ℕ → ℤ
+restore_sign (pos n) m = pos m
+restore_sign (negsuc n) m = negsuc m

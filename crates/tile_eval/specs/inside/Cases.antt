@@ -9,7 +9,7 @@ use Rattle.job.specs.Boxes.{BoundsHold}
 use Rattle.job.specs.Reads.{EachRead}
 use Rattle.job.specs.Views.{case_view, formula_view}
 use Rattle.job.specs.WellFormed.{IsFormula, IsTest}
-use Rattle.row_kernels.specs.Rows.{EachPlace}
+use Rattle.row_loops.specs.Rows.{EachPlace}
 use Rattle.tile_eval.specs.Reading.{HasRoom}
 use Rattle.tile_eval.specs.Cases.{InBox}
 

@@ -1,7 +1,7 @@
 -- What rows of kernels give at points.
 use Rattle.std.specs.Prelude.{ℕ, ◌≡◌, ℤ, ◌*ℤ◌, List, length}
 use Rattle.job.specs.Values.{sum_below, factors, kernel_row, kernel_column}
-use Rattle.row_kernels.specs.Rows.{EachPlace, at}
+use Rattle.row_loops.specs.Rows.{EachPlace, at}
 
 -- what row a of a kernel adds at a point
 abbrev pub row_sum : List (List ℤ) → (ℤ → ℤ → ℤ) → ℤ → ℤ → ℕ → ℤ

@@ -8,7 +8,7 @@ use Rattle.held_facts.specs.declared.make_fault.MakeFault.{MakeFault}
 use Rattle.held_facts.specs.declared.make_fault.MakeFault.TheVariants as makes
 use Rattle.node_state.specs.Making.{IsMade, IsMakeFault}
 use Rattle.node_state.specs.States.{State}
-use Rattle.overlap_tiles.specs.Work.{first_without_room}
+use Rattle.overlap_tiles.specs.Work.{find_key_over_scratch_limit}
 use Rattle.gossip_core.specs.Finishing.{lacked_work}
 use Rattle.gossip_core.specs.Steps.{IsScheduleFor, WorldWork}
 use Rattle.gossip_core.specs.declared.fault.StepFault.{StepFault}
@@ -35,7 +35,7 @@ refusal_of fault = faults.Make fault
 
 -- the first of the lacked tiles that does not fit in scratch memory
 abbrev pub IsRoomFault : FactSet → Entry → List Bool → FinishFault → Type 0
-IsRoomFault s entry inlining (finish.ScratchTooBig key) = first_without_room entry.pipeline inlining (lacked_work s entry inlining)
+IsRoomFault s entry inlining (finish.ScratchTooBig key) = find_key_over_scratch_limit entry.pipeline inlining (lacked_work s entry inlining)
     ≡ Some key
 IsRoomFault s entry inlining finish.Memory = Unit {0}
 IsRoomFault s entry inlining _ = ⊥

@@ -12,7 +12,7 @@ use Rattle.binding.proofs.bound.bind.Goals as goal
 
 pub new-requires : goal.new-requires
 new-requires c =
-    let known = c.bound_parts.ensures.checked in
+    let known = c.build_job_parts.ensures.checked in
     let items = content (tree_in c.args.checked) in
     let parts = subst (λ ts. AreBoundParts items (program_of c.args.checked c.args.params.now ts) c.args.picture c.in-Ok.parts)
     c.deref.ensures.value c.in-Ok.ensures.ok in
@@ -34,7 +34,7 @@ returns-in-Ok-print-clause-job c = c.new.result.well
 
 pub returns-in-Ok-print-clause-says : goal.returns-in-Ok-print-clause-says
 returns-in-Ok-print-clause-says c = λ names.
-    let known = c.bound_parts.ensures.checked in
+    let known = c.build_job_parts.ensures.checked in
     let items = content (tree_in c.args.checked) in
     let parts = subst (λ ts. AreBoundParts items (program_of c.args.checked c.args.params.now ts) c.args.picture c.in-Ok.parts)
     c.deref.ensures.value c.in-Ok.ensures.ok in

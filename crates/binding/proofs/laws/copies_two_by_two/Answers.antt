@@ -12,7 +12,7 @@ use Rattle.pipe_checks.specs.Accesses.{graph_of}
 use Rattle.pipe_bounds.specs.Within.{AllSet}
 use Rattle.pipe_checks.specs.Uses.{index_places}
 use Rattle.pipe_checks.specs.Checking.{DeclaresAgain, IsTwice, IsNamed, is_good}
-use Rattle.pipe_checks.specs.Twice.{locals_of, varies_again}
+use Rattle.pipe_checks.specs.Twice.{item_variables, has_reused_variable}
 use Rattle.binding.specs.Binding.{settings_for}
 use Rattle.binding.specs.Texts.{planes, copying, unset, two_by_two}
 use Rattle.binding.proofs.laws.copies_two_by_two.Goals as goal
@@ -50,11 +50,11 @@ new_at (suc (suc (suc (suc place)))) = λ d is. absurd (cc)
 declared_once : (k : ℕ) → DeclaresAgain (declared_names copying) k → ⊥
 declared_once k x = false≢true (subst (λ (o : Option ℕ). IsTrue (is_some o)) (new_at x.place x.again x.there) x.before)
 
-variables_are_new : (k : ℕ) (d : Declaration) → slice_get copying k ≡ Some d → varies_again (declared_names copying) (locals_of d) ≡ false
+variables_are_new : (k : ℕ) (d : Declaration) → slice_get copying k ≡ Some d → has_reused_variable (declared_names copying) (item_variables d) ≡ false
 variables_are_new =
-    each_at (λ d. varies_again (declared_names copying) (locals_of d) ≡ false) copying (refl, (refl, (refl, (refl, (refl, tt)))))
+    each_at (λ d. has_reused_variable (declared_names copying) (item_variables d) ≡ false) copying (refl, (refl, (refl, (refl, (refl, tt)))))
 
-twice_is_none : (k : ℕ) (d : Declaration) → varies_again (declared_names copying) (locals_of d) ≡ false
+twice_is_none : (k : ℕ) (d : Declaration) → has_reused_variable (declared_names copying) (item_variables d) ≡ false
     → IsTwice (declared_names copying) k d → ⊥
 twice_is_none k d new (inl again) = declared_once k again
 twice_is_none k d new (inr varies) = false≢true (subst IsTrue new varies)

@@ -4,7 +4,7 @@ use Rattle.domains.proofs.Places.{ok_then}
 use Rattle.identity.specs.declared.key.Key.{Key}
 use Rattle.job.specs.declared.job.Job.{Job}
 use Rattle.job.specs.Kept.{pipeline_in}
-use Rattle.tile_eval.specs.Buffer.{IsServed}
+use Rattle.whole_stages.specs.Known.{IsServed}
 use Rattle.fact_audit.specs.Verdicts.{IsJobVerdict}
 use Rattle.fact_audit.proofs.Judging.{by_job}
 use Rattle.fact_audit.proofs.single.audit.Goals as goal
@@ -13,8 +13,8 @@ pub returns-in_default : goal.returns-in_default
 returns-in_default c =
     λ i at. c.in_default.ensures.none i (subst (λ (key : Key). StandsAt c.args.catalog.now (ids_in key) i) (sym c.key.ensures) at)
 
-pub judge_by_stages-requires : goal.judge_by_stages-requires
-judge_by_stages-requires c =
+pub judge_fact_by_stages-requires : goal.judge_fact_by_stages-requires
+judge_fact_by_stages-requires c =
     let known = c.in_ok-stages.stages.known.buffers.items in
     subst (λ (g : ℕ). IsServed (pipeline_in c.in_ok-stages.stages.job.now) known g)
     (c.from.ensures ∙ ap (λ (k : Key). k.stage) c.key-2.ensures)
@@ -24,7 +24,7 @@ judge_by_stages-requires c =
 pub returns : goal.returns
 returns c =
     let found = c.in-Some.ensures.some in
-    ok_then c.judge_by_stages.result c.judge_by_stages.ensures (λ v p.
+    ok_then c.judge_fact_by_stages.result c.judge_fact_by_stages.ensures (λ v p.
     by_job c.args.catalog.now c.args.fact.now v c.in-Some.ensures.catalog
     (record {
       index = found.0;

@@ -1,7 +1,7 @@
 use Rattle.std.proofs.Common.{rules}
 use Rattle.std.specs.declared.cmp.Ordering.{Ordering}
-use Rattle.identity.specs.contracts.job_ids.IdsOrd.TheImpl as ids
-use Rattle.identity.specs.declared.job_ids.Ids.{Ids}
+use Rattle.identity.specs.contracts.job_ids.JobIdOrd.TheImpl as ids
+use Rattle.identity.specs.declared.job_ids.JobId.{JobId}
 use Rattle.identity.specs.Keys.{ids_cmp}
 use Rattle.tile_fact.specs.contracts.fact.FactOrd.TheImpl as order
 use Rattle.tile_fact.specs.declared.fact.Fact.{Fact}
@@ -12,14 +12,14 @@ use Rattle.fact_lines.proofs.join.join_fact_files.Goals as goal
 pub returns-clause-found : goal.returns-clause-found
 unfolding fact_cmp
 returns-clause-found c =
-    let by_ids : Ids → Ids → Ordering = λ a b. ids.ghosts.cmp a b in
+    let by_ids : JobId → JobId → Ordering = λ a b. ids.ghosts.cmp a b in
     let by_order : Fact → Fact → Ordering = λ a b. order.ghosts.cmp a b in
     let jobs =
-    sorted_as by_ids ids_cmp (λ a b. search rules) _ c.sort_once.new.items.items c.sort_once.ensures.sorted c.sort_once.ensures.kept
-    c.sort_once.ensures.none_new in
+    sorted_as by_ids ids_cmp (λ a b. search rules) _ c.sort_without_repeats.new.items.items c.sort_without_repeats.ensures.sorted c.sort_without_repeats.ensures.kept
+    c.sort_without_repeats.ensures.none_new in
     let facts =
-    sorted_as by_order fact_cmp (λ a b. search rules) _ c.sort_once-2.new.items.items c.sort_once-2.ensures.sorted
-    c.sort_once-2.ensures.kept c.sort_once-2.ensures.none_new in
-    let left = rw c.deref.ensures.value at c.remove_facts_of_jobs.ensures in
-    is_join c.args.text.now _ c.sort_once.new.items.items _ c.sort_once-2.new.items.items c.remove_facts_of_jobs.new.facts.items
+    sorted_as by_order fact_cmp (λ a b. search rules) _ c.sort_without_repeats-2.new.items.items c.sort_without_repeats-2.ensures.sorted
+    c.sort_without_repeats-2.ensures.kept c.sort_without_repeats-2.ensures.none_new in
+    let left = rw c.deref.ensures.value at c.remove_retired_facts_of_files.ensures in
+    is_join c.args.text.now _ c.sort_without_repeats.new.items.items _ c.sort_without_repeats-2.new.items.items c.remove_retired_facts_of_files.new.facts.items
     c.in_ok-retired.ensures.found jobs facts (left jobs.strict)

@@ -18,16 +18,16 @@ returns-in_err-farmed-clause-written g c =
     c.in_ok-input.input.items given sides c.in_err-farmed.field-0.0 (g.W.Sink.contents c.args.writer.now) read.whole read.within
     c.in_err-farmed.ensures.fault)
 
-pub returns-in_err-write_reply-clause-written : goal.returns-in_err-write_reply-clause-written
-returns-in_err-write_reply-clause-written g c =
+pub returns-in_err-write_job_reply-clause-written : goal.returns-in_err-write_job_reply-clause-written
+returns-in_err-write_job_reply-clause-written g c =
     let given = c.args.parameters.now in
     let sides = c.args.options.now.sides in
     let read = c.in_ok-input.ensures in
-    let failed = c.from_residual-in_err-write_reply in
+    let failed = c.from_residual-in_err-write_job_reply in
     let p = err_from_is_err_and failed.result failed.ensures.1 in
     part_written (saying_of_job SaysResult given sides) (refusing_run given sides) (g.R.Source.remaining c.args.reader.now)
     c.in_ok-input.input.items tt (reply_bytes c.in_ok-farmed.farmed.reply) failed.result (g.W.Sink.contents c.args.writer.now) _ read.whole
-    read.within c.in_ok-farmed.ensures.said c.in_err-write_reply.ensures.taken (p.1 ∙ ap Err p.2)
+    read.within c.in_ok-farmed.ensures.said c.in_err-write_job_reply.ensures.taken (p.1 ∙ ap Err p.2)
 
 pub returns-clause-written : goal.returns-clause-written
 returns-clause-written g c =
@@ -36,4 +36,4 @@ returns-clause-written g c =
     let read = c.in_ok-input.ensures in
     all_written (saying_of_job SaysResult given sides) (refusing_run given sides) (g.R.Source.remaining c.args.reader.now)
     c.in_ok-input.input.items tt (reply_bytes c.in_ok-farmed.farmed.reply) (g.W.Sink.contents c.args.writer.now) _ read.whole read.within
-    c.in_ok-farmed.ensures.said c.in_ok-write_reply.ensures.taken
+    c.in_ok-farmed.ensures.said c.in_ok-write_job_reply.ensures.taken

@@ -17,12 +17,12 @@ loop-line-preserved c =
     let here = subst (λ (n : ℕ). (n < length all) × (line ≡ get_or all n line)) (sym c.loop-line.invariant.count) turn in
     record {
       count = ap (λ n. n + 1) c.loop-line.invariant.count ∙ sym (length_push c.loop-line.yielded c.in-Some.line);
-      told = takes_line c.args.jobs.now all c.loop-line.number line _ _ here c.loop-line.invariant.told c.in_ok-add_event_line.ensures.added
-          c.in_ok-add_event_line.ensures.few;
+      told = takes_line c.args.jobs.now all c.loop-line.number line _ _ here c.loop-line.invariant.told c.in_ok-parse_script_line_into_events.ensures.added
+          c.in_ok-parse_script_line_into_events.ensures.few;
     }
 
-pub returns-in_err-add_event_line-clause-fault : goal.returns-in_err-add_event_line-clause-fault
-returns-in_err-add_event_line-clause-fault c =
+pub returns-in_err-parse_script_line_into_events-clause-fault : goal.returns-in_err-parse_script_line_into_events-clause-fault
+returns-in_err-parse_script_line_into_events-clause-fault c =
     let all = lines c.args.text.now in
     let line = c.in-Some.line.now in
     let turn =
@@ -32,7 +32,7 @@ returns-in_err-add_event_line-clause-fault c =
     let p = err_from_is_err_and c.from_residual.result c.from_residual.ensures.1 in
     rw (p.1, p.2)
     (line_at_fault c.args.jobs.now c.args.text.now c.loop-line.number _ line _ _ here refl c.loop-line.invariant.told
-    c.in_err-add_event_line.ensures.tells c.in_err-add_event_line.ensures.fault)
+    c.in_err-parse_script_line_into_events.ensures.tells c.in_err-parse_script_line_into_events.ensures.fault)
 
 pub returns-clause-events : goal.returns-clause-events
 returns-clause-events c =

@@ -14,12 +14,12 @@ returns-in_err-planes c =
     let p = err_from_is_err_and c.from_residual-in_err-planes.result c.from_residual-in_err-planes.ensures.1 in
     rw (p.1, p.2) (planes_fail c.args.bytes.now c.in_ok-header.header _ (sym c.in_ok-header.ensures.read) c.in_err-planes.ensures)
 
-pub from_parts-requires : goal.from_parts-requires
-from_parts-requires c =
+pub from_valid_planes-requires : goal.from_valid_planes-requires
+from_valid_planes-requires c =
     let read = reads c.args.bytes.now c.in_ok-header.header _ (sym c.in_ok-header.ensures.read) c.in_ok-planes.ensures in
     (is_picture c.args.bytes.now _ (λ i. omega (arith, c.type_inv.bytes i)) read).image
 
 pub returns : goal.returns
 returns c =
     let read = reads c.args.bytes.now c.in_ok-header.header _ (sym c.in_ok-header.ensures.read) c.in_ok-planes.ensures in
-    rw c.from_parts.ensures read
+    rw c.from_valid_planes.ensures read

@@ -6,12 +6,12 @@ use Rattle.netpbm.proofs.RawReads.{whole_number}
 use Rattle.netpbm.proofs.ReadLaws.{raw_planes_are}
 use Rattle.netpbm.proofs.reading.read_raw_planes.Goals as goal
 
-pub raw_planes-requires-clause-whole : goal.raw_planes-requires-clause-whole
-raw_planes-requires-clause-whole c =
+pub decode_raw_planes-requires-clause-whole : goal.decode_raw_planes-requires-clause-whole
+decode_raw_planes-requires-clause-whole c =
     let h = c.args.header.now in
     let bytes = c.args.bytes.now in
     let raster = take (length bytes - h.end) (drop h.end bytes) in
-    let count = h.colours * c.area_of-area.result in
+    let count = h.colours * c.count_plane_samples-area.result in
     whole_number raster h.max count (subst (λ (w : ℕ). length raster ≡ count * w) c.sample_width.ensures c.if-raster-count.true)
 
 pub returns-in-Some : goal.returns-in-Some
@@ -19,7 +19,7 @@ returns-in-Some c =
     let h = c.args.header.now in
     let bytes = c.args.bytes.now in
     let raster = take (length bytes - h.end) (drop h.end bytes) in
-    let area = c.area_of-area in
+    let area = c.count_plane_samples-area in
     let many =
     subst (λ (w : ℕ). length raster ≡ (h.colours * area.result) * w) c.sample_width.ensures c.if-raster-count.true in
     let size = subst (λ (area : ℕ). length raster ≡ (h.colours * area) * width_of h.max) area.ensures.value many in

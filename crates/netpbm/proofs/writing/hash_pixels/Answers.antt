@@ -13,10 +13,10 @@ pub loop-done-preserved : goal.loop-done-preserved
 loop-done-preserved g c =
     let p = c.args.picture.now in
     let done = c.loop-done.done in
-    let end = c.put_next-end.result.0 in (
+    let end = c.encode_next_pixels-end.result.0 in (
       search rules,
       λ message held. subst (g.D.Digest.holds c.update.new.self)
-          (behind_more p done end message _ c.area-area.ensures.image (search rules) (search rules) c.put_next-end.ensures.written)
+          (behind_more p done end message _ c.area-area.ensures.image (search rules) (search rules) c.encode_next_pixels-end.ensures.written)
           (c.update.ensures (message ++ raster_to done p) (c.loop-done.invariant.1 message held)),
     )
 

@@ -17,12 +17,12 @@ loop-done-init g c = (
   refl,
 )
 
-pub returns-in_err-write_whole-clause-part : goal.returns-in_err-write_whole-clause-part
-returns-in_err-write_whole-clause-part g c =
+pub returns-in_err-write_all_bytes-clause-part : goal.returns-in_err-write_all_bytes-clause-part
+returns-in_err-write_all_bytes-clause-part g c =
     let p = c.args.picture.now in
     let done = c.loop-done.done in
-    let end = c.put_next-end.result.0 in
-    let part = subst (AppendsPart _ _) c.put_next-end.ensures.written c.in_err-write_whole.ensures.part in
+    let end = c.encode_next_pixels-end.result.0 in
+    let part = subst (AppendsPart _ _) c.encode_next_pixels-end.ensures.written c.in_err-write_all_bytes.ensures.part in
     on_err c.from_residual.result _
     (AppendsPart-next _ _ _ (raster_to done p) (raw_raster p.max (pixels done end p.planes))
     (raw_raster p.max (pixels end (p.rows * p.cols) p.planes)) (raw_raster p.max (interleaved p.planes)) c.loop-done.invariant.1 part
@@ -32,8 +32,8 @@ pub loop-done-preserved : goal.loop-done-preserved
 loop-done-preserved g c =
     let p = c.args.picture.now in
     let done = c.loop-done.done in
-    let end = c.put_next-end.result.0 in
-    let piece = subst (Appends _ _) c.put_next-end.ensures.written c.in_ok-write_whole.ensures.ok in
+    let end = c.encode_next_pixels-end.result.0 in
+    let piece = subst (Appends _ _) c.encode_next_pixels-end.ensures.written c.in_ok-write_all_bytes.ensures.ok in
     let more = raster_more p done end c.area-area.ensures.image (search rules) (search rules) in
     (search rules, subst (Appends _ _) more (Appends-trans _ _ _ _ _ c.loop-done.invariant.1 piece), search rules)
 

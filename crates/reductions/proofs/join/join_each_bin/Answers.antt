@@ -2,14 +2,14 @@ use Rattle.std.proofs.Common.{rules, arith, ℕ, ◌≡◌, ◌≢◌, ◌<◌, 
 use Rattle.std.proofs.lemmas.Int.{to_z-of_z}
 use Rattle.job.specs.Totals.{joined}
 use Rattle.tile_eval.specs.Rows.{at}
-use Rattle.row_kernels.proofs.Writing.{EachPlace-more}
+use Rattle.row_loops.proofs.Writing.{EachPlace-more}
 use Rattle.reductions.proofs.JoinInto.{joined_by_places}
 use Rattle.reductions.proofs.join.join_each_bin.Goals as goal
 
 pub loop-k-preserved : goal.loop-k-preserved
 loop-k-preserved c =
     let k : ℕ = c.loop-k.k in
-    let fits : FitsSigned w64 c.join_numbers.result = search rules in
+    let fits : FitsSigned w64 c.join_bin_numbers.result = search rules in
     let first_fits : FitsSigned w64 (at c.loop-k.bins k) = search rules in
     let second_fits : FitsSigned w64 (at c.args.others.now k) = search rules in
     let here : k ≤ k = omega arith in
@@ -20,7 +20,7 @@ loop-k-preserved c =
     ≡ at c.args.others.now k = to_z-of_z w64 (at c.args.others.now k) second_fits in
     record {
       done = EachPlace-more (λ j. joined c.args.op (at c.args.bins.now j) (at c.args.others.now j)) c.loop-k.bins k _ within
-          (to_z-of_z w64 c.join_numbers.result fits ∙ c.join_numbers.ensures ∙ (λ i. joined c.args.op (first i) (second i))) c.loop-k.invariant.done;
+          (to_z-of_z w64 c.join_bin_numbers.result fits ∙ c.join_bin_numbers.ensures ∙ (λ i. joined c.args.op (first i) (second i))) c.loop-k.invariant.done;
       ahead = λ j h.
           let other : j ≢ k = omega arith in
           let from : k ≤ j = omega arith in

@@ -9,16 +9,16 @@ pub returns-in-Some : goal.returns-in-Some
 returns-in-Some c =
     let is = c.in-Some.ensures.some in
     let place = c.in-Some.place in
-    let fits : FitsSigned w64 c.reduce_row.result = search rules in
+    let fits : FitsSigned w64 c.reduce_row_values.result = search rules in
     let old_fits : FitsSigned w64 (at c.args.bins.now place) = search rules in
-    let new : c.reduce_row.result ≡ after_values c.args.op (at c.args.bins.now place) c.args.values.now =
-    c.reduce_row.ensures ∙ ap (λ z. after_values c.args.op z c.args.values.now) (to_z-of_z w64 (at c.args.bins.now place) old_fits) in
+    let new : c.reduce_row_values.result ≡ after_values c.args.op (at c.args.bins.now place) c.args.values.now =
+    c.reduce_row_values.ensures ∙ ap (λ z. after_values c.args.op z c.args.values.now) (to_z-of_z w64 (at c.args.bins.now place) old_fits) in
     let lo_fits : FitsSigned w32 c.args.lo = search rules in
     let bin_fits : FitsSigned w32 c.args.bin = search rules in
     let there : c.args.lo +ℤ pos place ≡ c.args.bin = ap (λ (z : ℤ). z +ℤ pos place) (sym (to_z-of_z w32 c.args.lo lo_fits)) ∙ is.1
     ∙ to_z-of_z w32 c.args.bin bin_fits in
     row_at c.args.op c.args.bins.now c.args.values.now place c.args.lo c.args.bin _ is.0 there
-    (to_z-of_z w64 c.reduce_row.result fits ∙ new)
+    (to_z-of_z w64 c.reduce_row_values.result fits ∙ new)
 
 pub returns-in_default : goal.returns-in_default
 returns-in_default c = λ j h.

@@ -19,8 +19,8 @@ invariant_of-tile c =
       whole = whole job (stored_tiles of.stored.now.stages.items) c.requires.tally.computed.values;
     }
 
-pub accumulate_tile-requires-clause-layout : goal.accumulate_tile-requires-clause-layout
-accumulate_tile-requires-clause-layout c =
+pub accumulate_tile_values-requires-clause-layout : goal.accumulate_tile_values-requires-clause-layout
+accumulate_tile_values-requires-clause-layout c =
     let self = c.args.self.now in
     record {
       inlining = self.of.schedule.now.inlining;
@@ -31,8 +31,8 @@ accumulate_tile-requires-clause-layout c =
           c.in_ok-layout.ensures;
     }
 
-pub accumulate_tile-requires-clause-needs : goal.accumulate_tile-requires-clause-needs
-accumulate_tile-requires-clause-needs c =
+pub accumulate_tile_values-requires-clause-needs : goal.accumulate_tile_values-requires-clause-needs
+accumulate_tile_values-requires-clause-needs c =
     let self = c.args.self.now in
     let tally = c.requires.tally in
     tally.computed.needs self.stage
@@ -49,7 +49,7 @@ returns c =
     let way = self.accumulator.now.fold in
     let inlining = of.schedule.now.inlining in
     let is = c.in_ok-layout.ensures in
-    on_ok c.accumulate_tile.result c.accumulate_tile.ensures.ok (λ took.
+    on_ok c.accumulate_tile_values.result c.accumulate_tile_values.ensures.ok (λ took.
     took inlining self.stage c.args.row c.args.col is is.area is.tile
     ∙ ap (joined_bins way c.args.bins.now)
     (totals_are job self.stage way self.accumulator.now.bins self.grid tally.gathered c.args.row c.args.col inlining given of.job.now.well

@@ -9,8 +9,8 @@ use Rattle.reductions.specs.Accumulating.{AreBins}
 use Rattle.accumulators.proofs.RowsJoin.{rows_join}
 use Rattle.accumulators.proofs.totals.Accumulation.accumulate_tiles.Goals as goal
 
-pub join_all_bins-requires : goal.join_all_bins-requires
-join_all_bins-requires g c =
+pub join_lists_of_bins-requires : goal.join_lists_of_bins-requires
+join_lists_of_bins-requires g c =
     let are = subst (All (λ (bins : Vec ℤ Global). AreBins c.args.self.now.accumulator.now bins.items)) (sym c.deref.ensures.value) c.in_ok-all.ensures.are in
     λ k d within. (are k d within).count ∙ sym c.requires.bins.count
 
@@ -18,7 +18,7 @@ pub returns : goal.returns
 returns g c =
     let self = c.args.self.now in
     let a = self.accumulator.now in
-    c.join_all_bins.ensures
+    c.join_lists_of_bins.ensures
     ∙ (λ i. fold (joined_bins (c.fold.ensures i)) c.args.bins.now
     (map (λ (bins : Vec ℤ Global). bins.items) (c.deref.ensures.value i)))
     ∙ ap (fold (joined_bins a.fold) c.args.bins.now) c.in_ok-all.ensures.totals

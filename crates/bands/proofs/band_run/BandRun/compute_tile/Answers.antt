@@ -15,7 +15,7 @@ invariant_of-tile c =
 pub compute_values-requires-clause-needs : goal.compute_values-requires-clause-needs
 compute_values-requires-clause-needs c =
     subst (NeedsGiven (kept_tiles c.args.self.now.kept.now.stages.items)) c.needs.ensures
-    (all_given (kept_tiles c.args.self.now.kept.now.stages.items) c.needs.result.now (sym c.has_all_tiles.ensures ∙ c.if-not-has_all_tiles.false))
+    (all_given (kept_tiles c.args.self.now.kept.now.stages.items) c.needs.result.now (sym c.has_all_needed_tiles.ensures ∙ c.if-not-has_all_needed_tiles.false))
 
 pub returns : goal.returns
 returns c =
@@ -25,5 +25,5 @@ returns c =
     let is = c.in-Ok.ensures.layout in
     layout_true (pipeline_in run.job.now) inlining given c.in-Ok.layout c.args.stage c.args.row c.args.col is run.job.now.well
     (subst (NeedsGiven given) c.needs.ensures
-    (all_given given c.needs.result.now (sym c.has_all_tiles.ensures ∙ c.if-not-has_all_tiles.false)))
+    (all_given given c.needs.result.now (sym c.has_all_needed_tiles.ensures ∙ c.if-not-has_all_needed_tiles.false)))
     c.requires.right c.in_ok-values.values.items (c.in_ok-values.ensures inlining c.args.stage c.args.row c.args.col is)

@@ -14,8 +14,8 @@ use Rattle.farm.proofs.Ends.{true_gathered}
 use Rattle.farm.proofs.Gathering.{missing_work_of_lent}
 use Rattle.farm.proofs.farm.Farm.run.Goals as goal
 
-pub complete_answer-requires-clause-is_true : goal.complete_answer-requires-clause-is_true
-complete_answer-requires-clause-is_true g c =
+pub complete_farm_answer-requires-clause-is_true : goal.complete_farm_answer-requires-clause-is_true
+complete_farm_answer-requires-clause-is_true g c =
     let same : c.deref-3.result.now ≡ c.in_ok-closed.closed.items = c.deref-3.ensures.value in
     subst (HoldsTrueFacts c.args.catalog.now) (sym c.in_ok-held.ensures)
     (true_gathered c.args.catalog.now c.deref-3.result.now c.deref-2.result.now

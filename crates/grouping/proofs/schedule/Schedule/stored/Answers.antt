@@ -5,8 +5,8 @@ use Rattle.tile_boxes.specs.Costs.{AllFitScratch}
 use Rattle.tile_boxes.proofs.AskedIsSchedule.{stored_is, stored_fits}
 use Rattle.grouping.proofs.schedule.Schedule.stored.Goals as goal
 
-pub with_costs-requires : goal.with_costs-requires
-with_costs-requires c =
+pub from_inlining-requires : goal.from_inlining-requires
+from_inlining-requires c =
     record {
       schedule =
           subst (IsSchedule (pipeline_in c.args.job.now)) (sym c.in_ok-inlining.ensures) (stored_is (pipeline_in c.args.job.now));

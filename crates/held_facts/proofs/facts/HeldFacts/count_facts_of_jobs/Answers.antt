@@ -14,7 +14,7 @@ pub returns-then-is_empty : goal.returns-then-is_empty
 returns-then-is_empty g c = none_named c.args.self.now c.args.jobs.now c.if-is_empty.ensures
 
 pub loop-next-init : goal.loop-next-init
-loop-next-init g c = record { counted = refl; few = omega arith; next = c.find_least_fact-next.ensures ∙ first_fact c.args.self.now }
+loop-next-init g c = record { counted = refl; few = omega arith; next = c.find_least_fact_of_all_keys-next.ensures ∙ first_fact c.args.self.now }
 
 pub loop-next-smaller : goal.loop-next-smaller
 loop-next-smaller g c =
@@ -32,11 +32,11 @@ loop-next-preserved g c =
     let here : slice_get (facts_in s) c.loop-next.passed ≡ Some f = sym c.loop-next.invariant.next ∙ ap option_copied c.in-Some.is in
     let one : c.in_ok-passed.passed ≡ c.loop-next.passed + 1 = search rules in
     let is : c.from-count.result ≡ from_bool (p f) =
-    c.from-count.ensures ∙ ap from_bool (c.has_job_of_key.ensures ∙ ap (names_one c.args.jobs.now) c.key.ensures) in
+    c.from-count.ensures ∙ ap from_bool (c.is_fact_key_of_jobs.ensures ∙ ap (names_one c.args.jobs.now) c.key.ensures) in
     record {
       counted = rw one (one_counted p (facts_in s) c.loop-next.passed f c.loop-next.count _ here c.loop-next.invariant.counted (ap (λ n. c.loop-next.count + n) is));
-      few = omega (arith, one, c.from-count.ensures, at_most_one c.has_job_of_key.result, c.loop-next.invariant.few);
-      next = rw one (c.find_least_above-next.ensures ∙ next_at s c.loop-next.passed f here);
+      few = omega (arith, one, c.from-count.ensures, at_most_one c.is_fact_key_of_jobs.result, c.loop-next.invariant.few);
+      next = rw one (c.find_least_fact_above-next.ensures ∙ next_at s c.loop-next.passed f here);
     }
 
 pub returns : goal.returns

@@ -8,7 +8,7 @@ use Rattle.held_facts.proofs.facts.HeldFacts.list_facts.Goals as goal
 pub loop-next-init : goal.loop-next-init
 loop-next-init g c = record {
   copied = none_copied (facts_in c.args.self.now) c.new-facts.result.items c.new-facts.ensures.items;
-  next = c.find_least_fact-next.ensures ∙ first_next c.args.self.now c.new-facts.result.items c.new-facts.ensures.items;
+  next = c.find_least_fact_of_all_keys-next.ensures ∙ first_next c.args.self.now c.new-facts.result.items c.new-facts.ensures.items;
 }
 
 pub loop-next-preserved : goal.loop-next-preserved
@@ -20,7 +20,7 @@ loop-next-preserved g c =
     let grown : c.push.new.self.items ≡ out ++ f ∷ [] = search rules in
     record {
       copied = rw grown (copied_more (facts_in s) out f c.loop-next.invariant.copied here);
-      next = rw grown (c.find_least_above-next.ensures ∙ next_more s out f here);
+      next = rw grown (c.find_least_fact_above-next.ensures ∙ next_more s out f here);
     }
 
 pub returns : goal.returns

@@ -3,7 +3,7 @@ use Rattle.std.specs.BTreeMap.{get}
 use Rattle.std.specs.Option.{option_or}
 use Rattle.identity.specs.Keys.{key_cmp}
 use Rattle.identity.specs.declared.key.Key.{Key}
-use Rattle.leases.specs.declared.entry.Entry.{Entry}
+use Rattle.leases.specs.declared.entry.LeaseEntry.{LeaseEntry}
 use Rattle.leases.specs.Leases.{is_same_key}
 use Rattle.leases.specs.Rules.{claim_by}
 use Rattle.leases.specs.Standing.{lease_unless_over, StandsFor}
@@ -29,10 +29,10 @@ returns c =
           ∙ put_none (is_same_key c.args.key q) c.to_lease.result (get key_cmp c.args.self.now.leases q) w.in_default.is
     ] in
     let done =
-    λ (h : List Entry) (t : ℕ) (s : StandsFor c.args.self.now h t). claim_done c.args.self.now
+    λ (h : List LeaseEntry) (t : ℕ) (s : StandsFor c.args.self.now h t). claim_done c.args.self.now
     (record { clock = c.max-time.result; leases = c.match-to_lease.self.leases }) h t c.args.now c.max-time.result
-    c.args.node c.args.key c.args.ttl c.decide-claim.result c.to_lease.result s c.max-time.ensures
-    (c.decide-claim.ensures ∙ ap (λ o. claim_by o c.max-time.result c.args.node c.args.ttl) c.find_lease.ensures) c.to_lease.ensures refl table
+    c.args.node c.args.key c.args.ttl c.decide_by_lease-claim.result c.to_lease.result s c.max-time.ensures
+    (c.decide_by_lease-claim.ensures ∙ ap (λ o. claim_by o c.max-time.result c.args.node c.args.ttl) c.find_lease.ensures) c.to_lease.ensures refl table
     in
     record {
       answer = λ h t s some. (done h t s).0;

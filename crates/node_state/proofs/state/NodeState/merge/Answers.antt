@@ -18,7 +18,7 @@ overflow_sub-result g c =
     omega (arith, parts)
 
 pub overflow_add-result : goal.overflow_add-result
-overflow_add-result g c = omega (arith, c.in_ok-new.ensures.few, c.count_lacked_ids-more.ensures.few)
+overflow_add-result g c = omega (arith, c.in_ok-new.ensures.few, c.count_job_ids_only_in_other-more.ensures.few)
 
 pub invariant_of-self-2 : goal.invariant_of-self-2
 invariant_of-self-2 g c =
@@ -46,5 +46,5 @@ returns-clause-new g c =
     c.in_ok-retired.ensures c.merge.new.self c.as_slice.result.now c.in_ok-new.new c.in_ok-again.again c.in_ok-new.ensures.joined
     c.as_slice.ensures c.in_ok-new.ensures.new c.in_ok-again.ensures in
     let facts : c.in_ok-new.new - c.in_ok-again.again ≡ length (lacked c.self.inside.held c.remove_facts_of_jobs.new.self) = omega (arith, parts) in
-    (λ k. facts k + c.count_lacked_ids-more.ensures.count k)
+    (λ k. facts k + c.count_job_ids_only_in_other-more.ensures.count k)
     ∙ ap (λ s. count_lacked s (state_of c.remove_facts_of_jobs.new.self c.in_ok-retired.retired)) c.self.view_is

@@ -4,7 +4,7 @@ use Rattle.domains.specs.Area.{HoldsPoint, point_count}
 use Rattle.domains.specs.declared.area.Area.{Area}
 use Rattle.job.specs.Kept.{pipeline_in}
 use Rattle.row_kernels.proofs.Places.{place_below}
-use Rattle.tile_eval.specs.Buffer.{place_of}
+use Rattle.tile_eval.specs.Raster.{place_of}
 use Rattle.tile_eval.specs.Rows.{at}
 use Rattle.one_tile.specs.Local.{local_value}
 use Rattle.one_tile.proofs.BoxesAreRead.{none_so, no_range, number_found}

@@ -6,8 +6,8 @@ use Rattle.one_tile.specs.Prepared.{IsBoxed}
 use Rattle.one_tile.proofs.ValuesAreLocal.{all_near, tests_are, formulas_are, boxes_are, reads_are, values_are}
 use Rattle.one_tile.proofs.tile_inputs.TileInputs.write_function_values.Goals as goal
 
-pub area_onto-requires-clause-function : goal.area_onto-requires-clause-function
-area_onto-requires-clause-function g c =
+pub evaluate_function_area-requires-clause-function : goal.evaluate_function_area-requires-clause-function
+evaluate_function_area-requires-clause-function g c =
     let tile = c.args.self.now.tile in
     let job = pipeline_in tile.job.now in
     let given = g.K.TileSource.given tile.known.now in
@@ -34,7 +34,7 @@ returns g c =
     let job = pipeline_in tile.job.now in
     let given = g.K.TileSource.given tile.known.now in
     let f = c.args.function.now in
-    c.area_onto.ensures
+    c.evaluate_function_area.ensures
     ∙ values_are job tile.job.now.well tile.layout.now.inlining given (IsBoxed job tile.layout.now given c.args.self.now.boxes)
     c.args.number (map case_view f.cases.items) (option_map formula_view f.otherwise) c.args.area.now c.requires.function
     c.requires.prepared

@@ -10,7 +10,7 @@ use Rattle.one_tile.proofs.InputsAreRead.{plane_body, function_body, of_stored, 
 use Rattle.tile_sources.proofs.PlanesAreWide.{some_then}
 use Rattle.tile_sources.proofs.PlanesAreWide.{some_both}
 use Rattle.one_tile.proofs.BoxesAreRead.{view_holds, view_reads}
-use Rattle.tile_eval.specs.Buffer.{place_of}
+use Rattle.tile_eval.specs.Raster.{place_of}
 use Rattle.tile_eval.specs.Rows.{at}
 use Rattle.one_tile.proofs.tile_inputs.TileInputsRowSource.borrow_row.Goals as goal
 
@@ -55,8 +55,8 @@ returns-in-Function-2 g c =
           c.in-Function-2.is) (sym c.inlined.ensures ∙ c.if-inlined.false)),
     ))
 
-pub slice-requires : goal.slice-requires
-slice-requires g c =
+pub slice_row-requires : goal.slice_row-requires
+slice_row-requires g c =
     let tile = c.args.self.now.tile in
     let job = pipeline_in tile.job.now in
     let given = g.K.TileSource.given tile.known.now in
@@ -80,9 +80,9 @@ returns-in-Some g c =
     let there : slice_get job.stages c.args.stage ≡ Some s = sym c.in_ok-found.ensures in
     let body = function_body c.in_ok-found.found.now c.body.result.now c.in-Function.field-0 c.body.ensures c.in-Function.is in
     let flag = sym c.inlined.ensures ∙ c.if-inlined.true in (
-      c.slice.ensures.count,
+      c.slice_row.ensures.count,
       λ k h.
-          c.slice.ensures.values k h
+          c.slice_row.ensures.values k h
           ∙ (λ i. at c.in-Some.view.values.now (place_of c.in-Some.view.area (to_z-of_z w32 c.args.row row i)
           (to_z-of_z w32 c.args.first first i +ℤ pos k)))
           ∙ view_reads job tile.layout.now given c.args.self.now.boxes c.args.stage s there _ _ body flag c.args.row (c.args.first +ℤ pos k) (c.requires k h) c.in-Some.view c.in-Some.ensures.some,

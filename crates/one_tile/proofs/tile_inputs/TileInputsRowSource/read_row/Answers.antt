@@ -9,7 +9,7 @@ use Rattle.one_tile.proofs.InputsAreRead.{plane_body, function_body, of_plane}
 use Rattle.one_tile.proofs.InputsAreRead.{of_stored, read_stored, given_by, number_by}
 use Rattle.one_tile.proofs.StepsRun.{planes_lie}
 use Rattle.one_tile.proofs.BoxesAreRead.{some_view, view_holds, view_reads}
-use Rattle.tile_eval.specs.Buffer.{place_of}
+use Rattle.tile_eval.specs.Raster.{place_of}
 use Rattle.tile_eval.specs.Rows.{at}
 use Rattle.one_tile.proofs.tile_inputs.TileInputsRowSource.read_row.Goals as goal
 

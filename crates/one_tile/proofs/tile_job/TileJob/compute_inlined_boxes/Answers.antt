@@ -5,8 +5,8 @@ use Rattle.one_tile.specs.inside.Steps.{HasStepsRoom}
 use Rattle.one_tile.proofs.RunsStep.{all_prepared}
 use Rattle.one_tile.proofs.tile_job.TileJob.compute_inlined_boxes.Goals as goal
 
-pub run_inner_steps-requires-clause-room : goal.run_inner_steps-requires-clause-room
-run_inner_steps-requires-clause-room g c =
+pub compute_inlined_steps-requires-clause-room : goal.compute_inlined_steps-requires-clause-room
+compute_inlined_steps-requires-clause-room g c =
     let job = pipeline_in c.args.self.now.job.now in
     let l = c.args.self.now.layout.now in
     let room : HasStepsRoom job l.steps c.in_ok-room.room =
@@ -19,9 +19,9 @@ returns-clause-prepared g c = λ k i j is.
     let job = pipeline_in c.args.self.now.job.now in
     let l = c.args.self.now.layout.now in
     let given = g.K.TileSource.given c.args.self.now.known.now in
-    let memory = numbers_of c.run_inner_steps.new.scratch in
+    let memory = numbers_of c.compute_inlined_steps.new.scratch in
     let size : l.scratch ≤ length memory = search rules in
     let before : c.from_numbers.result.before.now ≡ memory = search rules in
     let end : c.from_numbers.result.end ≡ length memory = search rules in
     all_prepared job l given k i j is c.args.self.now.job.now.well c.requires.needs memory size c.from_numbers.result before c.from_numbers.ensures.behind end
-    c.run_inner_steps.ensures.computed
+    c.compute_inlined_steps.ensures.computed

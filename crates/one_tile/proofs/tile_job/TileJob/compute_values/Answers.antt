@@ -2,7 +2,7 @@ use Rattle.std.proofs.Common.{◌≡◌, ℕ, List, Bool, true, sym, ◌∙◌, 
 use Rattle.std.proofs.lemmas.Bool.{false≢true}
 use Rattle.domains.specs.declared.area.Area.{Area}
 use Rattle.domains.proofs.Places.{ok_then}
-use Rattle.tile_boxes.specs.Schedules.{is_function}
+use Rattle.tile_boxes.specs.Schedules.{is_function_stage}
 use Rattle.job.specs.Kept.{pipeline_in}
 use Rattle.overlap_tiles.specs.Views.{step_view}
 use Rattle.one_tile.specs.Runs.{AreLocalOn}
@@ -12,8 +12,8 @@ use Rattle.one_tile.proofs.tile_job.TileJob.compute_values.Goals as goal
 pub compute_function_values-requires-clause-last : goal.compute_function_values-requires-clause-last
 compute_function_values-requires-clause-last g c = λ inner last is. c.in-Some.ensures.some inner last (c.steps.ensures ∙ is)
 
-pub returns-in-Some-find_function : goal.returns-in-Some-find_function
-returns-in-Some-find_function g c =
+pub returns-in-Some-find_step_function : goal.returns-in-Some-find_step_function
+returns-in-Some-find_step_function g c =
     let job = pipeline_in c.args.self.now.job.now in
     let l = c.args.self.now.layout.now in
     let given = g.K.TileSource.given c.args.self.now.known.now in
@@ -33,8 +33,8 @@ returns-in-None g c =
     let some = c.requires.layout in
     let end = c.in-Some.ensures.some _ _ (c.steps.ensures
     ∙ layout_steps job some.inlining given l some.stage some.row some.col some.layout) in
-    let function : is_function job c.in-Some.last.now.stage ≡ true =
-    subst (λ (s : ℕ × Area). is_function job s.0 ≡ true) (sym end) some.function in
+    let function : is_function_stage job c.in-Some.last.now.stage ≡ true =
+    subst (λ (s : ℕ × Area). is_function_stage job s.0 ≡ true) (sym end) some.function in
     absurd (false≢true (sym c.in-None.ensures.none ∙ function))
 
 -- there is a last step

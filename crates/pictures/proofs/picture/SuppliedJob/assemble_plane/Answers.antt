@@ -13,9 +13,9 @@ unreachable-requires g c =
 
 pub returns : goal.returns
 returns g c =
-    subst (λ (xs : List ℕ). IfOk c.assemble_plane_over.result (λ (plane : MadePlane). plane ≡ made c.args.max xs))
+    subst (λ (xs : List ℕ). IfOk c.assemble_plane_of_domain.result (λ (plane : MadePlane). plane ≡ made c.args.max xs))
     (plane_is (pipeline_in c.args.self.now.job.now) (g.K.TileSource.given c.args.self.now.known.now) c.args.stage c.in-Some.domain
     c.requires.stored
     (sym c.domain.ensures ∙ c.in-Some.is) (given_at (pipeline_in c.args.self.now.job.now) (g.K.TileSource.given c.args.self.now.known.now))
     c.args.max)
-    c.assemble_plane_over.ensures
+    c.assemble_plane_of_domain.ensures

@@ -25,8 +25,8 @@ loop-row-init c =
       samples = ap (λ (p : MadePlane). p.samples ++ rows_left h grid 0) c.in_ok-sheet.ensures ∙ no_tiles_made h grid parted;
     }
 
-pub push_tile_row-requires-clause-row : goal.push_tile_row-requires-clause-row
-push_tile_row-requires-clause-row c =
+pub compute_tile_row_into_sheet-requires-clause-row : goal.compute_tile_row_into_sheet-requires-clause-row
+compute_tile_row_into_sheet-requires-clause-row c =
     let self = c.args.self.now in
     let rows : c.tile_rows-row-end.result ≡ tile_rows self.run.grid = c.tile_rows-row-end.ensures.number in
     omega (arith, rows)
@@ -42,10 +42,10 @@ loop-row-preserved c =
     let rows : c.tile_rows-row-end.result ≡ tile_rows grid = c.tile_rows-row-end.ensures.number in
     let within : c.loop-row.row < tile_rows grid = omega (arith, rows) in
     record {
-      max = c.in_ok-push_tile_row.ensures.max ∙ c.loop-row.invariant.max;
+      max = c.in_ok-compute_tile_row_into_sheet.ensures.max ∙ c.loop-row.invariant.max;
       samples =
-          tiles_made h grid parted c.loop-row.row c.loop-row.sheet.plane.samples c.push_tile_row.new.sheet.plane.samples (map h (points_of grid.area)) within
-          c.loop-row.invariant.samples (c.in_ok-push_tile_row.ensures.samples
+          tiles_made h grid parted c.loop-row.row c.loop-row.sheet.plane.samples c.compute_tile_row_into_sheet.new.sheet.plane.samples (map h (points_of grid.area)) within
+          c.loop-row.invariant.samples (c.in_ok-compute_tile_row_into_sheet.ensures.samples
           ∙ (λ i. c.loop-row.sheet.plane.samples ++ samples_over job (c.loop-row.invariant.max i) self.run.stage (row_area grid c.loop-row.row)));
     }
 

@@ -9,7 +9,7 @@ use Rattle.pipe_bounds.proofs.params.Params.set.Goals as goal
 pub returns-then-is_some-clause-twice : goal.returns-then-is_some-clause-twice
 returns-then-is_some-clause-twice c =
     let first : place_in c.args.self.now c.args.name.now ≡ Some c.in-Some.number =
-    ap (place_in c.args.self.now) (sym c.as_bytes.ensures.value) ∙ sym c.number_of.ensures ∙ c.in-Some.is in
+    ap (place_in c.args.self.now) (sym c.as_bytes.ensures.value) ∙ sym c.find_param_number.ensures ∙ c.in-Some.is in
     let there =
     read_at c.self.inside.settings.items c.args.self.now c.args.name.now c.in-Some.number c.index.result.now c.self.view_is first
     c.index.ensures in (
@@ -22,7 +22,7 @@ pub returns-clause-ok : goal.returns-clause-ok
 returns-clause-ok c =
     let n = c.in-Some.number in
     let first : place_in c.args.self.now c.args.name.now ≡ Some n =
-    ap (place_in c.args.self.now) (sym c.as_bytes.ensures.value) ∙ sym c.number_of.ensures ∙ c.in-Some.is in
+    ap (place_in c.args.self.now) (sym c.as_bytes.ensures.value) ∙ sym c.find_param_number.ensures ∙ c.in-Some.is in
     let there =
     read_at c.self.inside.settings.items c.args.self.now c.args.name.now n c.index.result.now c.self.view_is first c.index.ensures in
     let there_too =
@@ -45,7 +45,7 @@ returns-clause-ok c =
 pub returns-clause-twice : goal.returns-clause-twice
 returns-clause-twice c =
     let first : place_in c.args.self.now c.args.name.now ≡ Some c.in-Some.number =
-    ap (place_in c.args.self.now) (sym c.as_bytes.ensures.value) ∙ sym c.number_of.ensures ∙ c.in-Some.is in
+    ap (place_in c.args.self.now) (sym c.as_bytes.ensures.value) ∙ sym c.find_param_number.ensures ∙ c.in-Some.is in
     let there =
     read_at c.self.inside.settings.items c.args.self.now c.args.name.now c.in-Some.number c.index.result.now c.self.view_is first
     c.index.ensures in (

@@ -20,19 +20,19 @@ evaluate_cases_part-evaluate_cases-requires g t c κs within =
     let below : length c.args.cases.now * 2 < t = omega (arith, here) in
     let ready =
     part_ready (g.S.RowSource.has c.args.self.now.source.now) c.args.self.now.points.row c.args.self.now.points.col
-    c.part-points.result.row c.part-points.result.col
+    c.slice_points-points.result.row c.slice_points-points.result.col
     c.args.from c.args.to (length c.args.temps.now) c.args.out.now c.args.cases.now c.args.otherwise.now o c.requires.most
-    c.part-points.ensures.row c.part-points.ensures.col c.requires.ready in
-    (below, (search rules, (some, (cut ∙ sym c.part-points.ensures.len, ready))))
+    c.slice_points-points.ensures.row c.slice_points-points.ensures.col c.requires.ready in
+    (below, (search rules, (some, (cut ∙ sym c.slice_points-points.ensures.len, ready))))
 
 pub evaluate_cases_part-returns-then-from-to-clause-inside : goal.evaluate_cases_part-returns-then-from-to-clause-inside
 evaluate_cases_part-returns-then-from-to-clause-inside g t c = λ k l low high.
     part_values (function_value (g.S.RowSource.samples c.args.self.now.source.now) (map case_view c.args.cases.now)
     (option_map formula_view c.args.otherwise.now))
     c.args.self.now.points.row c.args.self.now.points.col
-    c.part-points.result.row c.part-points.result.col c.args.from c.args.to k c.args.out.now c.evaluate_cases.new.out c.if-from-to.true
+    c.slice_points-points.result.row c.slice_points-points.result.col c.args.from c.args.to k c.args.out.now c.evaluate_cases.new.out c.if-from-to.true
     c.requires.most c.evaluate_cases.auto.out
-    c.part-points.ensures.row c.part-points.ensures.col c.evaluate_cases.ensures low high
+    c.slice_points-points.ensures.row c.slice_points-points.ensures.col c.evaluate_cases.ensures low high
 
 pub evaluate_cases-evaluate_after_case-requires : goal.evaluate_cases-evaluate_after_case-requires
 evaluate_cases-evaluate_after_case-requires g t c κs within =
@@ -57,8 +57,8 @@ evaluate_cases-evaluate_cases_part-requires-in-Some g t c κs within =
     (length c.args.out.now) (length c.args.temps.now) c.args.cases.now c.args.otherwise.now c.requires.ready in
     (below, (search rules, (out ∙ c.requires.fits, (most, (omega arith, rw out (rw temps ready))))))
 
-pub evaluate_cases-evaluate_part-requires-clause-room : goal.evaluate_cases-evaluate_part-requires-clause-room
-evaluate_cases-evaluate_part-requires-clause-room g t c =
+pub evaluate_cases-evaluate_formula_part-requires-clause-room : goal.evaluate_cases-evaluate_formula_part-requires-clause-room
+evaluate_cases-evaluate_formula_part-requires-clause-room g t c =
     let out : length c.evaluate_cases_part-in-Some.new.out ≡ length c.args.out.now = c.evaluate_cases_part-in-Some.auto.out ∙ c.evaluate_cases_part.auto.out in
     let temps : length c.evaluate_cases_part-in-Some.new.temps ≡ length c.args.temps.now =
     c.evaluate_cases_part-in-Some.auto.temps ∙ c.evaluate_cases_part.auto.temps in
@@ -84,8 +84,8 @@ evaluate_after_case-evaluate_cases_part-requires-in-Some g t c κs within =
     (length c.args.out.now) (length c.args.temps.now) c.args.cases.now c.args.otherwise.now c.requires.ready in
     (below, (search rules, (out ∙ c.requires.fits, (most, (omega arith, rw out (rw temps ready))))))
 
-pub evaluate_after_case-evaluate_part-requires-clause-room : goal.evaluate_after_case-evaluate_part-requires-clause-room
-evaluate_after_case-evaluate_part-requires-clause-room g t c =
+pub evaluate_after_case-evaluate_formula_part-requires-clause-room : goal.evaluate_after_case-evaluate_formula_part-requires-clause-room
+evaluate_after_case-evaluate_formula_part-requires-clause-room g t c =
     let out : length c.evaluate_cases_part-in-Some.new.out ≡ length c.args.out.now = c.evaluate_cases_part-in-Some.auto.out ∙ c.evaluate_cases_part.auto.out in
     let temps : length c.evaluate_cases_part-in-Some.new.temps ≡ length c.args.temps.now =
     c.evaluate_cases_part-in-Some.auto.temps ∙ c.evaluate_cases_part.auto.temps in
@@ -98,8 +98,8 @@ evaluate_after_case-evaluate_part-requires-clause-room g t c =
     (sym c.formula.ensures)
     (room_less (formula_view c.case-item.result.formula) (length c.args.out.now) (length c.args.out.now) _ _ same room roomy.operands)))
 
-pub evaluate_after_case-evaluate_part-requires-clause-reads : goal.evaluate_after_case-evaluate_part-requires-clause-reads
-evaluate_after_case-evaluate_part-requires-clause-reads g t c = λ k l low high.
+pub evaluate_after_case-evaluate_formula_part-requires-clause-reads : goal.evaluate_after_case-evaluate_formula_part-requires-clause-reads
+evaluate_after_case-evaluate_formula_part-requires-clause-reads g t c = λ k l low high.
     let out : length c.evaluate_cases_part-in-Some.new.out ≡ length c.args.out.now = c.evaluate_cases_part-in-Some.auto.out ∙ c.evaluate_cases_part.auto.out in
     let few : k < length c.args.out.now = subst (λ (n : ℕ). k < n) out l in
     let short : k < c.args.self.now.points.len = subst (λ (n : ℕ). k < n) c.requires.fits few in

@@ -7,7 +7,7 @@ pub borrow_row-requires : goal.borrow_row-requires
 borrow_row-requires g c = λ k h.
     there_under (g.S.RowSource.has c.args.self.now.source.now c.args.stage) c.args.kernel.now c.args.self.now.points.row
     c.args.self.now.points.col
-    c.row_under-row.result c.col_under-col.result c.args.a k
+    c.row_under_kernel-row.result c.first_column_under_kernel-col.result c.args.a k
     (search rules) (search rules) (search rules) (search rules) (c.requires.reads k h)
 
 pub returns : goal.returns
@@ -15,6 +15,6 @@ returns g c = IfSome_then c.borrow_row.result c.borrow_row.ensures (λ line h. (
   h.0,
   line_under (g.S.RowSource.samples c.args.self.now.source.now c.args.stage) c.args.kernel.now c.args.self.now.points.row
       c.args.self.now.points.col
-      c.row_under-row.result c.col_under-col.result c.args.a c.args.count line.now
+      c.row_under_kernel-row.result c.first_column_under_kernel-col.result c.args.a c.args.count line.now
       (search rules) (search rules) (search rules) (search rules) h.0 h.1,
 ))

@@ -7,14 +7,14 @@ use Rattle.tile_eval.proofs.source_row.SourceRow.borrow_shifted_row.Goals as goa
 
 pub borrow_row-requires : goal.borrow_row-requires
 borrow_row-requires g c = λ k h.
-    let row_fits : FitsSigned w32 c.row_at-row.result = search rules in
-    let col_fits : FitsSigned w32 c.col_at-first.result = search rules in
-    let row : to_z w32 (of_z w32 c.row_at-row.result) ≡ index_at c.args.row.now c.args.self.now.points.row =
-    to_z-of_z w32 _ row_fits ∙ c.row_at-row.ensures in
-    let first : to_z w32 (of_z w32 c.col_at-first.result) +ℤ pos k ≡ index_at c.args.col.now (c.args.self.now.points.col +ℤ pos k) =
-    ap (λ (z : ℤ). z +ℤ pos k) (to_z-of_z w32 _ col_fits ∙ c.col_at-first.ensures)
+    let row_fits : FitsSigned w32 c.row_at_index-row.result = search rules in
+    let col_fits : FitsSigned w32 c.first_column_at_index-first.result = search rules in
+    let row : to_z w32 (of_z w32 c.row_at_index-row.result) ≡ index_at c.args.row.now c.args.self.now.points.row =
+    to_z-of_z w32 _ row_fits ∙ c.row_at_index-row.ensures in
+    let first : to_z w32 (of_z w32 c.first_column_at_index-first.result) +ℤ pos k ≡ index_at c.args.col.now (c.args.self.now.points.col +ℤ pos k) =
+    ap (λ (z : ℤ). z +ℤ pos k) (to_z-of_z w32 _ col_fits ∙ c.first_column_at_index-first.ensures)
     ∙ columns_follow c.args.col.now c.args.self.now.points.col k c.requires.mul c.requires.div in
-    subst (λ (z : ℤ). g.S.RowSource.has c.args.self.now.source.now c.args.stage z (to_z w32 (of_z w32 c.col_at-first.result) +ℤ pos k))
+    subst (λ (z : ℤ). g.S.RowSource.has c.args.self.now.source.now c.args.stage z (to_z w32 (of_z w32 c.first_column_at_index-first.result) +ℤ pos k))
     (sym row)
     (subst (λ (z : ℤ). g.S.RowSource.has c.args.self.now.source.now c.args.stage (index_at c.args.row.now c.args.self.now.points.row) z)
     (sym first)
@@ -22,18 +22,18 @@ borrow_row-requires g c = λ k h.
 
 pub returns : goal.returns
 returns g c =
-    let row_fits : FitsSigned w32 c.row_at-row.result = search rules in
-    let col_fits : FitsSigned w32 c.col_at-first.result = search rules in
-    let row : to_z w32 (of_z w32 c.row_at-row.result) ≡ index_at c.args.row.now c.args.self.now.points.row =
-    to_z-of_z w32 _ row_fits ∙ c.row_at-row.ensures in
+    let row_fits : FitsSigned w32 c.row_at_index-row.result = search rules in
+    let col_fits : FitsSigned w32 c.first_column_at_index-first.result = search rules in
+    let row : to_z w32 (of_z w32 c.row_at_index-row.result) ≡ index_at c.args.row.now c.args.self.now.points.row =
+    to_z-of_z w32 _ row_fits ∙ c.row_at_index-row.ensures in
     IfSome_then c.borrow_row.result c.borrow_row.ensures (λ line h. (
       h.0,
       (λ k l.
-          let first : to_z w32 (of_z w32 c.col_at-first.result) +ℤ pos k ≡ index_at c.args.col.now (c.args.self.now.points.col +ℤ pos k) =
-          ap (λ (z : ℤ). z +ℤ pos k) (to_z-of_z w32 _ col_fits ∙ c.col_at-first.ensures)
+          let first : to_z w32 (of_z w32 c.first_column_at_index-first.result) +ℤ pos k ≡ index_at c.args.col.now (c.args.self.now.points.col +ℤ pos k) =
+          ap (λ (z : ℤ). z +ℤ pos k) (to_z-of_z w32 _ col_fits ∙ c.first_column_at_index-first.ensures)
           ∙ columns_follow c.args.col.now c.args.self.now.points.col k c.requires.mul c.requires.div in
           h.1 k l
-          ∙ ap (λ (z : ℤ). g.S.RowSource.samples c.args.self.now.source.now c.args.stage z (to_z w32 (of_z w32 c.col_at-first.result) +ℤ
+          ∙ ap (λ (z : ℤ). g.S.RowSource.samples c.args.self.now.source.now c.args.stage z (to_z w32 (of_z w32 c.first_column_at_index-first.result) +ℤ
           pos k)) row
           ∙ ap (g.S.RowSource.samples c.args.self.now.source.now c.args.stage (index_at c.args.row.now c.args.self.now.points.row)) first),
     ))

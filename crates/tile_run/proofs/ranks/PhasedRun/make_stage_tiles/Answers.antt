@@ -23,7 +23,7 @@ compute_tiles-requires-clause-ready g c κs within =
     let lasts = run.uses.now.lasts.items in
     let s : Stage = stage_view c.in-Some.found.now in
     let there = sym c.in-Some.ensures in
-    let is = c.is_used_function.ensures.wanted c.if-is_used_function.true in
+    let is = c.is_used_stored_function.ensures.wanted c.if-is_used_stored_function.true in
     let function : IsStoredFunction job inlining c.args.stage s = record { there = there; function = is.0; stored = is.1 } in
     let parted : c.new-grid.result ≡ grid_of job s = c.new-grid.ensures
     ∙ (λ i. record { area = c.domain.ensures i; sides = c.sides.ensures i }) in

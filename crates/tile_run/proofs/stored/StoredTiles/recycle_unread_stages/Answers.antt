@@ -38,7 +38,7 @@ loop-number-preserved c =
           (stored_less job inlining lasts n stages w.replace-over.new.dest c.loop-number.invariant.length within (c.args.rank + 1)
           (Rank (c.args.rank + 1)) (ap (λ (t : StageTiles). t.rows.items) w.replace-over.ensures.after ∙ w.new.ensures.items)
           (not_kept job inlining lasts c.args.rank n
-          (ap (λ (t : Phase). is_over t c.args.rank) (sym c.find_last_phase.ensures) ∙ sym c.is_over.ensures ∙ w.if-is_over.true)
+          (ap (λ (t : Phase). is_over t c.args.rank) (sym c.find_last_read_phase.ensures) ∙ sym c.is_over.ensures ∙ w.if-is_over.true)
           (sym w.is_output.ensures ∙ w.if-not-is_output.true))
           c.loop-number.invariant)
       | else-is_over w ↦

@@ -6,10 +6,10 @@ use Rattle.tile_sources.specs.inside.Tiles.{IsTileAbout}
 use Rattle.tile_sources.proofs.RowsCrossTiles.{same_about, part_held, slice_numbers}
 use Rattle.tile_sources.proofs.supplied_tiles.SuppliedTiles.borrow_row_part.Goals as goal
 
-pub slice-requires : goal.slice-requires
-slice-requires g c =
-    part_held c.in-Some.block.area c.columns.result.now _ _ c.count_remaining_at_most.result c.in-Some.ensures.some.holds c.columns.ensures
-    c.count_remaining_at_most.ensures.within
+pub slice_row-requires : goal.slice_row-requires
+slice_row-requires g c =
+    part_held c.in-Some.block.area c.columns.result.now _ _ c.count_tile_columns_from.result c.in-Some.ensures.some.holds c.columns.ensures
+    c.count_tile_columns_from.ensures.within
 
 pub unreachable-requires : goal.unreachable-requires
 unreachable-requires g c =
@@ -28,8 +28,8 @@ returns-clause-numbers g c = λ k h.
     same_about (g.K.TileSource.given c.args.self.now.known.now) c.args.self.now.stage c.args.self.now.grid c.args.row c.args.first _ _
     c.in-Some.block (to_z-of_z w32 c.args.row row) (to_z-of_z w32 c.args.first first) c.in-Some.ensures.some in
     let numbers = slice_numbers (g.K.TileSource.given c.args.self.now.known.now) c.args.self.now.stage c.args.self.now.grid c.args.row
-    c.args.first _ _ c.in-Some.block c.count_remaining_at_most.result (Some c.slice.result) about (to_z-of_z w32 c.args.row row)
-    (to_z-of_z w32 c.args.first first) c.slice.ensures.count
-    (part_held c.in-Some.block.area c.columns.result.now _ _ c.count_remaining_at_most.result c.in-Some.ensures.some.holds c.columns.ensures
-    c.count_remaining_at_most.ensures.within) c.slice.ensures.values in
-    numbers.1 k (subst (λ (n : ℕ). k < n) c.slice.ensures.count h)
+    c.args.first _ _ c.in-Some.block c.count_tile_columns_from.result (Some c.slice_row.result) about (to_z-of_z w32 c.args.row row)
+    (to_z-of_z w32 c.args.first first) c.slice_row.ensures.count
+    (part_held c.in-Some.block.area c.columns.result.now _ _ c.count_tile_columns_from.result c.in-Some.ensures.some.holds c.columns.ensures
+    c.count_tile_columns_from.ensures.within) c.slice_row.ensures.values in
+    numbers.1 k (subst (λ (n : ℕ). k < n) c.slice_row.ensures.count h)

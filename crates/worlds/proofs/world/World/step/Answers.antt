@@ -7,20 +7,20 @@ use Rattle.worlds.proofs.world.World.step.Goals as goal
 
 pub invariant_of-self : goal.invariant_of-self
 invariant_of-self g c =
-    world_after c.self.inside.jobs c.self.inside.network c.step.new.self c.args.event.now c.step.result c.self.invariant c.step.ensures.done
-    c.step.ensures.refused
+    world_after c.self.inside.jobs c.self.inside.network c.apply_event.new.self c.args.event.now c.apply_event.result c.self.invariant c.apply_event.ensures.done
+    c.apply_event.ensures.refused
 
 pub returns-clause-truth : goal.returns-clause-truth
 returns-clause-truth g c =
-    (world_after c.self.inside.jobs c.self.inside.network c.step.new.self c.args.event.now c.step.result c.self.invariant
-    c.step.ensures.done
-    c.step.ensures.refused).truth
+    (world_after c.self.inside.jobs c.self.inside.network c.apply_event.new.self c.args.event.now c.apply_event.result c.self.invariant
+    c.apply_event.ensures.done
+    c.apply_event.ensures.refused).truth
 
 pub returns-clause-led : goal.returns-clause-led
 returns-clause-led g c size h accepted leads =
-    IfOk-weaker c.step.result _ _ (λ d ok. (
+    IfOk-weaker c.apply_event.result _ _ (λ d ok. (
       c.self.inside.network,
       accepted,
       subst (λ (v : WorldView). Leads v.work size h accepted v.network) (sym c.self.view_is) leads,
       inl (ok, refl),
-    )) c.step.ensures.done
+    )) c.apply_event.ensures.done

@@ -1,0 +1,25 @@
+use Rattle.std.proofs.Common.{◌++◌}
+use Rattle.command_faults.specs.FaultLines.{bind_head, blamed_text, read_text}
+use Rattle.command_faults.proofs.Taken.{all_then, part_front, part_then, takes_err, takes_then}
+use Rattle.command_faults.proofs.bind_lines.write_bind_fault_line.Goals as goal
+
+pub returns-in_err-write_bind_fault_head : goal.returns-in_err-write_bind_fault_head
+returns-in_err-write_bind_fault_head g c =
+    let line = c.args.line.now in
+    takes_err c.from_residual.result _ _ _ _ _ c.from_residual.ensures.0
+    (part_front (bind_head line.fault ++ blamed_text line.blamed) (read_text line.fault) _ _ _ _
+    (part_front (bind_head line.fault) (blamed_text line.blamed) _ _ _ _ c.in_err-write_bind_fault_head.ensures))
+
+pub returns-in_err-write_fault_blamed_name : goal.returns-in_err-write_fault_blamed_name
+returns-in_err-write_fault_blamed_name g c =
+    let line = c.args.line.now in
+    takes_err c.from_residual-in_err-write_fault_blamed_name.result _ _ _ _ _ c.from_residual-in_err-write_fault_blamed_name.ensures.0
+    (part_front (bind_head line.fault ++ blamed_text line.blamed) (read_text line.fault) _ _ _ _
+    (part_then (bind_head line.fault) (blamed_text line.blamed) _ _ _ _ _ _ c.in_ok-write_bind_fault_head.ensures c.in_err-write_fault_blamed_name.ensures))
+
+pub returns : goal.returns
+returns g c =
+    let line = c.args.line.now in
+    takes_then c.write_out_of_bounds_fault.result (bind_head line.fault ++ blamed_text line.blamed) (read_text line.fault) _ _ _ _ _ _
+    (all_then (bind_head line.fault) (blamed_text line.blamed) _ _ _ _ _ _ c.in_ok-write_bind_fault_head.ensures c.in_ok-write_fault_blamed_name.ensures)
+    c.write_out_of_bounds_fault.ensures

@@ -1,4 +1,0 @@
-use Rattle.command_faults.proofs.fault_lines.write_farm.Goals as goal
-
-pub returns-in-Close : goal.returns-in-Close
-returns-in-Close g c = rw c.in-Close.is c.write_text-in-Close.ensures

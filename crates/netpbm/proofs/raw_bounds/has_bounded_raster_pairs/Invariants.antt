@@ -1,0 +1,6 @@
+-- No pair so far is above the greatest.
+use Rattle.std.proofs.Common.{ℕ, ◌+◌, ◌*◌, ◌<◌, ◌≤◌, get_or}
+use Rattle.netpbm.proofs.raw_bounds.has_bounded_raster_pairs.Given as goal
+
+abbrev pub invariant-loop-i : goal.invariant-loop-i
+invariant-loop-i l = (k : ℕ) → k < l.i → 256 * get_or l.raster (2 * k) 0 + get_or l.raster (2 * k + 1) 0 ≤ l.greatest

@@ -1,0 +1,19 @@
+use Rattle.std.proofs.Common.{◌≡◌, ◌≤◌, ◌-◌, ◌++◌, map}
+use Rattle.domains.specs.Span.{numbers_from}
+use Rattle.job.specs.Answers.{sample_of}
+use Rattle.job.specs.Kept.{pipeline_in}
+use Rattle.tile_sources.specs.KnownTiles.{given_at}
+use Rattle.pictures.proofs.picture.SuppliedJob.push_row_samples.Given as goal
+
+abbrev pub invariant-loop-done : goal.invariant-loop-done
+invariant-loop-done g l = record {
+  max : g.S.OutputSheet.greatest_of l.sheet ≡ g.S.OutputSheet.greatest_of l.fn.sheet;
+  most : l.done ≤ l.fn.count;
+  samples : g.S.OutputSheet.samples l.sheet
+      ≡ g.S.OutputSheet.samples l.fn.sheet
+      ++ map (λ z. sample_of (g.S.OutputSheet.greatest_of l.fn.sheet) (given_at (pipeline_in l.fn.self.job.now) (g.K.TileSource.given l.fn.self.known.now) l.fn.stage l.fn.row z))
+      (numbers_from l.fn.first l.done);
+}
+
+abbrev pub decreases-loop-done : goal.decreases-loop-done
+decreases-loop-done g l = l.fn.count - l.done

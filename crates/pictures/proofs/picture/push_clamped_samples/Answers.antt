@@ -1,0 +1,10 @@
+use Rattle.std.proofs.Common.{ℕ, List, ◌≤◌, sym, subst, ◌∙◌}
+use Rattle.std.specs.Prelude.{All}
+use Rattle.pictures.proofs.PictureOfAnswer.{cuts_bounded}
+use Rattle.pictures.proofs.picture.push_clamped_samples.Goals as goal
+
+pub add_samples-requires : goal.add_samples-requires
+add_samples-requires g c =
+    let bounded = subst (λ (cuts : List ℕ). All (λ sample. sample ≤ c.greatest_sample-max.result) cuts) (sym c.clamp_output_values.ensures)
+    (cuts_bounded c.greatest_sample-max.result c.split_at.result.0.now) in
+    subst (λ (max : ℕ). All (λ sample. sample ≤ max) c.clamp_output_values.new.cuts) (c.greatest_sample-max.ensures ∙ sym c.loop-rest.invariant.max) bounded

@@ -1,5 +1,0 @@
-use Rattle.std.proofs.Common.{ℕ, ◌<◌, ◌≡◌, Some, get_or, slice_get}
-use Rattle.pipe_checks.proofs.cycles.reads_one_at.Given as goal
-
-abbrev pub invariant-loop-stage : goal.invariant-loop-stage
-invariant-loop-stage l = (k : ℕ) → k < l.stage-index → slice_get l.far (get_or l.stage-items k 0) ≡ Some (Some l.steps) → ⊥

@@ -1,6 +1,0 @@
-use Rattle.std.proofs.Common.{◌≡◌, ◌≤◌, take}
-use Rattle.std.specs.Str.Parse.{digits_value}
-use Rattle.pipe_tokens.proofs.piece.number_of.Given as goal
-
-abbrev pub invariant-loop-digit : goal.invariant-loop-digit
-invariant-loop-digit l = record { value_is : l.value ≡ digits_value 10 (take l.digit-index l.digits); small : l.value ≤ 2147483647 }

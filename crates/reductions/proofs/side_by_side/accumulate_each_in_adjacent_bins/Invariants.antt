@@ -1,0 +1,13 @@
+use Rattle.std.proofs.Common.{◌≡◌, ◌+ℤ◌, ℤ, pos, drop, length}
+use Rattle.domains.specs.Span.{numbers_from}
+use Rattle.tile_eval.specs.Rows.{EachPlace, at}
+use Rattle.reductions.specs.inside.Gathering.{after_values, values_of_bin}
+use Rattle.reductions.proofs.side_by_side.accumulate_each_in_adjacent_bins.Given as goal
+
+-- the bins so far, and the values that are left
+abbrev pub invariant-loop-k : goal.invariant-loop-k
+invariant-loop-k l = (lo : ℤ) →
+    EachPlace (length l.bins) (λ j. after_values l.fn.op (at l.bins j)
+    (values_of_bin (drop l.k l.values) (drop l.k (numbers_from (lo +ℤ pos l.fn.place) (length l.values))) (lo +ℤ pos j))
+    ≡ after_values l.fn.op (at l.initial.bins j)
+    (values_of_bin l.values (numbers_from (lo +ℤ pos l.fn.place) (length l.values)) (lo +ℤ pos j)))

@@ -1,0 +1,6 @@
+use Rattle.std.proofs.Common.{◌≡◌, ◌+◌}
+use Rattle.row_loops.specs.Rows.{EachPlace, at}
+use Rattle.row_kernels.proofs.sample_rows.copy_numbers_to_row.Given as goal
+
+abbrev pub invariant-loop-k : goal.invariant-loop-k
+invariant-loop-k g l = EachPlace l.k (λ k. at l.out k ≡ g.V.RowNumbers.number l.numbers (l.place + k))

@@ -1,0 +1,3 @@
+pub mod Stencil
+pub mod Separable
+pub mod inside

@@ -1,0 +1,5 @@
+pub mod Sampling
+pub mod Knowing
+pub mod KnownSamples
+pub mod Learning
+pub mod TrueTiles
