@@ -79,7 +79,11 @@ class Running:
 
     def end_what_is_left(self) -> None:
         """What a command started holds its output open, and nobody would wait for it once the command has ended."""
-        os.waitid(os.P_PID, self.ran.pid, os.WEXITED | os.WNOWAIT)
+        try:
+            os.waitid(os.P_PID, self.ran.pid, os.WEXITED | os.WNOWAIT)
+        except ChildProcessError:
+            # (the command has ended and was waited for: it left nothing)
+            return
         for number in (signal.SIGTERM, signal.SIGKILL):
             if self.is_over.wait(GRACE):
                 return

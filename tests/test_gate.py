@@ -8,6 +8,7 @@ import shutil
 import subprocess
 import sys
 import tempfile
+import threading
 import time
 import types
 import unittest
@@ -65,6 +66,16 @@ class Left(unittest.TestCase):
     def setUp(self):
         self.addCleanup(setattr, gate_run, "GRACE", gate_run.GRACE)
         gate_run.GRACE = 0.3
+
+    def test_a_step_that_ends_at_once_is_watched_without_a_fault(self):
+        faults = []
+        self.addCleanup(setattr, threading, "excepthook", threading.excepthook)
+        threading.excepthook = faults.append
+        with contextlib.redirect_stdout(io.StringIO()):
+            for _ in range(50):
+                self.assertEqual(gate_run.run("stub", "/", ["true"], gate_run.Clock(None)).passed, 1)
+        time.sleep(0.5)
+        self.assertEqual(faults, [])
 
     def test_what_a_step_leaves_behind_is_ended(self):
         for left in ("sleep 300", "python3 -c 'import signal, time; signal.signal(15, signal.SIG_IGN); time.sleep(300)'"):
