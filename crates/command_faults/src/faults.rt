@@ -9,7 +9,7 @@ use std::alloc::AllocError;
 use streams::WriteFailed;
 use thiserror::Error;
 
-/// Why a command gave no result. `write_line` writes the line that reports it.
+/// Why a command gave no result. `write_command_fault_line` writes the line that reports it.
 #[derive(Debug, Drop, Error)]
 pub enum StreamFault {
     /// The reader failed.

@@ -2,7 +2,7 @@
 
 use std::thread::{JoinHandle, Scope};
 
-/// The system refused to start a thread. Only [`start`] makes one, from what the toolchain's `spawn` hands back.
+/// The system refused to start a thread. Only [`start_worker_thread`] makes one, from what the toolchain's `spawn` hands back.
 #[derive(Clone, Copy, Debug, PartialEq, Eq)]
 pub struct ThreadRefusal {
     by_spawn: (),
