@@ -78,8 +78,8 @@ class Limited:
         begins = self.least(refused, self.run(refused, 0)) + 16 * PAGE
         ends = self.least(command, usual, begins)
         names = {usual: "usual", MEMORY: "memory"} | ({NO_THREAD: "no thread"} if command.words[0] == "run" else {})
-        # (what is enough differs from run to run, so that the last two rooms are far beyond it)
-        rooms = [begins + (ends - begins) * it**2 // LIMITS**2 // PAGE * PAGE for it in range(LIMITS + 2)] + [2 * ends, 4 * ends]
+        # (what is enough differs from run to run, and is more where threads get their stacks, so the last two rooms are far beyond it)
+        rooms = [begins + (ends - begins) * it**2 // LIMITS**2 // PAGE * PAGE for it in range(LIMITS + 2)] + [8 * ends, 64 * ends]
         answers = [self.run(command, room) for room in rooms]
         named = [names.get(it, "no more stack" if self.is_of_stack(it, usual) else "wrong") for it in answers]
         wrong = [f"{room} bytes: status {it[0]}, {it[1][:60]!r}" for room, it, name in zip(rooms, answers, named) if name == "wrong"]
