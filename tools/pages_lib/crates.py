@@ -3,7 +3,7 @@ import re
 import textwrap
 from typing import NamedTuple
 
-from . import sources
+from . import sources, words
 
 LIST = "crates.txt"
 LAYER = re.compile(r"# layer: ([^.]*)\. (.*)")
@@ -14,17 +14,19 @@ HEAD = """# Crates
 
 All crates, by layer. This page is made by `tools/make_crates` from the headings of `crates.txt` and from the first lines (`//!`) of each crate: change
 these, and not the page. A crate uses crates of lower layers, and in its own layer those to its left in the picture, which are below it in the
-table. The table leaves out what a crate uses through another one. [ARCHITECTURE.md](ARCHITECTURE.md) goes through them from bytes to bytes, and [THEOREMS.md](THEOREMS.md) has
+table. The table leaves out what a crate uses through another one. Its words lead from a name to its crate: of the words that occur in a function's name or in its
+type's, one of the longest is its crate's ([STYLE.md](STYLE.md#names)). [ARCHITECTURE.md](ARCHITECTURE.md) goes through them from bytes to bytes, and [THEOREMS.md](THEOREMS.md) has
 what each of them promises.
 """
 
 
 class Crate(NamedTuple):
-    """A crate: its name, the crates on its line, and what its first lines say."""
+    """A crate: its name, the crates on its line, what its first lines say, and its words."""
 
     name: str
     uses: tuple[str, ...]
     says: str
+    words: tuple[str, ...]
 
 
 class Layer(NamedTuple):
@@ -44,7 +46,8 @@ def layers_in(text: str, says) -> list[Layer]:
         elif ":" in line and not line.startswith("#"):
             head, _, listed = line.partition(":")
             name = head.split()[0]
-            crate = Crate(name, tuple(it for it in listed.split() if it in names), says(name))
+            said, listed_words = words.parted(says(name))
+            crate = Crate(name, tuple(it for it in listed.split() if it in names), said, tuple(listed_words))
             before = layers[-1:] or [Layer("", "", ())]
             layers[-1:] = [before[0]._replace(crates=(*before[0].crates, crate))]
     return layers
@@ -85,7 +88,7 @@ def least(crates: dict[str, Crate], name: str) -> list[str]:
 
 
 def faults_of(layers: list[Layer]) -> list[str]:
-    """A crate outside of the layers, one without a heading, and one that uses what stands above it."""
+    """A crate outside of the layers, one without a heading, one that uses a crate above it, and a function without a word of its crate."""
     found, known = [], set()
     for layer in layers:
         for it in layer.crates:
@@ -94,8 +97,8 @@ def faults_of(layers: list[Layer]) -> list[str]:
                 found.append(f"{LIST}: {it.name} is in no layer")
             if not it.says:
                 found.append(f"{it.name}: its first lines say nothing (//!)")
-            found += [f"{LIST}: {it.name} stands below {use}, which it uses" for use in it.uses if use not in known]
-    return found
+            found += [f"{LIST}: {it.name} is below {use}, which it uses" for use in it.uses if use not in known]
+    return [*found, *words.faults_of({it.name: it.words for layer in layers for it in layer.crates})]
 
 
 # the picture and the page
@@ -117,11 +120,11 @@ def page(layers: list[Layer]) -> str:
     crates = {it.name: it for layer in layers for it in layer.crates}
     lines = [HEAD, picture(layers)]
     for layer in reversed(layers):
-        lines += [f"## {layer.name}", "", layer.says, "", "| Crate | What it is | It uses |", "|---|---|---|"]
+        lines += [f"## {layer.name}", "", layer.says, "", "| Crate | What it is | Its words | It uses |", "|---|---|---|---|"]
         lines += [row(crates, it) for it in reversed(layer.crates)] + [""]
     return "\n".join(lines[:-1]) + "\n"
 
 
 def row(crates: dict[str, Crate], crate: Crate) -> str:
     uses = ", ".join(f"`{it}`" for it in least(crates, crate.name)) or "no other crate"
-    return f"| [`{crate.name}`](../crates/{crate.name}) | {crate.says} | {uses} |"
+    return f"| [`{crate.name}`](../crates/{crate.name}) | {crate.says} | {', '.join(crate.words)} | {uses} |"

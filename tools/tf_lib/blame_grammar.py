@@ -3,7 +3,7 @@ import re
 
 from .blame import Blame, Situation, listed
 from .blame_guess import Around, guess
-from .parser import Parser
+from .parser import TermParser
 from .tokens import Token, Unreadable, tokens
 
 BEGINS = {
@@ -80,7 +80,7 @@ def open_marks(before: list[Token]) -> int:
 def wanted_at(given: list[Token], offset: int) -> tuple[str, ...]:
     """What could stand at an offset, as far as the grammar's descent tells it."""
     try:
-        Parser([*given, Token("end", "", given[-1].end if given else 0)]).program()
+        TermParser([*given, Token("end", "", given[-1].end if given else 0)]).program()
     except Unreadable as fault:
         return fault.wanted if fault.token.offset == offset else ()
     return ()

@@ -3,7 +3,7 @@ import re
 from dataclasses import dataclass, field
 from typing import Iterator, NamedTuple
 
-from .parser import Parser
+from .parser import TermParser
 from .program import Affine, Item, Kernel, Program, Span
 from .tokens import Token, tokens
 
@@ -95,7 +95,7 @@ class Part:
         return Area(*(Ends(*it) for it in ends))
 
 
-class Reader(Parser):
+class Reader(TermParser):
     """Reads a program, and keeps how each case is bounded and what it reads from where."""
 
     def __init__(self, given: list[Token]):

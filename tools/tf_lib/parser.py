@@ -12,7 +12,7 @@ MOST = 2147483647
 
 def program_of(data: bytes) -> Program:
     """The program that a text spells."""
-    return Parser(tokens(data)).program()
+    return TermParser(tokens(data)).program()
 
 
 def known_program(data: bytes) -> Program | None:
@@ -23,7 +23,7 @@ def known_program(data: bytes) -> Program | None:
         return None
 
 
-class Parser:
+class TermParser:
     """A descent through the grammar of docs/FORMATS.md."""
 
     def __init__(self, given: list[Token]):

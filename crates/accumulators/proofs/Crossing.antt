@@ -8,7 +8,7 @@ use denote.Param.Send.{IsSync, sendable, shr_sync}
 use denote.Param.SendFields.{as_row_sync, declared_sync}
 use Rattle.std.proofs.Crossing as owners
 use Rattle.accumulators.specs.contracts.computed.ComputedJob as ComputedJob
-use Rattle.accumulators.specs.contracts.totals.Accumulation as Accumulation
+use Rattle.accumulators.specs.contracts.totals.TiledAccumulation as TiledAccumulation
 use Rattle.domains.specs.contracts.grid.Grid as Grid
 use Rattle.grouping.specs.contracts.schedule.Schedule as Schedule
 use Rattle.job.specs.contracts.job.Job as Job
@@ -33,8 +33,8 @@ module _ (a : NamedLft) where
     (reference_sync a Schedule.the_row tt schedule_sync, (reference_sync a StoredTiles.the_row tt stored_sync, tt)),
   )
 
-  pub accumulation_sync : IsSync (Accumulation.the_row a)
-  accumulation_sync = declared_sync (Accumulation.the_type a) (
+  pub accumulation_sync : IsSync (TiledAccumulation.the_row a)
+  accumulation_sync = declared_sync (TiledAccumulation.the_type a) (
     computed_sync,
     (as_row_sync usize-field (search sendable), (reference_sync a Accumulator.the_row tt accumulator_sync, (grid_sync, tt))),
   )

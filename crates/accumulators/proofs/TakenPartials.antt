@@ -11,7 +11,7 @@ use Rattle.accumulators.specs.Answers.{body_gathered, gathered_at}
 use Rattle.reductions.specs.Bins.{starts, joined_bins}
 use Rattle.accumulators.specs.Gatherings.{body_gathered_from, gathered_from}
 use Rattle.partials.specs.Partials.{body_joined}
-use Rattle.partials.proofs.PartialsJoin.{partials_join}
+use Rattle.partials.proofs.PartialsJoin.{partials_join_to_answer_in_any_order}
 
 fold_map : {X Y T : Type 0} (op : X → Y → X) (f : T → Y) (x : X) (ts : List T) → fold op x (map f ts) ≡ fold (λ y t. op y (f t)) x ts
 fold_map op f x [] = refl
@@ -36,6 +36,6 @@ taken_partials job g s tiles good there same =
         let joined : fold (λ xs t. joined_bins way xs (partial t)) (starts way bins) tiles ≡ totals job g =
         sym (ap (λ (o : Option Stage). option_map_or (λ t. body_joined job g (grid_of job s) tiles t.body) o []) there
         ∙ ap (body_joined job g (grid_of job s) tiles) is)
-        ∙ partials_join job g s tiles good there same in
+        ∙ partials_join_to_answer_in_any_order job g s tiles good there same in
         ap (λ (xs : List ℤ). record { stage = g; lo = bins.lo; bins = xs } ∷ [])
         (fold_map (joined_bins way) partial (starts way bins) tiles ∙ joined)

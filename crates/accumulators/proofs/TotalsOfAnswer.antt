@@ -20,7 +20,7 @@ use Rattle.accumulators.specs.Answers.{body_gathered, gathered_at}
 use Rattle.reductions.specs.Bins.{starts}
 use Rattle.accumulators.specs.inside.Making.{IsGathered, with_tile}
 use Rattle.partials.specs.Partials.{body_joined, joined_over}
-use Rattle.partials.proofs.PartialsJoin.{partials_join}
+use Rattle.partials.proofs.PartialsJoin.{partials_join_to_answer_in_any_order}
 
 module _ (job : Pipeline) (g : ℕ) where
   -- ---- what lacks an operation, bins or tiles gathers nothing
@@ -105,7 +105,7 @@ module _ (job : Pipeline) (g : ℕ) (way : ReductionOp) (bins : Ends) (grid : Gr
       ∙ ap (body_joined job g grid (tiles_of grid)) is.body in
       sym joined
       ∙ ap (λ (d : Grid). joined_over job g d (tiles_of d)) is.parted
-      ∙ partials_join job g is.stage (tiles_of (grid_of job is.stage)) good is.there (IsPermutation-refl (tiles_of (grid_of job is.stage)))
+      ∙ partials_join_to_answer_in_any_order job g is.stage (tiles_of (grid_of job is.stage)) good is.there (IsPermutation-refl (tiles_of (grid_of job is.stage)))
 
 pub length-starts : (way : ReductionOp) (bins : Ends) → length (starts way bins) ≡ len_of bins
 length-starts way bins = length-map (numbers_of bins) _ ∙ length-numbers_from bins.lo (len_of bins)

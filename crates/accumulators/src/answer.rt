@@ -21,7 +21,7 @@ use std::alloc::Global;
 use std::thread::Threads;
 use tile_run::{
     LastReads, RunFault, StoredTiles, TiledStages, find_first_oversized_tile,
-    make_used_function_tiles,
+    make_used_stored_tiles,
 };
 
 /// The totals of an accumulator: its stage, its first bin, and the values of its bins from there on.
@@ -110,7 +110,7 @@ pub fn evaluate_job(
         return Err(RunFault::ScratchTooBig(key));
     }
     let uses = LastReads::from_schedule(alloc, job, schedule)?;
-    let stored = make_used_function_tiles(rt, alloc, job, schedule, &uses)?;
+    let stored = make_used_stored_tiles(rt, alloc, job, schedule, &uses)?;
     let computed = ComputedJob {
         job,
         schedule,

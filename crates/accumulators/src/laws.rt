@@ -19,20 +19,20 @@ ghost use Rattle.pictures.specs.Pictures.{given_image, GivesOutputs};
 ghost use Rattle.partials.specs.Partials.{local_totals, joined_over};
 
 /// The totals over the tiles of an accumulator, joined in any order, are its totals.
-pub fn partials_join()
+pub fn partials_join_to_answer_in_any_order()
     ensures { (job : Pipeline) (g : ℕ) (s : Stage) (tiles : List (ℕ × ℕ)) → IsJob job
         → slice_get job.stages g ≡ Some s → IsPermutation (tiles_of (grid_of job s)) tiles
         → joined_over job g (grid_of job s) tiles ≡ totals job g }
 {}
 
 /// If the supplied tiles are true, the picture that they give is the job's.
-pub fn true_tiles_give_the_image()
+pub fn true_tiles_give_the_answer_picture()
     ensures { (job : Pipeline) (given : KnownTiles) → IsJob job → AreTrue job given
         → GivesOutputs job given → given_image job given ≡ image job }
 {}
 
 /// The totals over the tiles of an accumulator, each joined once and in any order, are the accumulator's totals.
-pub fn joined_partials_give_totals()
+pub fn running_total_of_partials_is_answer()
     ensures { (job : Pipeline) (g : ℕ) (s : Stage) (tiles : List (ℕ × ℕ)) → IsJob job
         → slice_get job.stages g ≡ Some s → IsPermutation (tiles_of (grid_of job s)) tiles
         → gathered_from job g
@@ -42,7 +42,7 @@ pub fn joined_partials_give_totals()
 
 /// If the supplied tiles are true, the totals over an area that are computed from them are the accumulator's totals over that
 /// area. All that it reads there must be available, directly or through inlined functions whose reads are.
-pub fn true_tiles_give_totals()
+pub fn true_tiles_give_true_accumulations()
     ensures { (job : Pipeline) (inlining : List Bool) (given : KnownTiles) (boxes : ℕ → Option Area)
         (g : ℕ) (s : Stage) (area : Area) → IsJob job → slice_get job.stages g ≡ Some s
         → IsArea area → AreTrue job given → IsClosed job inlining given (λ h. InBox (boxes h))

@@ -1,4 +1,7 @@
 //! The answer of a job: the picture of its output, and the totals of its accumulators over all tiles.
+//!
+//! Words: answer, accumulation, tiled accumulation, running total, output assembly, computed job, totals scratch, evaluate
+//! job.
 #![tactic(auto)]
 
 mod answer;
@@ -13,8 +16,8 @@ mod totals_scratch;
 pub use answer::{Answer, Total, assemble_answer, evaluate_job};
 pub use partials::partial;
 pub use pictures::{
-    OutputPlane, OutputSheet, SuppliedJob, assemble_image, build_output_picture,
-    compute_output_tile_row_area,
+    OutputPlane, OutputSheet, SuppliedJob, assemble_image, build_picture_from_output_planes,
+    compute_output_plane_tile_row_area,
 };
 pub use reductions::{compute_true_partial, find_accumulator_tile_area, join_into, whole};
 pub use running::RunningTotal;

@@ -16,7 +16,7 @@ ghost use Rattle.accumulators.specs.inside.Planes.{IsKept, IsOutputStage};
 use crate::computed::ComputedJob;
 use job::Output;
 use netpbm::{PackedPlane, Picture};
-use pictures::{StreamedOutput, SuppliedJob, build_output_picture};
+use pictures::{StreamedOutput, SuppliedJob, build_picture_from_output_planes};
 use std::alloc::{AllocError, Global};
 use std::thread::Threads;
 use tile_run::{LastReads, StageRun};
@@ -68,7 +68,7 @@ impl OutputAssembly<'_> {
         ensures image { IfOk result IsImage }
     {
         let planes = self.assemble_planes(rt, alloc, output.stages(), output.max() as u16)?;
-        Ok(build_output_picture(self.of.job, output, planes))
+        Ok(build_picture_from_output_planes(self.of.job, output, planes))
     }
 
     // The planes of functions of the output.

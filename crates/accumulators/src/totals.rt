@@ -17,7 +17,7 @@ use crate::totals_scratch::TotalsScratch;
 use domains::Grid;
 use job::{Accumulator, Body, Job};
 use overlap_tiles::{Layout, PlanFault};
-use partials::accumulate_tile_values;
+use partials::accumulate_tile_partial;
 use pictures::is_one_thread_enough_for_rows;
 use rayon::prelude::*;
 use reductions::{create_start_bins, join_lists_of_bins};
@@ -30,7 +30,7 @@ const POINTS_OF_BIN: u64 = 16;
 
 /// An accumulator of a job, whose totals are computed.
 #[derive(Clone, Copy)]
-pub(crate) struct Accumulation<'a> {
+pub(crate) struct TiledAccumulation<'a> {
     of: ComputedJob<'a>,
     stage: usize,
     accumulator: &'a Accumulator,
@@ -81,7 +81,7 @@ impl ComputedJob<'_> {
     }
 
     // The stage of this number, if it is an accumulator.
-    fn find_accumulation(&self, stage: usize) -> Option<Accumulation<'_>>
+    fn find_accumulation(&self, stage: usize) -> Option<TiledAccumulation<'_>>
         requires computed { IsComputed self.now }
         requires fits { TotalsFit self.now }
         ensures stage { IfSome result (λ tally. tally.stage ≡ stage) }
@@ -90,8 +90,8 @@ impl ComputedJob<'_> {
         ensures none { IfNone result (gathered_at (pipeline_in self.now.job.now) stage ≡ []) }
     {
         let grid = self.job.grid(stage)?;
-        let accumulator = find_accumulator_for_totals(self.job, stage)?;
-        Some(Accumulation {
+        let accumulator = find_accumulator_for_answer(self.job, stage)?;
+        Some(TiledAccumulation {
             of: *self,
             stage,
             accumulator,
@@ -101,7 +101,7 @@ impl ComputedJob<'_> {
 }
 
 // The accumulator of this number.
-fn find_accumulator_for_totals(job: &Job, stage: usize) -> Option<&Accumulator>
+fn find_accumulator_for_answer(job: &Job, stage: usize) -> Option<&Accumulator>
     ensures some { IfSome result
         (λ accumulator. IsAccumulatorOf (pipeline_in job.now) stage accumulator.now) }
     ensures none { IfNone result (gathered_at (pipeline_in job.now) stage ≡ []) }
@@ -112,7 +112,7 @@ fn find_accumulator_for_totals(job: &Job, stage: usize) -> Option<&Accumulator>
     }
 }
 
-impl Accumulation<'_> {
+impl TiledAccumulation<'_> {
     // Its totals over all tiles.
     fn compute_accumulator_total(
         &self,
@@ -274,7 +274,7 @@ impl Accumulation<'_> {
             layout: &layout,
             known: of.stored,
         };
-        accumulate_tile_values(
+        accumulate_tile_partial(
             alloc,
             &tile,
             self.accumulator,

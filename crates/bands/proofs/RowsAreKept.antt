@@ -26,7 +26,7 @@ use Rattle.tile_run.specs.Stored.{numbers_in}
 use Rattle.one_tile.specs.declared.tile_rows.TileRow.{TileRow}
 use Rattle.pictures.proofs.LentRows.{in_row}
 use Rattle.bands.specs.Kept.{is_given, numbers_of, kept_tiles, HasNoTiles, GivesNothing, IsFromRow, IsFrom, IsRowOf}
-use Rattle.bands.specs.declared.kept_rows.KeptStageTileRows.{KeptStageTileRows}
+use Rattle.bands.specs.declared.kept_rows.KeptTileRowsOfStage.{KeptTileRowsOfStage}
 
 -- ---- nothing
 
@@ -39,7 +39,7 @@ no_row_more (x ∷ xs) r e h zero j = h zero j
 no_row_more (x ∷ xs) r e h (suc i) j = no_row_more xs r e (λ k. h (suc k)) i j
 
 -- one more stage without tiles
-pub no_stage_more : (xs : List KeptStageTileRows) (s : KeptStageTileRows) → HasNoTiles s → GivesNothing (kept_tiles xs) → GivesNothing (kept_tiles (xs ++ s ∷ []))
+pub no_stage_more : (xs : List KeptTileRowsOfStage) (s : KeptTileRowsOfStage) → HasNoTiles s → GivesNothing (kept_tiles xs) → GivesNothing (kept_tiles (xs ++ s ∷ []))
 no_stage_more [] s e h zero i j = e i j
 no_stage_more [] s e h (suc g) i j = refl
 no_stage_more (x ∷ xs) s e h zero i j = h zero i j
@@ -51,7 +51,7 @@ nothing_true job given none g s there i j xs tile found = absurd (none-some xs (
 -- ---- changes
 
 -- a row in the place of another
-pub row_set : (before after : KeptStageTileRows) (i : ℕ) (row : TileRow) → i < length before.rows.items → after.rows.items ≡ set before.rows.items i row
+pub row_set : (before after : KeptTileRowsOfStage) (i : ℕ) (row : TileRow) → i < length before.rows.items → after.rows.items ≡ set before.rows.items i row
     → IsFromRow before after i row
 row_set before after i row within is k j xs found = by_place (cases_eq k i)
   where
@@ -69,7 +69,7 @@ row_set before after i row within is k j xs found = by_place (cases_eq k i)
     by_place (inr ne) = inl (sym (ap (λ (o : Option TileRow). numbers_in o j) (slice_get-set_other rows i k row ne)) ∙ now)
 
 -- a stage's rows in the place of what they were
-pub stage_set : (stages : List KeptStageTileRows) (g i : ℕ) (before after : KeptStageTileRows) (row : TileRow) → g < length stages
+pub stage_set : (stages : List KeptTileRowsOfStage) (g i : ℕ) (before after : KeptTileRowsOfStage) (row : TileRow) → g < length stages
     → slice_get stages g ≡ Some before → IsFromRow before after i row → IsFrom (kept_tiles stages) (kept_tiles (set stages g after)) g i row
 stage_set stages g i before after row within there is h k j xs found = by_place (cases_eq h g)
   where
@@ -77,13 +77,13 @@ stage_set stages g i before after row within there is h k j xs found = by_place 
         → (kept_tiles stages h k j ≡ Some xs) ⊎ ((h ≡ g) × (k ≡ i) × (numbers_in (Some row) j ≡ Some xs))
     by_place (inl e) =
         let now : numbers_of (Some after) k j ≡ Some xs =
-        sym (ap (λ (o : Option KeptStageTileRows). numbers_of o k j) (ap (slice_get (set stages g after)) e
+        sym (ap (λ (o : Option KeptTileRowsOfStage). numbers_of o k j) (ap (slice_get (set stages g after)) e
         ∙ slice_get-set_same stages g after within)) ∙ found in
         elim (is k j xs now) [
-          | inl old ↦ inl (ap (λ (o : Option KeptStageTileRows). numbers_of o k j) (ap (slice_get stages) e ∙ there) ∙ old)
+          | inl old ↦ inl (ap (λ (o : Option KeptTileRowsOfStage). numbers_of o k j) (ap (slice_get stages) e ∙ there) ∙ old)
           | inr own ↦ inr (e, own.0, own.1)
         ]
-    by_place (inr ne) = inl (sym (ap (λ (o : Option KeptStageTileRows). numbers_of o k j) (slice_get-set_other stages g h after ne)) ∙ found)
+    by_place (inr ne) = inl (sym (ap (λ (o : Option KeptTileRowsOfStage). numbers_of o k j) (slice_get-set_other stages g h after ne)) ∙ found)
 
 pub same_from : (given : KnownTiles) (g i : ℕ) (row : TileRow) → IsFrom given given g i row
 same_from given g i row h k j xs found = inl found

@@ -8,14 +8,14 @@ use Rattle.tile_sources.specs.KnownTiles.{KnownTiles}
 use Rattle.tile_run.specs.StageRuns.{row_numbers, row_values}
 use Rattle.tile_run.specs.Stored.{numbers_in}
 use Rattle.one_tile.specs.declared.tile_rows.TileRow.{TileRow}
-use Rattle.bands.specs.declared.kept_rows.KeptStageTileRows.{KeptStageTileRows}
+use Rattle.bands.specs.declared.kept_rows.KeptTileRowsOfStage.{KeptTileRowsOfStage}
 
 -- the numbers of the tile in row i and column j of what is kept of a stage
-abbrev pub numbers_of : Option KeptStageTileRows → ℕ → ℕ → Option (List ℤ)
+abbrev pub numbers_of : Option KeptTileRowsOfStage → ℕ → ℕ → Option (List ℤ)
 numbers_of None i j = None
 numbers_of (Some kept) i j = numbers_in (slice_get kept.rows.items i) j
 
-abbrev pub kept_tiles : List KeptStageTileRows → KnownTiles
+abbrev pub kept_tiles : List KeptTileRowsOfStage → KnownTiles
 kept_tiles stages g i j = numbers_of (slice_get stages g) i j
 
 -- a tile is supplied
@@ -23,7 +23,7 @@ abbrev pub is_given : KnownTiles → Tile → Bool
 is_given given t = is_some (given t.stage t.row t.col)
 
 -- no tile is kept of a stage, or of any
-abbrev pub HasNoTiles : KeptStageTileRows → Type 0
+abbrev pub HasNoTiles : KeptTileRowsOfStage → Type 0
 HasNoTiles kept = (i j : ℕ) → numbers_of (Some kept) i j ≡ None
 
 abbrev pub GivesNothing : KnownTiles → Type 0
@@ -32,7 +32,7 @@ GivesNothing given = (g i j : ℕ) → given g i j ≡ None
 -- ---- changes
 
 -- a tile that is kept afterwards was kept before, or is of row i
-abbrev pub IsFromRow : KeptStageTileRows → KeptStageTileRows → ℕ → TileRow → Type 0
+abbrev pub IsFromRow : KeptTileRowsOfStage → KeptTileRowsOfStage → ℕ → TileRow → Type 0
 IsFromRow before after i row =
     (k j : ℕ) (xs : List ℤ) → numbers_of (Some after) k j ≡ Some xs
     → (numbers_of (Some before) k j ≡ Some xs) ⊎ ((k ≡ i) × (numbers_in (Some row) j ≡ Some xs))

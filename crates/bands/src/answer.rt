@@ -10,7 +10,7 @@ ghost use Rattle.tile_run.specs.Work.{first_too_big, is_accumulator_at, is_store
 ghost use Rattle.accumulators.specs.Answers.{all_gathered, gathered_at, IsAnswer, IsEvaluationFault};
 
 use crate::picture::{make_picture_in_bands, make_picture_in_strips};
-use crate::strip_job::count_tile_rows;
+use crate::strip_job::count_tile_rows_for_bands;
 use accumulators::Answer;
 use grouping::Schedule;
 use job::{Body, Job};
@@ -56,7 +56,7 @@ pub fn evaluate_in_bands_or_whole(
     ensures fault { IfErr result (IsEvaluationFault (program_id_in job.now) (pipeline_in job.now)
         schedule.now.inlining) }
 {
-    let found = if is_job_as_fast_on_one_thread(rt, job, schedule) {
+    let found = if are_bands_as_fast_as_strips(rt, job, schedule) {
         evaluate_in_bands(alloc, job, schedule)?
     } else {
         evaluate_in_strips(
@@ -78,7 +78,7 @@ fn count_strip_rows_per_thread(rt: &impl Threads, job: &Job) -> u32 {
     match job.outputs().first() {
         Some(output) => {
             let threads = u32::try_from(current_num_threads(rt)).unwrap_or(u32::MAX);
-            count_tile_rows(job, *output).div_ceil(threads)
+            count_tile_rows_for_bands(job, *output).div_ceil(threads)
         }
         None => 0,
     }
@@ -86,30 +86,31 @@ fn count_strip_rows_per_thread(rt: &impl Threads, job: &Job) -> u32 {
 
 // Whether one thread answers as soon as several: there is one processor, or no stage has rows of tiles for two threads. The same
 // holds where there is little work, in all or per sample.
-fn is_job_as_fast_on_one_thread(rt: &impl Threads, job: &Job, schedule: &Schedule) -> bool {
+fn are_bands_as_fast_as_strips(rt: &impl Threads, job: &Job, schedule: &Schedule) -> bool {
     current_num_threads(rt) == 1
-        || has_job_few_tile_rows(job, schedule)
-        || has_job_little_run_work(job, schedule)
+        || are_tile_rows_too_few_for_strips(job, schedule)
+        || is_work_too_little_for_strips(job, schedule)
 }
 
 // Whether the work of a job is little, by an estimate.
-fn has_job_little_run_work(job: &Job, schedule: &Schedule) -> bool {
-    let work = estimate_job_run_work(job, schedule);
-    work < WORK_WORTH_THREADS || work < count_output_samples(job).saturating_mul(WORK_WORTH_JOINING)
+fn is_work_too_little_for_strips(job: &Job, schedule: &Schedule) -> bool {
+    let work = estimate_work_of_all_bands(job, schedule);
+    work < WORK_WORTH_THREADS
+        || work < count_samples_of_all_strips(job).saturating_mul(WORK_WORTH_JOINING)
 }
 
 // The work of the tiles of all stages. The schedule gives the number of points that they take together; each counts as one of the
 // stage's own.
-fn estimate_job_run_work(job: &Job, schedule: &Schedule) -> u64 {
+fn estimate_work_of_all_bands(job: &Job, schedule: &Schedule) -> u64 {
     let mut work = 0u64;
     for stage in 0..job.stages().len() {
-        work = work.saturating_add(estimate_stage_run_work(job, schedule, stage));
+        work = work.saturating_add(estimate_work_of_stage_bands(job, schedule, stage));
     }
     work
 }
 
 // The work of the tiles of a stage.
-fn estimate_stage_run_work(job: &Job, schedule: &Schedule, stage: usize) -> u64 {
+fn estimate_work_of_stage_bands(job: &Job, schedule: &Schedule, stage: usize) -> u64 {
     match (job.stage(stage), job.grid(stage), schedule.cost(stage)) {
         (Some(found), Some(grid), Some(points)) => points
             .saturating_mul(count_point_run_work(found))
@@ -119,7 +120,7 @@ fn estimate_stage_run_work(job: &Job, schedule: &Schedule, stage: usize) -> u64 
 }
 
 // How many samples the picture of a job has.
-fn count_output_samples(job: &Job) -> u64 {
+fn count_samples_of_all_strips(job: &Job) -> u64 {
     let mut samples = 0u64;
     for output in job.outputs() {
         if let Some(area) = job.domain(*output) {
@@ -130,9 +131,9 @@ fn count_output_samples(job: &Job) -> u64 {
 }
 
 // Whether no stage has rows of tiles for two threads.
-fn has_job_few_tile_rows(job: &Job, schedule: &Schedule) -> bool {
+fn are_tile_rows_too_few_for_strips(job: &Job, schedule: &Schedule) -> bool {
     for stage in 0..job.stages().len() {
-        if !has_stage_few_tile_rows(job, schedule, stage) {
+        if !are_stage_rows_too_few_for_strips(job, schedule, stage) {
             return false;
         }
     }
@@ -140,7 +141,7 @@ fn has_job_few_tile_rows(job: &Job, schedule: &Schedule) -> bool {
 }
 
 // Whether a stage has rows of tiles for one thread only.
-fn has_stage_few_tile_rows(job: &Job, schedule: &Schedule, stage: usize) -> bool {
+fn are_stage_rows_too_few_for_strips(job: &Job, schedule: &Schedule, stage: usize) -> bool {
     match job.grid(stage) {
         Some(grid) => {
             schedule.inlined(stage)
@@ -179,7 +180,7 @@ pub fn evaluate_in_bands(
     let Some(picture) = make_picture_in_bands(alloc, job, schedule)? else {
         return Ok(None);
     };
-    Ok(Some(build_picture_answer(alloc, picture)))
+    Ok(Some(build_answer_from_band_picture(alloc, picture)))
 }
 
 /// The same in strips of `len` rows of tiles of each output. A thread of its own makes each strip, and all that the strip reads.
@@ -211,11 +212,11 @@ pub fn evaluate_in_strips(
     let Some(picture) = make_picture_in_strips(rt, alloc, job, schedule, len)? else {
         return Ok(None);
     };
-    Ok(Some(build_picture_answer(alloc, picture)))
+    Ok(Some(build_answer_from_band_picture(alloc, picture)))
 }
 
 // A picture, and no total.
-fn build_picture_answer(alloc: Global, picture: Picture) -> Answer
+fn build_answer_from_band_picture(alloc: Global, picture: Picture) -> Answer
     ensures picture { result.picture ≡ Some picture }
     ensures totals { result.totals.items ≡ [] }
 {
@@ -236,7 +237,9 @@ fn can_evaluate_in_bands(alloc: Global, job: &Job, schedule: &Schedule) -> Resul
     ensures accumulators { IfOk result (λ goes. goes ≡ true → first_too_big (pipeline_in job.now)
         schedule.now.inlining (is_accumulator_at (pipeline_in job.now)) ≡ None) }
 {
-    if has_answer_totals(job) || has_outputs_with_readers(alloc, job, schedule)? {
+    if has_accumulator_that_rules_out_bands(job)
+        || has_read_output_that_rules_out_bands(alloc, job, schedule)?
+    {
         return Ok(false);
     }
     if find_first_oversized_tile(alloc, job, schedule, TiledStages::Functions)?.is_some() {
@@ -247,11 +250,11 @@ fn can_evaluate_in_bands(alloc: Global, job: &Job, schedule: &Schedule) -> Resul
 
 // Whether a job has accumulators.
 #[tactic(auto, using(tile_boxes::proofs::Lists::flat_map_range_more))]
-fn has_answer_totals(job: &Job) -> bool
+fn has_accumulator_that_rules_out_bands(job: &Job) -> bool
     ensures { result ≡ false → all_gathered (pipeline_in job.now) ≡ [] }
 {
     for stage in 0..job.stages().len() {
-        if has_stage_totals(job, stage) {
+        if is_accumulator_that_rules_out_bands(job, stage) {
             return true;
         }
     }
@@ -259,7 +262,7 @@ fn has_answer_totals(job: &Job) -> bool
 }
 
 // Whether the stage of this number is an accumulator.
-fn has_stage_totals(job: &Job, stage: usize) -> bool
+fn is_accumulator_that_rules_out_bands(job: &Job, stage: usize) -> bool
     ensures { result ≡ false → gathered_at (pipeline_in job.now) stage ≡ [] }
 {
     match job.stage(stage) {
@@ -272,7 +275,7 @@ fn has_stage_totals(job: &Job, stage: usize) -> bool
 }
 
 // Whether anything reads an output.
-fn has_outputs_with_readers(
+fn has_read_output_that_rules_out_bands(
     alloc: Global,
     job: &Job,
     schedule: &Schedule,

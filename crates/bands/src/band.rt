@@ -7,8 +7,8 @@ ghost use Rattle.tile_sources.specs.KnownTiles.{AreTrue};
 ghost use Rattle.bands.specs.Kept.{kept_tiles, IsRowOf};
 
 use crate::band_run::BandRun;
-use crate::kept_rows::{KeptTileRows, create_empty_tile_row};
-use crate::row_range::TileRowRange;
+use crate::kept_rows::{KeptTileRows, create_empty_kept_tile_row};
+use crate::row_range::BandRows;
 use crate::windows::TileRowWindows;
 use grouping::Schedule;
 use job::Job;
@@ -62,7 +62,7 @@ impl<'a> Band<'a> {
             self.job,
             self.schedule,
             stage,
-            TileRowRange::from_row(row),
+            BandRows::from_row(row),
         )
     }
 
@@ -90,7 +90,7 @@ impl<'a> Band<'a> {
     }
 
     // Makes a row of tiles and keeps it, and returns whether it could.
-    fn make_kept_row(
+    fn make_and_keep_row(
         &mut self,
         alloc: Global,
         stage: usize,
@@ -107,17 +107,17 @@ impl<'a> Band<'a> {
     }
 
     // Makes rows of tiles and keeps them, and returns whether it could.
-    fn make_kept_rows(
+    fn make_and_keep_rows(
         &mut self,
         alloc: Global,
         stage: usize,
-        rows: TileRowRange,
+        rows: BandRows,
         scratch: &mut TileScratch,
     ) -> Result<bool, AllocError>
         ensures { self.new.job ≡ self.old.job }
     {
         for row in rows.first..rows.end {
-            if !self.make_kept_row(alloc, stage, row, scratch)? {
+            if !self.make_and_keep_row(alloc, stage, row, scratch)? {
                 return Ok(false);
             }
         }
@@ -134,10 +134,10 @@ impl<'a> Band<'a> {
     ) -> Result<bool, AllocError>
         ensures { self.new.job ≡ self.old.job }
     {
-        let Some(rows) = windows.find_missing_rows(stage) else {
+        let Some(rows) = windows.find_rows_to_make(stage) else {
             return Ok(true);
         };
-        let is_made = self.make_kept_rows(alloc, stage, rows, scratch)?;
+        let is_made = self.make_and_keep_rows(alloc, stage, rows, scratch)?;
         windows.mark_rows_made(stage, rows.end);
         Ok(is_made)
     }
@@ -170,19 +170,13 @@ impl<'a> Band<'a> {
     }
 
     // Frees rows of tiles. Their memory is recycled for those that are made next.
-    fn free_rows(
-        &mut self,
-        alloc: Global,
-        stage: usize,
-        rows: TileRowRange,
-        scratch: &mut TileScratch,
-    )
+    fn free_rows(&mut self, alloc: Global, stage: usize, rows: BandRows, scratch: &mut TileScratch)
         ensures { self.new.job ≡ self.old.job }
     {
         for row in rows.first..rows.end {
             scratch.recycle_tile_row(
                 self.kept
-                    .replace_row(stage, row, create_empty_tile_row(alloc)),
+                    .replace_row(stage, row, create_empty_kept_tile_row(alloc)),
             );
         }
     }

@@ -5,7 +5,7 @@ ghost use Rattle.std.specs.Prelude.{◌≡◌, IfOk, IfSome, OnOk};
 ghost use Rattle.bands.specs.Filling.{AreOf};
 
 use crate::band::Band;
-use crate::row_range::TileRowRange;
+use crate::row_range::BandRows;
 use crate::strip::OutputStrip;
 use crate::windows::TileRowWindows;
 use grouping::Schedule;
@@ -23,7 +23,7 @@ pub(crate) fn create_output_strips<'a>(
     job: &'a Job,
     stages: &[usize],
     max: u16,
-    rows: TileRowRange,
+    rows: BandRows,
 ) -> Result<Option<Vec<OutputStrip<'a>>>, AllocError>
     ensures { IfOk result (λ found. IfSome found (λ strips. AreOf job.now strips.items)) }
 {
@@ -47,7 +47,7 @@ pub(crate) fn fill_output_strips(
     job: &Job,
     schedule: &Schedule,
     strips: &mut [OutputStrip<'_>],
-    rows: TileRowRange,
+    rows: BandRows,
     scratch: &mut TileScratch,
 ) -> Result<bool, AllocError>
     requires { AreOf job.now strips.old }
@@ -83,7 +83,7 @@ fn fill_tile_row_of_strips(
     if !compute_row_into_strips(alloc, band, scratch, strips, row)? {
         return Ok(false);
     }
-    mark_output_tile_row_made(windows, strips, row);
+    mark_row_of_strips_made(windows, strips, row);
     band.free_unread_rows(alloc, windows, scratch)?;
     Ok(true)
 }
@@ -103,7 +103,7 @@ fn request_reads_of_strip_row(
 }
 
 // Records that a row of tiles of each of these outputs is made.
-fn mark_output_tile_row_made(windows: &mut TileRowWindows, strips: &[OutputStrip<'_>], row: u32) {
+fn mark_row_of_strips_made(windows: &mut TileRowWindows, strips: &[OutputStrip<'_>], row: u32) {
     for strip in strips {
         windows.mark_rows_made(strip.stage(), row.saturating_add(1));
     }

@@ -10,14 +10,14 @@ use tile_run::{TileRow, TileSource};
 
 /// The rows of tiles of one stage, from the first. Rows that were freed, and rows that are not made yet, have no tiles.
 #[derive(Drop)]
-pub(crate) struct KeptStageTileRows {
+pub(crate) struct KeptTileRowsOfStage {
     pub(crate) rows: Vec<TileRow>,
 }
 
 /// The rows of tiles that are kept of each stage.
 #[derive(Drop)]
 pub(crate) struct KeptTileRows {
-    pub(crate) stages: Vec<KeptStageTileRows>,
+    pub(crate) stages: Vec<KeptTileRowsOfStage>,
 }
 
 impl TileSource for KeptTileRows {
@@ -34,7 +34,7 @@ impl TileSource for KeptTileRows {
 }
 
 /// A row without tiles.
-pub(crate) fn create_empty_tile_row(alloc: Global) -> TileRow
+pub(crate) fn create_empty_kept_tile_row(alloc: Global) -> TileRow
     ensures { result.tiles.items ≡ [] }
 {
     TileRow {
@@ -42,19 +42,19 @@ pub(crate) fn create_empty_tile_row(alloc: Global) -> TileRow
     }
 }
 
-impl KeptStageTileRows {
+impl KeptTileRowsOfStage {
     ghost use Rattle.std.specs.Prelude.{IfOk};
     ghost use Rattle.bands.specs.Kept.{IsFromRow, HasNoTiles};
 
     // `count` rows, none of which is made.
-    fn new(alloc: Global, count: u32) -> Result<KeptStageTileRows, AllocError>
+    fn new(alloc: Global, count: u32) -> Result<KeptTileRowsOfStage, AllocError>
         ensures { IfOk result HasNoTiles }
     {
         let mut rows = Vec::with_capacity(alloc, count as usize)?;
         for row in 0..count {
-            rows.push(create_empty_tile_row(alloc))?;
+            rows.push(create_empty_kept_tile_row(alloc))?;
         }
-        Ok(KeptStageTileRows { rows })
+        Ok(KeptTileRowsOfStage { rows })
     }
 
     // Replaces the tiles of a row, and returns the former ones. If there is no such row, the new tiles are returned.
@@ -80,7 +80,7 @@ impl KeptTileRows {
     {
         let mut stages = Vec::with_capacity(alloc, job.stages().len())?;
         for stage in 0..job.stages().len() {
-            stages.push(KeptStageTileRows::new(alloc, count_tile_rows(job, stage))?)?;
+            stages.push(KeptTileRowsOfStage::new(alloc, count_tile_rows_for_bands(job, stage))?)?;
         }
         Ok(KeptTileRows { stages })
     }
@@ -99,7 +99,7 @@ impl KeptTileRows {
 }
 
 // How many rows of tiles a stage has.
-fn count_tile_rows(job: &Job, stage: usize) -> u32 {
+fn count_tile_rows_for_bands(job: &Job, stage: usize) -> u32 {
     match job.grid(stage) {
         Some(grid) => grid.tile_rows(),
         None => 0,

@@ -1,4 +1,6 @@
 //! The answer of a job, band by band: only rows of tiles that are still to be read are in memory of each stored function.
+//!
+//! Words: band, strip, window, kept tile row, pending samples, band run, output strip, strip job.
 #![tactic(auto)]
 
 mod answer;

@@ -15,7 +15,7 @@ use crate::strip_job::StripJob;
 use grouping::Schedule;
 use job::{Job, Output};
 use netpbm::{PackedPlane, Picture};
-use pictures::build_output_picture;
+use pictures::build_picture_from_output_planes;
 use std::alloc::{AllocError, Global};
 use std::thread::Threads;
 
@@ -90,7 +90,7 @@ fn join_strips_to_picture(
     let Some(planes) = build_planes_from_strips(alloc, job, output.stages(), max, strips)? else {
         return Ok(None);
     };
-    Ok(Some(build_output_picture(job, output, planes)))
+    Ok(Some(build_picture_from_output_planes(job, output, planes)))
 }
 
 // The planes of these outputs, if they are whole.

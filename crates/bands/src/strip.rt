@@ -10,14 +10,14 @@ ghost use Rattle.job.specs.Readers.{grid_at};
 ghost use Rattle.bands.specs.Kept.{IsRowOf};
 ghost use Rattle.bands.specs.Strips.{greatest_on, samples_on, HasRows};
 
-use crate::row_range::TileRowRange;
+use crate::row_range::BandRows;
 use crate::strip_sheet::StripSheet;
 use domains::Grid;
 use job::Job;
 use netpbm::PackedPlane;
-use pictures::{OutputSheet, SuppliedJob, compute_output_tile_row_area};
+use pictures::{OutputSheet, SuppliedJob, compute_output_plane_tile_row_area};
 use std::alloc::{AllocError, Global};
-use tile_run::{SuppliedTileRow, TileRow};
+use tile_run::{StoredTileRow, TileRow};
 
 /// Consecutive rows of tiles of an output of a job, as far as they are made.
 #[derive(Drop)]
@@ -49,7 +49,7 @@ impl<'a> OutputStrip<'a> {
         job: &'a Job,
         stage: usize,
         max: u16,
-        rows: TileRowRange,
+        rows: BandRows,
     ) -> Result<Option<OutputStrip<'a>>, AllocError>
         ensures { IfOk result (λ found. IfSome found (λ strip. strip.job.now ≡ job.now)) }
     {
@@ -94,8 +94,8 @@ impl<'a> OutputStrip<'a> {
             return Ok(false);
         }
         self.next = None;
-        let area = compute_output_tile_row_area(&self.grid, row);
-        let lent = SuppliedTileRow {
+        let area = compute_output_plane_tile_row_area(&self.grid, row);
+        let lent = StoredTileRow {
             stage: self.stage,
             row,
             tiles,
@@ -153,7 +153,7 @@ fn create_strip_sheet(
     alloc: Global,
     grid: &Grid,
     max: u16,
-    rows: TileRowRange,
+    rows: BandRows,
 ) -> Result<StripSheet, AllocError>
     ensures greatest { IfOk result (λ sheet. greatest_on sheet ≡ max) }
     ensures none { IfOk result (λ sheet. samples_on sheet ≡ []) }
@@ -161,12 +161,12 @@ fn create_strip_sheet(
     if rows.first == 0 {
         StripSheet::with_plane_capacity(alloc, max, grid.area.points() as usize)
     } else {
-        StripSheet::with_pending_capacity(alloc, max, count_points_of_tile_rows(grid, rows))
+        StripSheet::with_pending_capacity(alloc, max, count_points_of_strip_rows(grid, rows))
     }
 }
 
 // How many points these rows of tiles have at most.
-fn count_points_of_tile_rows(grid: &Grid, rows: TileRowRange) -> usize {
+fn count_points_of_strip_rows(grid: &Grid, rows: BandRows) -> usize {
     let count = rows.end.saturating_sub(rows.first);
     let height = count.saturating_mul(grid.sides.height());
     let points = u64::from(height).saturating_mul(u64::from(grid.area.cols.len()));

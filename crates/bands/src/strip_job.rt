@@ -8,7 +8,7 @@ ghost use Rattle.job.specs.WellFormed.{IsOutput};
 ghost use Rattle.bands.specs.Filling.{AreOf, PartsAreOf};
 
 use crate::filling::{create_output_strips, fill_output_strips};
-use crate::row_range::TileRowRange;
+use crate::row_range::BandRows;
 use crate::strip::OutputStrip;
 use grouping::Schedule;
 use job::{Job, Output};
@@ -43,7 +43,7 @@ impl<'a> StripJob<'a> {
     // How many rows of tiles the first of the functions has.
     fn count_output_tile_rows(&self) -> u32 {
         match self.stages.first() {
-            Some(stage) => count_tile_rows(self.job, *stage),
+            Some(stage) => count_tile_rows_for_bands(self.job, *stage),
             None => 0,
         }
     }
@@ -52,7 +52,7 @@ impl<'a> StripJob<'a> {
     fn make_strips(
         &self,
         alloc: Global,
-        rows: TileRowRange,
+        rows: BandRows,
         scratch: &mut TileScratch,
     ) -> Result<Option<Vec<OutputStrip<'a>>>, AllocError>
         ensures { IfOk result (λ found. IfSome found
@@ -83,7 +83,7 @@ impl<'a> StripJob<'a> {
         let mut scratch = TileScratch::new(alloc);
         self.make_strips(
             alloc,
-            TileRowRange::from_count(self.count_output_tile_rows()),
+            BandRows::from_count(self.count_output_tile_rows()),
             &mut scratch,
         )
     }
@@ -132,7 +132,7 @@ impl<'a> StripJob<'a> {
                 {
                     self.make_strips(
                         alloc,
-                        TileRowRange::from_part_number(count, len, number),
+                        BandRows::from_part_number(count, len, number),
                         scratch,
                     )
                 },
@@ -190,7 +190,7 @@ impl<'a> StripJob<'a> {
 }
 
 /// How many rows of tiles a stage has.
-pub(crate) fn count_tile_rows(job: &Job, stage: usize) -> u32 {
+pub(crate) fn count_tile_rows_for_bands(job: &Job, stage: usize) -> u32 {
     match job.grid(stage) {
         Some(grid) => grid.tile_rows(),
         None => 0,

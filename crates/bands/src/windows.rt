@@ -2,7 +2,7 @@
 //! Which rows of tiles are kept, and which are made next. No clause specifies this: what a tile needs is looked up before it is
 //! made. If some of it is missing, the tile is not made.
 
-use crate::row_range::TileRowRange;
+use crate::row_range::BandRows;
 use grouping::{Schedule, order_stages_by_rank};
 use job::Job;
 use std::alloc::{AllocError, Global};
@@ -15,7 +15,7 @@ pub(crate) struct TileRowWindow {
     // The first row that is not made.
     next: u32,
     // The rows that are wanted.
-    wanted: Option<TileRowRange>,
+    wanted: Option<BandRows>,
     // The other stages that the rows made last read, each with the first of its rows that is read.
     reads: Vec<(usize, u32)>,
     // How many rows it has.
@@ -33,7 +33,7 @@ impl TileRowWindow {
         }
     }
 
-    fn request_rows(&mut self, rows: TileRowRange) {
+    fn request_rows(&mut self, rows: BandRows) {
         self.wanted = match self.wanted {
             Some(wanted) => Some(wanted.include_rows(rows)),
             None => Some(rows),
@@ -41,7 +41,7 @@ impl TileRowWindow {
     }
 
     // The rows that are wanted and not made.
-    fn find_missing_rows(&self) -> Option<TileRowRange> {
+    fn find_rows_to_make(&self) -> Option<BandRows> {
         self.wanted?.drop_rows_before(self.next)
     }
 
@@ -52,7 +52,7 @@ impl TileRowWindow {
     }
 
     // Whether all rows are made, so that it reads no more.
-    fn has_all_rows(&self) -> bool {
+    fn has_made_all_rows(&self) -> bool {
         self.next >= self.count
     }
 }
@@ -93,15 +93,15 @@ impl TileRowWindows {
         }
     }
 
-    fn request_rows(&mut self, stage: usize, rows: TileRowRange) {
+    fn request_rows(&mut self, stage: usize, rows: BandRows) {
         if stage < self.windows.len() {
             self.windows[stage].request_rows(rows);
         }
     }
 
     /// The rows of a stage that are wanted and not made.
-    pub(crate) fn find_missing_rows(&self, stage: usize) -> Option<TileRowRange> {
-        self.windows.get(stage)?.find_missing_rows()
+    pub(crate) fn find_rows_to_make(&self, stage: usize) -> Option<BandRows> {
+        self.windows.get(stage)?.find_rows_to_make()
     }
 
     /// Records that the rows of a stage before this one are made.
@@ -118,7 +118,7 @@ impl TileRowWindows {
         job: &Job,
         schedule: &Schedule,
         stage: usize,
-        rows: TileRowRange,
+        rows: BandRows,
     ) -> Result<(), AllocError> {
         let Some(region) = rows.compute_region(job, stage) else {
             return Ok(());
@@ -129,7 +129,7 @@ impl TileRowWindows {
             if schedule.inlined(*read) {
                 continue;
             }
-            if let Some(rows) = TileRowRange::from_area(job, *read, area) {
+            if let Some(rows) = BandRows::from_area(job, *read, area) {
                 self.request_rows(*read, rows);
                 reads.push((*read, rows.first))?;
             }
@@ -150,7 +150,7 @@ impl TileRowWindows {
         for behind in 0..self.order.len() {
             let place = self.order.len().saturating_sub(1).saturating_sub(behind);
             let stage = self.find_stage_in_order(place);
-            if let Some(rows) = self.find_missing_rows(stage) {
+            if let Some(rows) = self.find_rows_to_make(stage) {
                 self.request_reads(alloc, job, schedule, stage, rows)?;
             }
         }
@@ -164,8 +164,8 @@ impl TileRowWindows {
             floors.push(window.next)?;
         }
         for window in &self.windows {
-            if !window.has_all_rows() {
-                lower_first_needed_rows(&mut floors, &window.reads);
+            if !window.has_made_all_rows() {
+                lower_first_needed_window_rows(&mut floors, &window.reads);
             }
         }
         Ok(floors)
@@ -175,7 +175,7 @@ impl TileRowWindows {
     pub(crate) fn list_rows_to_free(
         &mut self,
         alloc: Global,
-    ) -> Result<Vec<(usize, TileRowRange)>, AllocError> {
+    ) -> Result<Vec<(usize, BandRows)>, AllocError> {
         let floors = self.find_first_needed_rows(alloc)?;
         let mut past = Vec::new(alloc);
         for stage in 0..self.windows.len().min(floors.len()) {
@@ -183,7 +183,7 @@ impl TileRowWindows {
             if first < floors[stage] {
                 past.push((
                     stage,
-                    TileRowRange {
+                    BandRows {
                         first,
                         end: floors[stage],
                     },
@@ -196,7 +196,7 @@ impl TileRowWindows {
 }
 
 // Lowers the floors, so that none is above what is read.
-fn lower_first_needed_rows(floors: &mut [u32], reads: &[(usize, u32)]) {
+fn lower_first_needed_window_rows(floors: &mut [u32], reads: &[(usize, u32)]) {
     for (stage, first) in reads {
         if *stage < floors.len() {
             floors[*stage] = floors[*stage].min(*first);

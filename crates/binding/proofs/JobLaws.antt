@@ -25,8 +25,8 @@ use Rattle.pipe_tree.specs.Sizes.{KeepsLimits}
 use Rattle.pipe_tree.specs.Tree as tree
 use Rattle.pipe_tree.specs.Tree.{Node, Branch, Declaration}
 use Rattle.pipe_checks.specs.declared.symbol.Symbol.{Symbol}
-use Rattle.pipe_checks.specs.declared.symbol.NameKind.{NameKind}
-use Rattle.pipe_checks.specs.declared.symbol.NameKind.TheVariants.{Param, Table, Plane, Func, Accum}
+use Rattle.pipe_checks.specs.declared.symbol.SymbolKind.{SymbolKind}
+use Rattle.pipe_checks.specs.declared.symbol.SymbolKind.TheVariants.{Param, Table, Plane, Func, Accum}
 use Rattle.pipe_bounds.specs.declared.params.Setting.{Setting}
 use Rattle.pipe_bounds.specs.Settings.{affine_value}
 use Rattle.pipe_bounds.specs.Domains.{IsSpanFrom, IsDomain}
@@ -163,7 +163,7 @@ All-made_each P f step (x ∷ xs) = All-cons P (f x) (map f xs) (step x) (All-ma
 near_long : (s : Ends) → InDomainRange s → 1 ≤ len_of s
 near_long s h = let len = len_is s h.span in let ordered = h.span.ordered in omega (arith, ints)
 
-func_kept : (k : NameKind) → IsFuncKind k → is_stage k ≡ true
+func_kept : (k : SymbolKind) → IsFuncKind k → is_stage k ≡ true
 func_kept Param h = absurd h
 func_kept Table h = absurd h
 func_kept Plane h = absurd h

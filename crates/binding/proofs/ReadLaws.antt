@@ -11,8 +11,8 @@ use Rattle.std.proofs.lemmas.List.Elements.{All-head, All-tail}
 use Rattle.pipe_tree.specs.Tree as tree
 use Rattle.pipe_tree.specs.Tree.{Node, Branch, Declaration}
 use Rattle.pipe_checks.specs.declared.symbol.Symbol.{Symbol}
-use Rattle.pipe_checks.specs.declared.symbol.NameKind.{NameKind}
-use Rattle.pipe_checks.specs.declared.symbol.NameKind.TheVariants.{Param, Table, Plane, Func, Accum}
+use Rattle.pipe_checks.specs.declared.symbol.SymbolKind.{SymbolKind}
+use Rattle.pipe_checks.specs.declared.symbol.SymbolKind.TheVariants.{Param, Table, Plane, Func, Accum}
 use Rattle.pipe_checks.specs.declared.access.Access.{Access}
 use Rattle.pipe_checks.specs.declared.access.Access.TheVariants as access
 use Rattle.pipe_checks.specs.Graph.{links_at}
@@ -55,7 +55,7 @@ same_stage ds (point g i j) (access.Stencil h m n) s = absurd s
 same_stage ds (window g kernel) (access.Read h k l) s = absurd s
 same_stage ds (window g kernel) (access.Stencil h m n) s = s.0
 
-kept : (k : NameKind) → IsReadableKind k → is_stage k ≡ true
+kept : (k : SymbolKind) → IsReadableKind k → is_stage k ≡ true
 kept Param h = absurd h
 kept Table h = absurd h
 kept Plane h = refl
@@ -176,7 +176,7 @@ module _ (ds : List Declaration) (p : Program) (own : p.stages ≡ stages_of ds)
         ∙ ap (λ (ns : List ℕ). slice_index p.ranks (accesses.stage_read y) ∷ ns) (ranks_same xs ys h.1)
 
     -- a stage that is no plane
-    over_is : (k : NameKind) (o : Option Declaration) (d : Declaration) → is_plane k ≡ false → o ≡ Some d
+    over_is : (k : SymbolKind) (o : Option Declaration) (d : Declaration) → is_plane k ≡ false → o ≡ Some d
         → rank_over (slice_index p.ranks) (record { is_plane = is_plane k; reads = accesses.reads_of (stages_of ds) o })
         ≡ greatest (map (slice_index p.ranks) (map accesses.stage_read (item_accesses (stages_of ds) d))) + 1
     over_is k o d e there =

@@ -14,7 +14,7 @@ use Rattle.pipe_tree.specs.declared.tree.Names.TheVariants.{One, Three}
 use Rattle.pipe_tree.specs.Tree as tree
 use Rattle.pipe_tree.specs.Tree.{Declaration}
 use Rattle.pipe_checks.specs.declared.symbol.Symbol.{Symbol}
-use Rattle.pipe_checks.specs.declared.symbol.NameKind.TheVariants.{Plane, Func, Accum}
+use Rattle.pipe_checks.specs.declared.symbol.SymbolKind.TheVariants.{Plane, Func, Accum}
 use Rattle.pipe_checks.specs.Graph.{links_at}
 use Rattle.pipe_checks.specs.Names.{names_of, item_names, names_from, is_stage, declared_names, stages_of, number_of}
 use Rattle.pipe_checks.specs.Accesses.{links_of, graph_of}

@@ -20,8 +20,8 @@ use Rattle.pipe_tree.specs.declared.tree.Table.{Table as TableText}
 use Rattle.pipe_tree.specs.Tree as tree
 use Rattle.pipe_tree.specs.Tree.{Declaration}
 use Rattle.pipe_checks.specs.declared.symbol.Symbol.{Symbol}
-use Rattle.pipe_checks.specs.declared.symbol.NameKind.{NameKind}
-use Rattle.pipe_checks.specs.declared.symbol.NameKind.TheVariants.{Param, Table as TableKind, Plane, Func, Accum}
+use Rattle.pipe_checks.specs.declared.symbol.SymbolKind.{SymbolKind}
+use Rattle.pipe_checks.specs.declared.symbol.SymbolKind.TheVariants.{Param, Table as TableKind, Plane, Func, Accum}
 use Rattle.pipe_checks.specs.Names.{names_of, item_names, names_from, is_table, declared_names, tables_of}
 use Rattle.pipe_checks.proofs.Accepted.{IsTableKind, IsNameOf}
 use Rattle.pipe_bounds.specs.declared.params.Setting.{Setting}
@@ -99,7 +99,7 @@ declared n (d ∷ ds) =
 
 -- ---- the entries of a table that fits
 
-kept : (k : NameKind) → IsTableKind k → is_table k ≡ true
+kept : (k : SymbolKind) → IsTableKind k → is_table k ≡ true
 kept Param h = absurd h
 kept TableKind h = refl
 kept Plane h = absurd h

@@ -20,12 +20,12 @@ ghost use Rattle.sha2.specs.Sha256.{sha256};
 ghost use Rattle.pipe_print.specs.Canonical.{canonical};
 
 use crate::fault::BindFault;
-use crate::fits::check_picture_against_program;
-use crate::handed::{find_first_table_mismatch, prove_tables_are_small};
-use crate::outputs::{find_only_image_item, to_job_parameters};
+use crate::fits::check_declared_picture_shape;
+use crate::handed::{find_first_supplied_table_mismatch, prove_supplied_tables_are_small};
+use crate::outputs::{find_only_declared_picture, resolve_job_parameters};
 use crate::resolve::JobResolver;
 use crate::settings::infer_parameters_from_picture;
-use crate::sizes::find_job_size_fault;
+use crate::sizes::find_bind_fault_of_sizes;
 use domains::TileSides;
 use job::{BoundPipeline, Job, Output, Parameter, Stage, Table};
 use netpbm::Picture;
@@ -79,12 +79,12 @@ fn resolve_job_parts(
     Ok(JobParts {
         stages: resolver.resolve_stages(items)?,
         output: resolver.resolve_first_output(items)?,
-        params: to_job_parameters(alloc, params.settings())?,
+        params: resolve_job_parameters(alloc, params.settings())?,
     })
 }
 
 // What is found of the stages, if the program is in bounds and the tables and the picture fit.
-fn check_bounds_and_inputs(
+fn check_bounds_and_inputs_of_job_parts(
     alloc: Global,
     checked: &Checked,
     params: &Params,
@@ -107,11 +107,15 @@ fn check_bounds_and_inputs(
 {
     match find_program_bounds(alloc, checked, params) {
         Ok(found) => {
-            if let Some(table) = find_first_table_mismatch(params, checked.tree().items(), tables) {
+            if let Some(table) = find_first_supplied_table_mismatch(
+                params,
+                checked.tree().items(),
+                tables,
+            ) {
                 return Err(BindFault::TableMismatch(table));
             }
-            prove_tables_are_small(tables);
-            check_picture_against_program(params, image, picture)?;
+            prove_supplied_tables_are_small(tables);
+            check_declared_picture_shape(params, image, picture)?;
             Ok(found.stages)
         }
         Err(fault) => Err(to_bind_fault(fault)),
@@ -135,7 +139,9 @@ fn build_job_parts_for_image(
         picture.now f) }
 {
     let settled = infer_parameters_from_picture(alloc, image, picture, params)?;
-    let found = check_bounds_and_inputs(alloc, checked, &settled, tables, image, picture)?;
+    let found = check_bounds_and_inputs_of_job_parts(
+        alloc, checked, &settled, tables, image, picture,
+    )?;
     match resolve_job_parts(alloc, checked, &settled, tables, &found) {
         Ok(parts) => Ok(parts),
         Err(_) => Err(BindFault::Memory),
@@ -158,7 +164,7 @@ fn build_job_parts(
         (program_of checked.now params.now tables.now)
         picture.now f)) }
 {
-    match find_only_image_item(checked.tree().items()) {
+    match find_only_declared_picture(checked.tree().items()) {
         Some(image) => build_job_parts_for_image(alloc, checked, params, tables, image, picture),
         None => Err(BindFault::Planes),
     }
@@ -202,7 +208,7 @@ pub fn bind(
                 picture,
                 sides,
             };
-            match find_job_size_fault(&pipeline) {
+            match find_bind_fault_of_sizes(&pipeline) {
                 Some(fault) => Err((checked, pipeline.tables, pipeline.picture, fault)),
                 None => match print(alloc, checked.tree()) {
                     Ok(text) => Ok(Job::new(pipeline, text)),

@@ -13,7 +13,7 @@ use netpbm::Picture;
 use pipe_bounds::{Params, affine_value};
 use pipe_tree::{Affine, Image, Names};
 
-fn count_plane_names(names: &Names) -> usize
+fn count_declared_picture_planes(names: &Names) -> usize
     ensures { result ≡ length (names_in names.now) }
 {
     match names {
@@ -22,7 +22,7 @@ fn count_plane_names(names: &Names) -> usize
     }
 }
 
-fn is_extent_equal_to_side(params: &Params, extent: &Affine, side: u32) -> bool
+fn is_declared_picture_side(params: &Params, extent: &Affine, side: u32) -> bool
     ensures { IsTrue result ↔ (affine_value params.now extent.now ≡ pos side) }
 {
     affine_value(params, extent) == i128::from(side)
@@ -31,19 +31,19 @@ fn is_extent_equal_to_side(params: &Params, extent: &Affine, side: u32) -> bool
 fn has_declared_picture_extents(params: &Params, image: &Image, picture: &Picture) -> bool
     ensures { IsTrue result ↔ ExtentsFit params.now image.now picture.now }
 {
-    is_extent_equal_to_side(params, &image.rows, picture.rows())
-        && is_extent_equal_to_side(params, &image.columns, picture.cols())
+    is_declared_picture_side(params, &image.rows, picture.rows())
+        && is_declared_picture_side(params, &image.columns, picture.cols())
 }
 
-fn has_declared_plane_count(image: &Image, picture: &Picture) -> bool
+fn has_declared_picture_planes(image: &Image, picture: &Picture) -> bool
     ensures image { IsImage picture.now }
     ensures fit { IsTrue result ↔ PlanesFit image.now picture.now }
 {
-    count_plane_names(&image.names) == picture.plane_count()
+    count_declared_picture_planes(&image.names) == picture.plane_count()
 }
 
 /// Whether the picture has the planes and the extents of the program.
-pub(crate) fn check_picture_against_program(
+pub(crate) fn check_declared_picture_shape(
     params: &Params,
     image: &Image,
     picture: &Picture,
@@ -53,7 +53,7 @@ pub(crate) fn check_picture_against_program(
     ensures image { IsImage picture.now }
     ensures fault { IfErr result (IsPictureFault params.now image.now picture.now) }
 {
-    if !has_declared_plane_count(image, picture) {
+    if !has_declared_picture_planes(image, picture) {
         return Err(BindFault::Planes);
     }
     if !has_declared_picture_extents(params, image, picture) {

@@ -16,30 +16,34 @@ use pipe_tokens::Name;
 use pipe_tree::Item;
 
 // The last index that a table has an entry for.
-fn compute_last_table_index(table: &Table) -> i128
+fn find_last_index_of_supplied_table(table: &Table) -> i128
     ensures { result ≡ (table.now.lo +ℤ pos (length table.now.values)) -ℤ pos 1 }
 {
     i128::from(table.lo) + table.values.as_slice().len() as i128 - 1
 }
 
 // Whether the supplied table has the name and the span of the declared one.
-fn is_table_as_declared(params: &Params, declared: &pipe_tree::Table, given: &Table) -> bool
+fn is_supplied_table_as_declared(
+    params: &Params,
+    declared: &pipe_tree::Table,
+    given: &Table,
+) -> bool
     ensures { IsTrue result ↔ IsTableFit params.now declared.now given.now }
 {
     is_same_name(&given.name, &declared.name)
         && affine_value(params, &declared.span.first) == i128::from(given.lo)
-        && affine_value(params, &declared.span.last) == compute_last_table_index(given)
+        && affine_value(params, &declared.span.last) == find_last_index_of_supplied_table(given)
 }
 
 /// The first of the tables that has this name.
-pub(crate) fn find_table_by_name<'a>(tables: &'a [Table], name: &Name) -> Option<&'a Table>
+pub(crate) fn find_supplied_table_by_name<'a>(tables: &'a [Table], name: &Name) -> Option<&'a Table>
     ensures { option_map (λ table. table.now) result ≡ table_named tables.now name.now }
 {
     tables.iter().find(|table| is_same_name(&table.name, name))
 }
 
 /// The number of the first supplied table that does not match its declaration.
-pub(crate) fn find_first_table_mismatch(
+pub(crate) fn find_first_supplied_table_mismatch(
     params: &Params,
     items: &[Item],
     given: &[Table],
@@ -53,7 +57,8 @@ pub(crate) fn find_first_table_mismatch(
     for item in items {
         if let Item::Table(declared) = item {
             match given.get(number) {
-                Some(table) if is_table_as_declared(params, declared, table) => number += 1,
+                Some(table) if is_supplied_table_as_declared(params, declared, table) => number +=
+                    1,
                 _ => return Some(number),
             }
         }
@@ -62,7 +67,7 @@ pub(crate) fn find_first_table_mismatch(
 }
 
 // Each entry fits 32 bits.
-fn prove_table_entries_fit_i32(entries: &[i32])
+fn prove_supplied_table_entries_fit_i32(entries: &[i32])
     ensures { All (FitsSigned w32) entries.now }
 {
     for entry in entries {
@@ -71,18 +76,18 @@ fn prove_table_entries_fit_i32(entries: &[i32])
 }
 
 // A table has a name, and entries of 32 bits.
-fn prove_table_is_small(table: &Table)
+fn prove_supplied_table_is_small(table: &Table)
     ensures { IsSmallTable table.now }
 {
     let _name = table.name.as_bytes();
-    prove_table_entries_fit_i32(table.values.as_slice());
+    prove_supplied_table_entries_fit_i32(table.values.as_slice());
 }
 
 /// All tables have names, and entries of 32 bits.
-pub(crate) fn prove_tables_are_small(tables: &[Table])
+pub(crate) fn prove_supplied_tables_are_small(tables: &[Table])
     ensures { AreSmallTables tables.now }
 {
     for table in tables {
-        prove_table_is_small(table);
+        prove_supplied_table_is_small(table);
     }
 }

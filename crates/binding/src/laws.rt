@@ -19,20 +19,20 @@ ghost use Rattle.binding.specs.Texts.{copying, unset, two_by_two, copy, square, 
 ghost use Rattle.job.specs.Worked.{sides as sides_of};
 
 /// The stages of a job are those that its program declares, in this order.
-pub fn stages_keep_their_numbers()
+pub fn bind_keeps_stage_numbers()
     ensures { (p : Program) (items : List Declaration)
         → map (λ s. s.name) (flat_map (item_stages p) items) ≡ map (λ d. d.name) (stages_of items) }
 {}
 
 /// Parameters without values are the sides of the picture. The job answers the picture that was supplied.
-pub fn copies_two_by_two()
+pub fn copies_bind_to_two_by_two_pictures()
     ensures binds { IsJobOf copying unset [] two_by_two (sides_of 64 64) copy }
     ensures answers { image copy ≡ Some two_by_two }
 {}
 
 /// A parameter without a value is a side of the picture, its rows before its columns, if an extent is exactly this parameter.
 /// Supplied values stay.
-pub fn sides_become_parameters()
+pub fn bind_takes_parameters_from_sides()
     ensures rows_first { settings_for square one_by_two (setting 78 None)
         ≡ setting 78 (Some (pos 1)) }
     ensures alone { settings_for twice_as_high one_by_two (setting 78 None)
@@ -48,7 +48,7 @@ pub fn sides_become_parameters()
 /// A program specifies at most one job. The job is well-formed if the program keeps the limits of a text, and supplied values and
 /// entries are numbers of 32 bits. All must be in bounds; and the picture, the sides of tiles, the shapes of the output and the
 /// numbers of tiles must fit.
-pub fn bound_programs_are_jobs()
+pub fn programs_bind_to_well_formed_jobs()
     ensures one { (items : List Declaration) (given : List Setting) (tables : List Table)
         (image : Picture) (sides : Sides) (a b : Pipeline) → IsJobOf items given tables image sides a
         → IsJobOf items given tables image sides b → a ≡ b }
@@ -62,7 +62,7 @@ pub fn bound_programs_are_jobs()
 {}
 
 /// The limits of a text are limits of its job: at most 64 stages, 64 parameters and 16 cases of a function.
-pub fn jobs_keep_limits()
+pub fn bind_keeps_text_limits()
     ensures { (items : List Declaration) (given : List Setting) (tables : List Table)
         (image : Picture) (sides : Sides) (job : Pipeline) → KeepsLimits items
         → IsJobOf items given tables image sides job → IsSmall job }

@@ -56,7 +56,7 @@ impl JobResolver<'_> {
     }
 }
 
-fn to_job_parameter(setting: &Setting) -> Parameter
+fn resolve_job_parameter(setting: &Setting) -> Parameter
     ensures { parameter_view result ≡ parameter_of setting.now }
 {
     Parameter {
@@ -66,7 +66,7 @@ fn to_job_parameter(setting: &Setting) -> Parameter
 }
 
 /// The parameters with their values.
-pub(crate) fn to_job_parameters(
+pub(crate) fn resolve_job_parameters(
     alloc: Global,
     settings: &[Setting],
 ) -> Result<Vec<Parameter>, AllocError>
@@ -74,13 +74,13 @@ pub(crate) fn to_job_parameters(
 {
     let mut parameters = Vec::new(alloc);
     for setting in settings {
-        parameters.push(to_job_parameter(setting))?;
+        parameters.push(resolve_job_parameter(setting))?;
     }
     Ok(parameters)
 }
 
 /// The image item, where there is exactly one.
-pub(crate) fn find_only_image_item(items: &[Item]) -> Option<&Image>
+pub(crate) fn find_only_declared_picture(items: &[Item]) -> Option<&Image>
     ensures none { IfNone result
         ((i : ImageType) → flat_map item_images (declarations items.now) ≢ i ∷ []) }
     ensures some { IfSome result (λ i. flat_map item_images (declarations items.now) ≡ i.now ∷ []) }

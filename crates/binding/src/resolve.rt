@@ -10,7 +10,7 @@ ghost use Rattle.binding.specs.inside.Ranges.{HasEntries, IsRanged};
 ghost use Rattle.job.specs.Views.{axis_view, formula_view, test_view};
 ghost use Rattle.binding.specs.inside.Resolving.{program_in, variables_in};
 
-use crate::handed::find_table_by_name;
+use crate::handed::find_supplied_table_by_name;
 use job::{Axis, Formula, Kernel, KernelFactors, PointTest, Table, TableEntries};
 use pipe_bounds::{Params, StageBounds, affine_value, to_domain_index};
 use pipe_checks::{Checked, Symbol, find_symbol_number, is_same_name};
@@ -25,7 +25,10 @@ pub(crate) struct VariableNames {
     pub column: Name,
 }
 
-fn collect_plane_symbols(alloc: Global, stages: &[Symbol]) -> Result<Vec<Symbol>, AllocError>
+fn collect_declared_picture_planes(
+    alloc: Global,
+    stages: &[Symbol],
+) -> Result<Vec<Symbol>, AllocError>
     ensures { IfOk result (λ v. v.items ≡ filter (λ d. is_plane d.kind) stages.now) }
 {
     stages
@@ -36,14 +39,14 @@ fn collect_plane_symbols(alloc: Global, stages: &[Symbol]) -> Result<Vec<Symbol>
 }
 
 // A number of the text.
-fn to_formula_number(number: u32) -> i32
+fn resolve_number_literal(number: u32) -> i32
     requires { number < 2 ^ 31 }
     ensures { result ≡ pos number }
 {
     number as i32
 }
 
-fn find_variable_axis(own: &VariableNames, name: &Name) -> Axis
+fn resolve_variable_axis(own: &VariableNames, name: &Name) -> Axis
     ensures { axis_view result ≡ axis_of (variables_in own.now) name.now }
 {
     if is_same_name(name, &own.row) {
@@ -53,7 +56,7 @@ fn find_variable_axis(own: &VariableNames, name: &Name) -> Axis
     }
 }
 
-fn to_job_kernel_row(
+fn resolve_row_of_job_kernel(
     alloc: Global,
     row: &pipe_tree::StencilRow,
 ) -> Result<KernelFactors, AllocError>
@@ -63,12 +66,12 @@ fn to_job_kernel_row(
 }
 
 // The factors of a kernel in the text.
-fn to_job_kernel(alloc: Global, kernel: &pipe_tree::Kernel) -> Result<Kernel, AllocError>
+fn resolve_job_kernel(alloc: Global, kernel: &pipe_tree::Kernel) -> Result<Kernel, AllocError>
     ensures { IfOk result (λ k. k ≡ kernel.now) }
 {
     let mut rows = Vec::new(alloc);
     for row in kernel.rows() {
-        rows.push(to_job_kernel_row(alloc, row)?)?;
+        rows.push(resolve_row_of_job_kernel(alloc, row)?)?;
     }
     Ok(Kernel::new(rows))
 }
@@ -102,7 +105,7 @@ impl JobResolver<'_> {
     pub fn find_plane_number(&self, name: &Name) -> Result<usize, AllocError>
         ensures { IfOk result (λ n. n ≡ plane_number (program_in self.now) name.now) }
     {
-        let planes = collect_plane_symbols(self.alloc, self.checked.stages())?;
+        let planes = collect_declared_picture_planes(self.alloc, self.checked.stages())?;
         Ok(find_symbol_number(&planes, name).unwrap_or(0))
     }
 
@@ -111,7 +114,7 @@ impl JobResolver<'_> {
         requires { HasEntries self.now.tables.now name.now }
         ensures { IfOk result (λ e. e ≡ entries_named (program_in self.now) name.now) }
     {
-        let table = find_table_by_name(self.tables, name).unwrap();
+        let table = find_supplied_table_by_name(self.tables, name).unwrap();
         Ok(TableEntries::from_table(table)?.unwrap())
     }
 
@@ -136,7 +139,7 @@ impl JobResolver<'_> {
             ≡ formula_of (program_in self.now) (variables_in own.now) (view expr.now)) }
     {
         match expr {
-            Expr::Number(number) => Ok(Formula::Number(to_formula_number(*number))),
+            Expr::Number(number) => Ok(Formula::Number(resolve_number_literal(*number))),
             Expr::Name(name) => Ok(self.resolve_variable_or_parameter(own, name)),
             Expr::Read(name, row, column) => Ok(Formula::Read(
                 self.find_stage_number(name),
@@ -175,7 +178,7 @@ impl JobResolver<'_> {
             Expr::Stencil(name, divisor, kernel) => Ok(Formula::Stencil(
                 self.find_stage_number(name),
                 *divisor,
-                to_job_kernel(self.alloc, kernel)?,
+                resolve_job_kernel(self.alloc, kernel)?,
             )),
         }
     }
@@ -199,12 +202,12 @@ impl JobResolver<'_> {
     {
         match test {
             pipe_tree::Test::Compare(name, relation, bound) => PointTest::Compare(
-                find_variable_axis(own, name),
+                resolve_variable_axis(own, name),
                 *relation,
                 affine_value(self.params, bound),
             ),
             pipe_tree::Test::Remainder(name, modulus, rest) => {
-                PointTest::Remainder(find_variable_axis(own, name), *modulus, *rest)
+                PointTest::Remainder(resolve_variable_axis(own, name), *modulus, *rest)
             }
         }
     }

@@ -14,7 +14,7 @@ use pipe_tokens::Name;
 use pipe_tree::{Affine, Image};
 use std::alloc::{AllocError, Global};
 
-fn is_term_named(name: &Option<Name>, wanted: &Name) -> bool
+fn can_infer_parameter_from_term(name: &Option<Name>, wanted: &Name) -> bool
     ensures { result ≡ option_map_or (λ x. bytes_eq x wanted.now) name.now false }
 {
     match name {
@@ -23,35 +23,37 @@ fn is_term_named(name: &Option<Name>, wanted: &Name) -> bool
     }
 }
 
-fn is_extent_exactly_parameter(extent: &Affine, name: &Name) -> bool
+fn can_infer_parameter_from_extent(extent: &Affine, name: &Name) -> bool
     ensures { result ≡ is_exactly extent.now name.now }
 {
     match extent.terms() {
-        [term] => !term.negative && term.factor == 1 && is_term_named(&term.name, name),
+        [term] => !term.negative
+            && term.factor == 1
+            && can_infer_parameter_from_term(&term.name, name),
         _ => false,
     }
 }
 
 // The side of the picture that is this parameter: its rows first.
-fn find_picture_side(image: &Image, picture: &Picture, name: &Name) -> Option<i32>
+fn infer_parameter_from_picture_side(image: &Image, picture: &Picture, name: &Name) -> Option<i32>
     ensures { result ≡ side_of image.now picture.now name.now }
 {
-    if is_extent_exactly_parameter(&image.rows, name) {
+    if can_infer_parameter_from_extent(&image.rows, name) {
         return Some(picture.rows() as i32);
     }
-    if is_extent_exactly_parameter(&image.columns, name) {
+    if can_infer_parameter_from_extent(&image.columns, name) {
         return Some(picture.cols() as i32);
     }
     None
 }
 
-fn infer_parameter_value(image: &Image, picture: &Picture, setting: &Setting) -> Option<i32>
+fn infer_parameter_if_unset(image: &Image, picture: &Picture, setting: &Setting) -> Option<i32>
     ensures value { result ≡ settled image.now picture.now setting.now.name setting.now.value }
     ensures small { IfSome result (FitsSigned w32) }
 {
     match setting.value {
         Some(value) => Some(value),
-        None => find_picture_side(image, picture, &setting.name),
+        None => infer_parameter_from_picture_side(image, picture, &setting.name),
     }
 }
 
@@ -69,7 +71,7 @@ pub(crate) fn infer_parameters_from_picture(
     for setting in params.settings() {
         settings.push(Setting {
             name: setting.name,
-            value: infer_parameter_value(image, picture, setting),
+            value: infer_parameter_if_unset(image, picture, setting),
         })?;
     }
     Ok(Params::from_settings(settings))

@@ -18,7 +18,7 @@ use netpbm::LONGEST_SIDE;
 const MOST_TILES: u64 = 65536;
 
 // How many rows the domain of a stage has.
-fn count_stage_rows(pipeline: &BoundPipeline, stage: usize) -> u32
+fn count_resolved_stage_rows(pipeline: &BoundPipeline, stage: usize) -> u32
     ensures { result ≡ height_of (pipeline_of pipeline.now) stage }
 {
     match pipeline.stages.as_slice().get(stage) {
@@ -27,7 +27,7 @@ fn count_stage_rows(pipeline: &BoundPipeline, stage: usize) -> u32
     }
 }
 
-fn count_stage_columns(pipeline: &BoundPipeline, stage: usize) -> u32
+fn count_resolved_stage_columns(pipeline: &BoundPipeline, stage: usize) -> u32
     ensures { result ≡ width_of (pipeline_of pipeline.now) stage }
 {
     match pipeline.stages.as_slice().get(stage) {
@@ -36,13 +36,19 @@ fn count_stage_columns(pipeline: &BoundPipeline, stage: usize) -> u32
     }
 }
 
-fn has_stage_sides(pipeline: &BoundPipeline, rows: u32, columns: u32, stage: usize) -> bool
+fn is_resolved_stage_of_size(
+    pipeline: &BoundPipeline,
+    rows: u32,
+    columns: u32,
+    stage: usize,
+) -> bool
     ensures { IsTrue result ↔ HasSides (pipeline_of pipeline.now) rows columns stage }
 {
-    count_stage_rows(pipeline, stage) == rows && count_stage_columns(pipeline, stage) == columns
+    count_resolved_stage_rows(pipeline, stage) == rows
+        && count_resolved_stage_columns(pipeline, stage) == columns
 }
 
-fn has_domain_size_in_stages(
+fn are_resolved_stages_of_size(
     pipeline: &BoundPipeline,
     rows: u32,
     columns: u32,
@@ -51,34 +57,34 @@ fn has_domain_size_in_stages(
     ensures { IsTrue result ↔ All (HasSides (pipeline_of pipeline.now) rows columns) stages.now }
 {
     for stage in stages {
-        if !has_stage_sides(pipeline, rows, columns, *stage) {
+        if !is_resolved_stage_of_size(pipeline, rows, columns, *stage) {
             return false;
         }
     }
     true
 }
 
-fn is_output_shape_valid(pipeline: &BoundPipeline, output: &Output) -> bool
+fn can_bind_output_shape(pipeline: &BoundPipeline, output: &Output) -> bool
     ensures { IsTrue result ↔ IsShaped (pipeline_of pipeline.now) (output_view output.now) }
 {
     let first = output.first_stage();
-    let rows = count_stage_rows(pipeline, first);
-    let columns = count_stage_columns(pipeline, first);
+    let rows = count_resolved_stage_rows(pipeline, first);
+    let columns = count_resolved_stage_columns(pipeline, first);
     rows <= LONGEST_SIDE
         && columns <= LONGEST_SIDE
-        && has_domain_size_in_stages(pipeline, rows, columns, output.stages())
+        && are_resolved_stages_of_size(pipeline, rows, columns, output.stages())
 }
 
-fn has_valid_output_shape(pipeline: &BoundPipeline) -> bool
+fn can_bind_output_if_any(pipeline: &BoundPipeline) -> bool
     ensures { IsTrue result ↔ ShapesFit (pipeline_of pipeline.now) }
 {
     match &pipeline.output {
-        Some(output) => is_output_shape_valid(pipeline, output),
+        Some(output) => can_bind_output_shape(pipeline, output),
         None => true,
     }
 }
 
-fn count_stage_tiles(pipeline: &BoundPipeline, stage: &Stage) -> u64
+fn count_resolved_stage_tiles(pipeline: &BoundPipeline, stage: &Stage) -> u64
     ensures { result ≡ tile_count (pipeline_of pipeline.now) (stage_view stage.now) }
 {
     match stage.body() {
@@ -91,12 +97,12 @@ fn count_stage_tiles(pipeline: &BoundPipeline, stage: &Stage) -> u64
 }
 
 // The first stage that has too many tiles.
-fn find_stage_with_too_many_tiles(pipeline: &BoundPipeline) -> Option<usize>
+fn find_resolved_stage_with_too_many_tiles(pipeline: &BoundPipeline) -> Option<usize>
     ensures some { IfSome result (IsFirstCrowded (pipeline_of pipeline.now)) }
     ensures none { IfNone result (TilesFit (pipeline_of pipeline.now)) }
 {
     for (number, stage) in pipeline.stages.iter().enumerate() {
-        if count_stage_tiles(pipeline, stage) > MOST_TILES {
+        if count_resolved_stage_tiles(pipeline, stage) > MOST_TILES {
             return Some(number);
         }
     }
@@ -104,15 +110,15 @@ fn find_stage_with_too_many_tiles(pipeline: &BoundPipeline) -> Option<usize>
 }
 
 /// The fault of the sizes of the stages, if there is one.
-pub(crate) fn find_job_size_fault(pipeline: &BoundPipeline) -> Option<BindFault>
+pub(crate) fn find_bind_fault_of_sizes(pipeline: &BoundPipeline) -> Option<BindFault>
     ensures some { IfSome result (IsSizeFault (pipeline_of pipeline.now)) }
     ensures none { IfNone result
         (ShapesFit (pipeline_of pipeline.now) × TilesFit (pipeline_of pipeline.now)) }
 {
-    if !has_valid_output_shape(pipeline) {
+    if !can_bind_output_if_any(pipeline) {
         return Some(BindFault::OutputShapes);
     }
-    match find_stage_with_too_many_tiles(pipeline) {
+    match find_resolved_stage_with_too_many_tiles(pipeline) {
         Some(stage) => Some(BindFault::TooManyTiles(stage)),
         None => None,
     }

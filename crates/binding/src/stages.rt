@@ -20,7 +20,7 @@ use pipe_tree::{Accum, Case, Expr, Func, Image, Item, Names, Variable};
 use std::alloc::AllocError;
 
 // The names of these variables.
-fn to_variable_names(row: &Variable, column: &Variable) -> VariableNames
+fn resolve_variable_names(row: &Variable, column: &Variable) -> VariableNames
     ensures { variables_in result ≡ variables_of row.now column.now }
 {
     VariableNames {
@@ -127,7 +127,7 @@ impl JobResolver<'_> {
         ensures { IfOk result
             (λ s. stage_view s ≡ function_stage (program_in self.now) (function_of func.now)) }
     {
-        let own = to_variable_names(&func.row, &func.column);
+        let own = resolve_variable_names(&func.row, &func.column);
         let bounds = self.find_stage_bounds(&func.name);
         let job_cases = self.resolve_cases(&own, bounds, func.cases.case_list())?;
         let otherwise = self.resolve_otherwise(&own, &func.otherwise)?;
@@ -141,7 +141,7 @@ impl JobResolver<'_> {
         ensures { IfOk result (λ s. stage_view s
             ≡ accumulator_stage (program_in self.now) (accumulator_of accum.now)) }
     {
-        let own = to_variable_names(&accum.row, &accum.column);
+        let own = resolve_variable_names(&accum.row, &accum.column);
         let bounds = self.find_stage_bounds(&accum.name);
         let value = self.resolve_formula(&own, &accum.value)?;
         let bin = self.resolve_formula(&own, &accum.bin)?;

@@ -6,7 +6,7 @@ ghost use Rattle.catalog.specs.Entries.{entry_of, AreJobs, IsCatalog, StandsAt};
 ghost use Rattle.catalog.specs.Refusals.{IsAdmitted, IsRefusal};
 
 use crate::fault::AdmitFault;
-use crate::ids::{compute_job_ids, is_job_with_ids};
+use crate::ids::{compute_catalog_job_ids, is_catalog_job_with_ids};
 use identity::JobId;
 use job::Job;
 use std::alloc::Global;
@@ -93,7 +93,7 @@ impl Catalog {
         ensures some { IfSome result (IsRefusal self.now (entry_of job.now)) }
         ensures none { IfNone result (IsAdmitted self.now (entry_of job.now)) }
     {
-        if let Some(index) = self.find(&compute_job_ids(job)) {
+        if let Some(index) = self.find(&compute_catalog_job_ids(job)) {
             if self.jobs()[index].has_same_program_and_input(job) {
                 return Some(AdmitFault::Same(index));
             }
@@ -129,7 +129,7 @@ impl Catalog {
     {
         let jobs = self.jobs();
         for index in 0..jobs.len() {
-            if is_job_with_ids(ids, &jobs[index]) {
+            if is_catalog_job_with_ids(ids, &jobs[index]) {
                 return Some(index);
             }
         }

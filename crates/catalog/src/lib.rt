@@ -1,4 +1,6 @@
 //! A catalog: up to 16 jobs, distinguished by their identities; and types that name one, for contracts.
+//!
+//! Words: catalog, catalog job.
 #![tactic(auto)]
 
 mod catalog;
@@ -8,5 +10,5 @@ mod named_catalog;
 
 pub use catalog::{Catalog, MOST_JOBS};
 pub use fault::AdmitFault;
-pub use ids::compute_job_ids;
+pub use ids::compute_catalog_job_ids;
 pub use named_catalog::NamedCatalog;

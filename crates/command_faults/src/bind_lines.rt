@@ -25,7 +25,7 @@ pub fn write_bind_fault_line<W: Sink>(
 {
     write_bind_fault_head(writer, line.fault)?;
     write_fault_blamed_name(writer, &line.blamed)?;
-    write_out_of_bounds_fault(writer, line.fault)
+    write_bounds_detail_of_fault_line(writer, line.fault)
 }
 
 fn write_bind_fault_head<W: Sink>(writer: &mut W, fault: BindFault) -> Result<(), WriteFailed>
@@ -58,7 +58,10 @@ fn write_fault_blamed_name<W: Sink>(
 }
 
 /// Where a read leaves the domain of what it reads, and its least and greatest index.
-fn write_out_of_bounds_fault<W: Sink>(writer: &mut W, fault: BindFault) -> Result<(), WriteFailed>
+fn write_bounds_detail_of_fault_line<W: Sink>(
+    writer: &mut W,
+    fault: BindFault,
+) -> Result<(), WriteFailed>
     ensures { Takes result (read_text fault) (W.contents writer.old) (W.contents writer.new)
         (W.failures writer.old) (W.failures writer.new) }
 {
@@ -72,12 +75,12 @@ fn write_out_of_bounds_fault<W: Sink>(writer: &mut W, fault: BindFault) -> Resul
                 greatest,
                 ..
             },
-        ) => { write_out_of_bounds_read(writer, case, read, axis, least, greatest) }
+        ) => { write_out_of_bounds_read_in_fault_line(writer, case, read, axis, least, greatest) }
         _ => Ok(()),
     }
 }
 
-fn write_out_of_bounds_read<W: Sink>(
+fn write_out_of_bounds_read_in_fault_line<W: Sink>(
     writer: &mut W,
     case: usize,
     read: usize,
@@ -89,11 +92,11 @@ fn write_out_of_bounds_read<W: Sink>(
         (W.contents writer.old) (W.contents writer.new)
         (W.failures writer.old) (W.failures writer.new) }
 {
-    write_out_of_bounds_place(writer, case, read, axis)?;
-    write_out_of_bounds_indices(writer, least, greatest)
+    write_read_place_in_fault_line(writer, case, read, axis)?;
+    write_read_indices_in_fault_line(writer, least, greatest)
 }
 
-fn write_out_of_bounds_place<W: Sink>(
+fn write_read_place_in_fault_line<W: Sink>(
     writer: &mut W,
     case: usize,
     read: usize,
@@ -105,10 +108,10 @@ fn write_out_of_bounds_place<W: Sink>(
 {
     write_fault_words_and_count(writer, b" case ", case)?;
     write_fault_words_and_count(writer, b" read ", read)?;
-    write_fault_texts(writer, &[b" ", choose_axis_word_of_fault(axis)])
+    write_fault_texts(writer, &[b" ", choose_axis_word_in_fault_line(axis)])
 }
 
-fn choose_axis_word_of_fault(axis: Axis) -> &'static [u8]
+fn choose_axis_word_in_fault_line(axis: Axis) -> &'static [u8]
     ensures { result.now ≡ axis_word axis }
 {
     match axis {
@@ -117,7 +120,7 @@ fn choose_axis_word_of_fault(axis: Axis) -> &'static [u8]
     }
 }
 
-fn write_out_of_bounds_indices<W: Sink>(
+fn write_read_indices_in_fault_line<W: Sink>(
     writer: &mut W,
     least: i32,
     greatest: i32,

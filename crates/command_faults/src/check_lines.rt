@@ -20,17 +20,20 @@ pub fn write_check_fault_line<W: Sink>(
         (W.failures writer.old) (W.failures writer.new) }
 {
     match line {
-        CheckFaultLine::Fault(fault) => write_check_fault(writer, fault),
-        CheckFaultLine::Cycle(names) => write_check_cycle_fault(writer, names.names.as_slice()),
+        CheckFaultLine::Fault(fault) => write_check_fault_head_and_item(writer, fault),
+        CheckFaultLine::Cycle(names) => write_cycle_fault_line(writer, names.names.as_slice()),
     }
 }
 
-fn write_check_fault<W: Sink>(writer: &mut W, fault: &CheckFault) -> Result<(), WriteFailed>
+fn write_check_fault_head_and_item<W: Sink>(
+    writer: &mut W,
+    fault: &CheckFault,
+) -> Result<(), WriteFailed>
     ensures { Takes result (fault_text fault.now) (W.contents writer.old) (W.contents writer.new)
         (W.failures writer.old) (W.failures writer.new) }
 {
     write_check_fault_head(writer, fault)?;
-    write_check_fault_item(writer, fault)
+    write_item_in_check_fault_line(writer, fault)
 }
 
 fn write_check_fault_head<W: Sink>(writer: &mut W, fault: &CheckFault) -> Result<(), WriteFailed>
@@ -41,7 +44,10 @@ fn write_check_fault_head<W: Sink>(writer: &mut W, fault: &CheckFault) -> Result
 }
 
 /// The number of the item that a fault blames.
-fn write_check_fault_item<W: Sink>(writer: &mut W, fault: &CheckFault) -> Result<(), WriteFailed>
+fn write_item_in_check_fault_line<W: Sink>(
+    writer: &mut W,
+    fault: &CheckFault,
+) -> Result<(), WriteFailed>
     ensures { Takes result (item_text fault.now) (W.contents writer.old) (W.contents writer.new)
         (W.failures writer.old) (W.failures writer.new) }
 {
@@ -55,7 +61,7 @@ fn write_check_fault_item<W: Sink>(writer: &mut W, fault: &CheckFault) -> Result
     }
 }
 
-fn write_check_cycle_fault<W: Sink>(writer: &mut W, names: &[Name]) -> Result<(), WriteFailed>
+fn write_cycle_fault_line<W: Sink>(writer: &mut W, names: &[Name]) -> Result<(), WriteFailed>
     ensures { Takes result (cycle_text names.now) (W.contents writer.old) (W.contents writer.new)
         (W.failures writer.old) (W.failures writer.new) }
 {

@@ -4,7 +4,7 @@ ghost use Rattle.command_faults.specs.FaultLines.{bad_file_text, bad_hex_text, f
 ghost use Rattle.command_faults.specs.Taking.{Takes};
 
 use crate::texts::{
-    write_fault_offset, write_fault_text, write_fault_texts, write_fault_words_and_count,
+    write_fault_text, write_fault_texts, write_fault_words_and_count, write_offset_in_fault_line,
 };
 use fact_lines::FactLinesFault;
 use fault_rows::Fault;
@@ -20,13 +20,13 @@ pub fn write_facts_fault_line<W: Sink>(
         (W.failures writer.old) (W.failures writer.new) }
 {
     match fault {
-        FactLinesFault::BadHex { line } => write_bad_hex_fault(writer, line),
-        FactLinesFault::BadFile { line, fault } => write_bad_fact_file_fault(writer, line, fault),
+        FactLinesFault::BadHex { line } => write_bad_hex_fault_line(writer, line),
+        FactLinesFault::BadFile { line, fault } => write_bad_file_fault_line(writer, line, fault),
         FactLinesFault::Memory => write_fault_text(writer, b"memory"),
     }
 }
 
-fn write_bad_hex_fault<W: Sink>(writer: &mut W, line: usize) -> Result<(), WriteFailed>
+fn write_bad_hex_fault_line<W: Sink>(writer: &mut W, line: usize) -> Result<(), WriteFailed>
     ensures { Takes result (bad_hex_text line) (W.contents writer.old) (W.contents writer.new)
         (W.failures writer.old) (W.failures writer.new) }
 {
@@ -35,7 +35,7 @@ fn write_bad_hex_fault<W: Sink>(writer: &mut W, line: usize) -> Result<(), Write
 }
 
 /// The line's number, and the fault of the file that it is.
-fn write_bad_fact_file_fault<W: Sink>(
+fn write_bad_file_fault_line<W: Sink>(
     writer: &mut W,
     line: usize,
     fault: FactFault,
@@ -44,11 +44,11 @@ fn write_bad_fact_file_fault<W: Sink>(
         (W.contents writer.old) (W.contents writer.new)
         (W.failures writer.old) (W.failures writer.new) }
 {
-    write_fact_file_fault_head(writer, line, fault)?;
-    write_fault_offset(writer, fault.offset())
+    write_bad_file_fault_head(writer, line, fault)?;
+    write_offset_in_fault_line(writer, fault.offset())
 }
 
-fn write_fact_file_fault_head<W: Sink>(
+fn write_bad_file_fault_head<W: Sink>(
     writer: &mut W,
     line: usize,
     fault: FactFault,

@@ -11,8 +11,8 @@ use crate::faults::StreamFault;
 use crate::lines::{FarmFaultLine, ParamFaultLine};
 use crate::script_lines::write_script_fault_line;
 use crate::texts::{
-    write_fault_head, write_fault_offset, write_fault_text, write_fault_texts,
-    write_fault_words_and_count,
+    write_fault_head, write_fault_text, write_fault_texts, write_fault_words_and_count,
+    write_offset_in_fault_line,
 };
 use fault_rows::Fault;
 use pipe_bounds::ParamFault;
@@ -41,11 +41,14 @@ fn write_fault_with_line_feed<W: Sink>(
         (W.contents writer.old) (W.contents writer.new)
         (W.failures writer.old) (W.failures writer.new) }
 {
-    write_command_fault(fault, writer)?;
+    write_fault_without_line_feed(fault, writer)?;
     write_fault_text(writer, b"\n")
 }
 
-fn write_command_fault<W: Sink>(fault: &StreamFault, writer: &mut W) -> Result<(), WriteFailed>
+fn write_fault_without_line_feed<W: Sink>(
+    fault: &StreamFault,
+    writer: &mut W,
+) -> Result<(), WriteFailed>
     ensures { Takes result (text_of fault.now) (W.contents writer.old) (W.contents writer.new)
         (W.failures writer.old) (W.failures writer.new) }
 {
@@ -96,7 +99,7 @@ fn write_fault_head_and_offset<W: Sink>(
         (W.failures writer.old) (W.failures writer.new) }
 {
     write_fault_head(writer, kind, number, name)?;
-    write_fault_offset(writer, offset)
+    write_offset_in_fault_line(writer, offset)
 }
 
 fn write_farm_fault_line<W: Sink>(writer: &mut W, line: FarmFaultLine) -> Result<(), WriteFailed>
@@ -114,11 +117,11 @@ fn write_param_fault_line<W: Sink>(writer: &mut W, line: &ParamFaultLine) -> Res
         (W.failures writer.old) (W.failures writer.new) }
 {
     write_param_fault_head(writer, line.fault)?;
-    write_supplied_param_name(writer, &line.name)
+    write_param_name_in_fault_line(writer, &line.name)
 }
 
 /// A name as it was supplied, after a blank.
-fn write_supplied_param_name<W: Sink>(writer: &mut W, name: &String) -> Result<(), WriteFailed>
+fn write_param_name_in_fault_line<W: Sink>(writer: &mut W, name: &String) -> Result<(), WriteFailed>
     ensures { Takes result (name_text (string_bytes name.now))
         (W.contents writer.old) (W.contents writer.new)
         (W.failures writer.old) (W.failures writer.new) }

@@ -1,4 +1,6 @@
 //! The faults of commands, and the one line that reports each.
+//!
+//! Words: fault line, fault head, stream fault, write fault.
 #![tactic(auto)]
 
 mod bind_lines;

@@ -3,7 +3,7 @@
 ghost use Rattle.command_faults.specs.FaultLines.{at_line_text, script_head, script_text};
 ghost use Rattle.command_faults.specs.Taking.{Takes};
 
-use crate::texts::{write_fault_head, write_fault_offset};
+use crate::texts::{write_fault_head, write_offset_in_fault_line};
 use fault_rows::Fault;
 use gossip_events::ScriptFault;
 use streams::{Sink, WriteFailed};
@@ -37,7 +37,7 @@ fn write_script_fault_line_number<W: Sink>(
 {
     match fault {
         ScriptFault::BadLine { line } | ScriptFault::NoSuchJob { line } => {
-            write_fault_offset(writer, Some(line))
+            write_offset_in_fault_line(writer, Some(line))
         }
         ScriptFault::TooManyEvents | ScriptFault::Memory => Ok(()),
     }

@@ -55,7 +55,10 @@ pub fn write_fault_head<W: Sink>(
 }
 
 /// Where a fault is; 0 for one that has no place.
-pub fn write_fault_offset<W: Sink>(writer: &mut W, offset: Option<usize>) -> Result<(), WriteFailed>
+pub fn write_offset_in_fault_line<W: Sink>(
+    writer: &mut W,
+    offset: Option<usize>,
+) -> Result<(), WriteFailed>
     ensures { Takes result (offset_text offset) (W.contents writer.old) (W.contents writer.new)
         (W.failures writer.old) (W.failures writer.new) }
 {

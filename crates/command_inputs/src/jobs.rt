@@ -11,10 +11,10 @@ ghost use Rattle.command_inputs.specs.Giving.{Given};
 ghost use Rattle.command_inputs.specs.Input.{IsInput, IsJobAt, IsReadAround, IsReadJob, IsSpelled};
 ghost use Rattle.command_inputs.specs.inside.Steps.{IsHeadBefore, IsProgramBefore};
 
-use crate::bind_faults::convert_bind_fault_for_command;
+use crate::bind_faults::convert_bind_fault_to_input_fault;
 use crate::programs::check_input_program;
-use crate::sections::{SEPARATOR, find_input_separator_line, split_input_in_three_sections};
-use crate::settings::make_supplied_params;
+use crate::sections::{SEPARATOR, find_input_separator_line, split_into_three_input_sections};
+use crate::settings::make_params_of_input_program;
 use crate::table_lines::read_input_table_lines;
 use binding::bind;
 use command_faults::StreamFault;
@@ -45,7 +45,7 @@ pub fn read_input_job(
 
 /// The job of the program, its tables and the picture that an input of three sections spells; and the section between them, which
 /// is not judged.
-pub fn read_input_job_and_middle<'a>(
+pub fn read_input_job_and_middle_section<'a>(
     alloc: Global,
     sides: TileSides,
     given: &[(String, i32)],
@@ -57,10 +57,10 @@ pub fn read_input_job_and_middle<'a>(
     ensures small { IfOk result (λ read. IsSmall (pipeline_in read.0)) }
     ensures fault { IfErr result (IsFaultAround input.now given.now sides) }
 {
-    let Some((text, middle, last)) = split_input_in_three_sections(input) else {
+    let Some((text, middle, last)) = split_into_three_input_sections(input) else {
         return Err(StreamFault::NoSeparator);
     };
-    let (tree, tables, picture) = read_input_program_and_last_section(alloc, text, last)?;
+    let (tree, tables, picture) = read_split_input_program_and_picture(alloc, text, last)?;
     let job = bind_input_job(alloc, sides, given, tree, tables, picture)?;
     Ok((job, middle))
 }
@@ -109,7 +109,7 @@ fn read_input_program(alloc: Global, input: &[u8]) -> Result<(Tree, usize), Stre
 }
 
 /// The program of a text, and the tables and the picture that the last section spells.
-fn read_input_program_and_last_section(
+fn read_split_input_program_and_picture(
     alloc: Global,
     text: &[u8],
     last: &[u8],
@@ -141,9 +141,9 @@ fn bind_input_job(
         (IsJobFault (content tree) tables.items picture given.now sides) }
 {
     let checked = check_input_program(alloc, tree)?;
-    let params = make_supplied_params(alloc, &checked, given)?;
+    let params = make_params_of_input_program(alloc, &checked, given)?;
     match bind(alloc, checked, &params, tables, picture, sides) {
         Ok(job) => Ok(job),
-        Err((program, _, _, fault)) => Err(convert_bind_fault_for_command(&program, fault)),
+        Err((program, _, _, fault)) => Err(convert_bind_fault_to_input_fault(&program, fault)),
     }
 }

@@ -1,4 +1,6 @@
 //! From the bytes of an input to its job, or to its fault; and the catalog that has the job alone.
+//!
+//! Words: input job, input program, input section, input separator, input table line, input fault.
 #![tactic(auto)]
 
 mod bind_faults;
@@ -10,5 +12,5 @@ mod settings;
 mod table_lines;
 
 pub use job_catalog::make_catalog_of_input_job;
-pub use jobs::{read_input_job, read_input_job_and_middle};
-pub use sections::{split_input_in_three_sections, split_off_input_section};
+pub use jobs::{read_input_job, read_input_job_and_middle_section};
+pub use sections::{split_into_three_input_sections, split_off_input_section};

@@ -21,18 +21,22 @@ pub fn check_input_program(alloc: Global, tree: Tree) -> Result<Checked, StreamF
 {
     match check(alloc, tree) {
         Ok(checked) => Ok(checked),
-        Err((tree, fault)) => Err(convert_check_fault_for_command(alloc, tree.items(), fault)),
+        Err((tree, fault)) => Err(convert_check_fault_to_input_fault(alloc, tree.items(), fault)),
     }
 }
 
 /// How the fault of a program is reported.
-fn convert_check_fault_for_command(alloc: Global, items: &[Item], fault: CheckFault) -> StreamFault
+fn convert_check_fault_to_input_fault(
+    alloc: Global,
+    items: &[Item],
+    fault: CheckFault,
+) -> StreamFault
     requires { IsFault (declarations items.now) fault }
     ensures { IsRefusal (declarations items.now) result }
 {
     match fault {
         CheckFault::Memory => StreamFault::Memory,
-        CheckFault::Cycle(cycle) => match collect_fault_line_cycle_names(alloc, items, &cycle) {
+        CheckFault::Cycle(cycle) => match collect_input_fault_cycle_names(alloc, items, &cycle) {
             Ok(names) => StreamFault::Check(CheckFaultLine::Cycle(names)),
             Err(_) => StreamFault::Memory,
         },
@@ -41,7 +45,7 @@ fn convert_check_fault_for_command(alloc: Global, items: &[Item], fault: CheckFa
 }
 
 /// The names of the stages along a cycle.
-fn collect_fault_line_cycle_names(
+fn collect_input_fault_cycle_names(
     alloc: Global,
     items: &[Item],
     cycle: &Cycle,
@@ -50,10 +54,10 @@ fn collect_fault_line_cycle_names(
         (λ names. names ≡ names_of (stages_of (declarations items.now)) cycle.now) }
 {
     let stages = declared_stages(alloc, items)?;
-    collect_fault_line_stage_names(alloc, &stages, cycle.stages())
+    collect_input_fault_stage_names(alloc, &stages, cycle.stages())
 }
 
-fn collect_fault_line_stage_names(
+fn collect_input_fault_stage_names(
     alloc: Global,
     stages: &[Symbol],
     numbers: &[usize],
@@ -62,7 +66,7 @@ fn collect_fault_line_stage_names(
 {
     let mut names = Vec::new(alloc);
     for number in numbers {
-        if let Some(name) = find_name_for_fault_line(stages, *number) {
+        if let Some(name) = find_declared_name_for_input_fault(stages, *number) {
             names.push(name)?;
         }
     }
@@ -70,7 +74,7 @@ fn collect_fault_line_stage_names(
 }
 
 /// The name of the stage, the parameter or the table of this number.
-pub fn find_name_for_fault_line(declared: &[Symbol], number: usize) -> Option<Name>
+pub fn find_declared_name_for_input_fault(declared: &[Symbol], number: usize) -> Option<Name>
     ensures { result ≡ name_at declared.now number }
 {
     Some(declared.get(number)?.name)

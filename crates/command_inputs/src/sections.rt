@@ -21,7 +21,7 @@ pub fn split_off_input_section(input: &[u8]) -> Option<(&[u8], &[u8])>
 
 /// The first section, the one after its separator line, and what follows the next separator line; or nothing if there are fewer
 /// than two. After the second one a separator line is a line like any other.
-pub fn split_input_in_three_sections(input: &[u8]) -> Option<(&[u8], &[u8], &[u8])>
+pub fn split_into_three_input_sections(input: &[u8]) -> Option<(&[u8], &[u8], &[u8])>
     ensures parted { IfSome result
         (λ parts. IsPartedInThree input.now parts.0.now parts.1.now parts.2.now) }
     ensures none { IfNone result (LacksSeparator input.now) }

@@ -12,7 +12,7 @@ use pipe_checks::Checked;
 use std::alloc::Global;
 
 /// The parameters with the supplied values.
-pub fn make_supplied_params(
+pub fn make_params_of_input_program(
     alloc: Global,
     checked: &Checked,
     given: &[(String, i32)],
@@ -21,12 +21,12 @@ pub fn make_supplied_params(
     ensures fault { IfErr result (IsParamRefusal (map unset (params_in checked.now)) given.now) }
 {
     let mut params = Params::of(alloc, checked)?;
-    set_supplied_parameters(alloc, &mut params, given)?;
+    set_params_of_input_program(alloc, &mut params, given)?;
     Ok(params)
 }
 
 /// Sets the parameters to their values in order, up to the first that is rejected.
-fn set_supplied_parameters(
+fn set_params_of_input_program(
     alloc: Global,
     params: &mut Params,
     given: &[(String, i32)],
@@ -36,13 +36,17 @@ fn set_supplied_parameters(
 {
     for (name, value) in given {
         if let Err(fault) = params.set(name.as_str(), *value) {
-            return Err(convert_param_fault_for_command(alloc, name, fault));
+            return Err(convert_param_fault_to_input_fault(alloc, name, fault));
         }
     }
     Ok(())
 }
 
-fn convert_param_fault_for_command(alloc: Global, name: &String, fault: ParamFault) -> StreamFault
+fn convert_param_fault_to_input_fault(
+    alloc: Global,
+    name: &String,
+    fault: ParamFault,
+) -> StreamFault
     ensures { TellsParam fault (string_bytes name.now) result }
 {
     match String::from_str(alloc, name.as_str()) {

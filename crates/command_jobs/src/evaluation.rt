@@ -50,7 +50,7 @@ fn retile_command_job(job: Job, height: u32) -> Job
 }
 
 // Whether the first number of points is at most a sixteenth more than the second.
-fn can_command_job_have_low_tiles(low: u64, high: u64) -> bool {
+fn are_low_command_job_tiles_worthwhile(low: u64, high: u64) -> bool {
     low <= high.saturating_add(high / 16)
 }
 
@@ -89,7 +89,10 @@ pub fn plan_command_job_evaluation(
     let high = CommandEvaluation::new(alloc, retile_command_job(job, USUAL_SIDE), options)?;
     let most = count_command_job_points(&high.job, &high.schedule);
     let low = CommandEvaluation::new(alloc, retile_command_job(high.job, LOW_SIDE), options)?;
-    if can_command_job_have_low_tiles(count_command_job_points(&low.job, &low.schedule), most) {
+    if are_low_command_job_tiles_worthwhile(
+        count_command_job_points(&low.job, &low.schedule),
+        most,
+    ) {
         return Ok(low);
     }
     CommandEvaluation::new(alloc, retile_command_job(low.job, USUAL_SIDE), options)

@@ -1,5 +1,7 @@
 //! How a command computes its job: the schedule that the options request, the tiles and the schedule of its evaluation, and the
 //! bytes of its result, which are the picture's one spelling and a line for each accumulator.
+//!
+//! Words: command job, command evaluation, requested schedule, result reply, total line.
 #![tactic(auto)]
 
 mod evaluation;
@@ -9,4 +11,4 @@ mod totals;
 
 pub use evaluation::{CommandEvaluation, plan_command_job_evaluation};
 pub use result_reply::make_result_reply;
-pub use schedule::make_schedule_of_options;
+pub use schedule::make_requested_schedule;

@@ -17,7 +17,7 @@ use std::alloc::{AllocError, Global};
 /// # Errors
 ///
 /// Fails only where memory is refused.
-pub fn make_schedule_of_options(
+pub fn make_requested_schedule(
     alloc: Global,
     job: &Job,
     options: &Options,
@@ -48,8 +48,8 @@ pub(crate) fn make_command_evaluation_schedule(
     ensures { IfOk result (IsEvaluationSchedule options.now.stored options.now.percent
         (pipeline_in job.now)) }
 {
-    let schedule = make_schedule_of_options(alloc, job, options)?;
-    if has_unusual_schedule_options(options) {
+    let schedule = make_requested_schedule(alloc, job, options)?;
+    if is_requested_schedule_unusual(options) {
         Ok(schedule)
     } else {
         inline_pointwise_functions(alloc, job, schedule)
@@ -57,7 +57,7 @@ pub(crate) fn make_command_evaluation_schedule(
 }
 
 // Whether another schedule than the usual one is requested.
-fn has_unusual_schedule_options(options: &Options) -> bool
+fn is_requested_schedule_unusual(options: &Options) -> bool
     ensures { result ≡ is_unusual options.now.stored options.now.percent }
 {
     options.stored || options.percent.get() != Options::with_defaults().percent.get()

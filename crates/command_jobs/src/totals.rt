@@ -36,7 +36,7 @@ fn put_total_line(
         ≡ lines.old.items ++ gathered_line (pipeline_in job.now) (gathered total.now)) }
 {
     match (job.name(total.stage), job.bins(total.stage)) {
-        (Some(name), Some(span)) => put_accumulator_line(
+        (Some(name), Some(span)) => put_total_line_of_accumulator(
             alloc,
             lines,
             &name,
@@ -48,7 +48,7 @@ fn put_total_line(
 }
 
 /// The name, the first and the last bin, and the value of each bin.
-fn put_accumulator_line(
+fn put_total_line_of_accumulator(
     alloc: Global,
     lines: &mut Vec<u8>,
     name: &Name,

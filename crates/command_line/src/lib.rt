@@ -1,4 +1,6 @@
 //! The command line: what its words request, with which options, and the values of parameters.
+//!
+//! Words: command line, subcommand, argument, option, request, task.
 #![tactic(auto)]
 
 mod nodes;
@@ -8,7 +10,7 @@ mod usage;
 mod values;
 mod words;
 
-pub use nodes::NodesArg;
-pub use options::{Options, PercentArg};
+pub use nodes::NodesArgument;
+pub use options::{Options, PercentArgument};
 pub use tasks::CommandTask;
 pub use words::{CommandLineRefusal, CommandRequest, JobRequest, read_command_request};

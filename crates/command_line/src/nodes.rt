@@ -10,11 +10,11 @@ pub const MOST_NODES: u32 = 16;
 
 /// A number of nodes from 1 to 16.
 #[derive(Clone, Copy, Debug, PartialEq, Eq)]
-pub struct NodesArg {
+pub struct NodesArgument {
     count: u8,
 }
 
-impl Model for NodesArg {
+impl Model for NodesArgument {
     ghost use Rattle.std.specs.Prelude.{ℕ};
     ghost use Rattle.command_line.specs.Nodes.{IsNodeCount};
 
@@ -27,25 +27,25 @@ impl Model for NodesArg {
     ghost inverse = { λ n. record { count = n } };
 }
 
-impl NodesArg {
+impl NodesArgument {
     /// A number of nodes; none at 0 and above 16.
-    pub fn new(count: u32) -> Option<NodesArg>
+    pub fn new(count: u32) -> Option<NodesArgument>
         ensures some { IfSome result (λ n. n ≡ count) }
         ensures within { IfSome result IsNodeCount }
         ensures none { IfNone result (¬ IsNodeCount count) }
     {
         if 1 <= count && count <= MOST_NODES {
-            Some(NodesArg { count: count as u8 })
+            Some(NodesArgument { count: count as u8 })
         } else {
             None
         }
     }
 
     /// Two nodes.
-    pub fn with_defaults() -> NodesArg
+    pub fn with_defaults() -> NodesArgument
         ensures { result ≡ 2 }
     {
-        NodesArg { count: 2 }
+        NodesArgument { count: 2 }
     }
 
     /// How many nodes.

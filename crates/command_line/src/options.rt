@@ -10,11 +10,11 @@ pub const MOST_PERCENT: u32 = 10_000;
 
 /// A percentage from 0 to 10,000.
 #[derive(Clone, Copy, Debug, PartialEq, Eq)]
-pub struct PercentArg {
+pub struct PercentArgument {
     percent: u32,
 }
 
-impl Model for PercentArg {
+impl Model for PercentArgument {
     ghost use Rattle.std.specs.Prelude.{ℕ, ◌≤◌};
 
     ghost Value = { ℕ };
@@ -26,15 +26,15 @@ impl Model for PercentArg {
     ghost inverse = { λ n. record { percent = n } };
 }
 
-impl PercentArg {
+impl PercentArgument {
     /// A percentage; none above 10,000.
-    pub fn new(percent: u32) -> Option<PercentArg>
+    pub fn new(percent: u32) -> Option<PercentArgument>
         ensures some { IfSome result (λ p. p ≡ percent) }
         ensures within { IfSome result (λ p. p ≤ 10000) }
         ensures none { IfNone result (10000 < percent) }
     {
         if percent <= MOST_PERCENT {
-            Some(PercentArg { percent })
+            Some(PercentArgument { percent })
         } else {
             None
         }
@@ -55,7 +55,7 @@ pub struct Options {
     /// The sides of the tiles into which stages are partitioned.
     pub sides: TileSides,
     /// How many percent more points may be computed where a function is inlined.
-    pub percent: PercentArg,
+    pub percent: PercentArgument,
     /// Whether all functions are stored, and none is inlined.
     pub stored: bool,
 }
@@ -69,7 +69,7 @@ impl Options {
         ensures percent { result.percent ≡ 40 }
         ensures stored { result.stored ≡ false }
     {
-        match (TileSides::new(64, 64), PercentArg::new(40)) {
+        match (TileSides::new(64, 64), PercentArgument::new(40)) {
             (Some(sides), Some(percent)) => Options {
                 sides,
                 percent,

@@ -4,7 +4,7 @@ ghost use Rattle.std.specs.Prelude.{IfNone, IfSome};
 ghost use Rattle.command_line.specs.Tasks.{AsksFor};
 ghost use Rattle.command_line.specs.declared.tasks.CommandTask.{CommandTask as TaskType};
 
-use crate::nodes::NodesArg;
+use crate::nodes::NodesArgument;
 use farm_setup::FarmSetup;
 
 /// A task on a program and a picture.
@@ -21,7 +21,7 @@ pub enum CommandTask {
     /// To judge the facts of fact files.
     Audit,
     /// To report what this many nodes hold after a script.
-    World(NodesArg),
+    World(NodesArgument),
 }
 
 /// The task that the first word requests; a farm and a world have the usual settings.
@@ -36,7 +36,7 @@ pub fn read_command_task(words: &[String]) -> Option<CommandTask>
         "plan" => Some(CommandTask::Plan),
         "run" => Some(CommandTask::Run(FarmSetup::with_defaults())),
         "audit" => Some(CommandTask::Audit),
-        "world" => Some(CommandTask::World(NodesArg::with_defaults())),
+        "world" => Some(CommandTask::World(NodesArgument::with_defaults())),
         _ => None,
     }
 }

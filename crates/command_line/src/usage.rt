@@ -17,16 +17,16 @@ pub fn define_command_line<'a>(alloc: Global) -> Result<Command<'a>, AllocError>
         .disable_help_flag(true)
         .disable_help_subcommand(true)
         .subcommand_required(true)
-        .subcommand(define_job_command(alloc, "eval")?)?
-        .subcommand(define_job_command(alloc, "check")?)?
-        .subcommand(define_job_command(alloc, "plan")?)?
-        .subcommand(define_job_command(alloc, "audit")?)?
-        .subcommand(define_world_command(alloc)?)?
-        .subcommand(define_run_command(alloc)?)
+        .subcommand(define_job_subcommand(alloc, "eval")?)?
+        .subcommand(define_job_subcommand(alloc, "check")?)?
+        .subcommand(define_job_subcommand(alloc, "plan")?)?
+        .subcommand(define_job_subcommand(alloc, "audit")?)?
+        .subcommand(define_world_subcommand(alloc)?)?
+        .subcommand(define_run_subcommand(alloc)?)
 }
 
 /// A command that takes options and values of parameters.
-fn define_job_command<'a>(alloc: Global, name: &'a str) -> Result<Command<'a>, AllocError>
+fn define_job_subcommand<'a>(alloc: Global, name: &'a str) -> Result<Command<'a>, AllocError>
     ensures app { IfOk result (λ c. app_of c ≡ command_app name.now) }
     ensures local { IfOk result (λ c. (fields_of c).has_globals ≡ false) }
 {
@@ -36,23 +36,23 @@ fn define_job_command<'a>(alloc: Global, name: &'a str) -> Result<Command<'a>, A
         .arg(define_number_option(alloc, "cols"))?
         .arg(define_number_option(alloc, "percent"))?
         .arg(define_flag_option(alloc, "stored"))?
-        .arg(define_parameter_words(alloc))
+        .arg(define_parameter_arguments(alloc))
 }
 
 /// The command that takes a number of nodes too.
-fn define_world_command<'a>(alloc: Global) -> Result<Command<'a>, AllocError>
+fn define_world_subcommand<'a>(alloc: Global) -> Result<Command<'a>, AllocError>
     ensures app { IfOk result (λ c. app_of c ≡ world_app) }
     ensures local { IfOk result (λ c. (fields_of c).has_globals ≡ false) }
 {
-    define_job_command(alloc, "world")?.arg(define_number_option(alloc, "nodes"))
+    define_job_subcommand(alloc, "world")?.arg(define_number_option(alloc, "nodes"))
 }
 
 /// The command that takes how a farm runs too.
-fn define_run_command<'a>(alloc: Global) -> Result<Command<'a>, AllocError>
+fn define_run_subcommand<'a>(alloc: Global) -> Result<Command<'a>, AllocError>
     ensures app { IfOk result (λ c. app_of c ≡ run_app) }
     ensures local { IfOk result (λ c. (fields_of c).has_globals ≡ false) }
 {
-    define_job_command(alloc, "run")?
+    define_job_subcommand(alloc, "run")?
         .arg(define_number_option(alloc, "nodes"))?
         .arg(define_number_option(alloc, "turns"))?
         .arg(define_number_option(alloc, "capacity"))?
@@ -78,7 +78,7 @@ fn define_flag_option<'a>(alloc: Global, name: &'a str) -> Arg<'a>
 }
 
 /// The words that are not options, any number of them.
-fn define_parameter_words<'a>(alloc: Global) -> Arg<'a>
+fn define_parameter_arguments<'a>(alloc: Global) -> Arg<'a>
     ensures rule { rule_of result ≡ parameter_words }
     ensures local { result.global ≡ false }
 {

@@ -27,7 +27,7 @@ pub fn is_flag_option_given(given: Option<&str>) -> bool
 }
 
 /// The number that the text spells: an optional `-` and digits, within 32 bits.
-fn parse_parameter_value(text: &str) -> Option<i32>
+fn parse_parameter_argument_value(text: &str) -> Option<i32>
     ensures some { IfSome result (SpellsValue text.now) }
     ensures none { IfNone result ((z : ℤ) → ¬ SpellsValue text.now z) }
 {
@@ -39,10 +39,10 @@ fn parse_parameter_value(text: &str) -> Option<i32>
 }
 
 /// The name and the value of a parameter: the name is all that comes before the first `=`.
-pub fn parse_parameter_word(word: &str) -> Option<(&str, i32)>
+pub fn parse_parameter_argument(word: &str) -> Option<(&str, i32)>
     ensures some { IfSome result (λ p. SpellsParameter word.now p.0.now p.1) }
     ensures none { IfNone result ((name : _) (z : ℤ) → ¬ SpellsParameter word.now name z) }
 {
     let (name, text) = word.split_once('=')?;
-    Some((name, parse_parameter_value(text)?))
+    Some((name, parse_parameter_argument_value(text)?))
 }

@@ -17,11 +17,13 @@ ghost use Rattle.command_line.specs.declared.words.CommandLineRefusal.TheVariant
 ghost use Rattle.farm_setup.specs.declared.setup.FarmSetup.{FarmSetup as FarmSetupType};
 ghost use Rattle.farm_setup.specs.declared.setup.Faults.{Faults as FaultsType};
 
-use crate::nodes::NodesArg;
-use crate::options::{Options, PercentArg};
+use crate::nodes::NodesArgument;
+use crate::options::{Options, PercentArgument};
 use crate::tasks::{CommandTask, read_command_task};
 use crate::usage::define_command_line;
-use crate::values::{is_flag_option_given, parse_option_number_or_default, parse_parameter_word};
+use crate::values::{
+    is_flag_option_given, parse_option_number_or_default, parse_parameter_argument,
+};
 use clap::error::ErrorKind;
 use clap::{ArgMatches, Error};
 use domains::TileSides;
@@ -90,7 +92,7 @@ pub fn read_command_request(
     // If the words name no task, nothing grows, and memory is never reported instead of usage.
     ensures memory { IfErr result (λ refusal. refusal ≡ refusals.Memory → NamesTask words.now) }
 {
-    if is_merge_command(words) {
+    if is_merge_request(words) {
         Ok(CommandRequest::Merge)
     } else {
         Ok(CommandRequest::Job(read_job_command_request(alloc, words)?))
@@ -98,7 +100,7 @@ pub fn read_command_request(
 }
 
 /// Whether there is one word, which is `merge`.
-fn is_merge_command(words: &[String]) -> bool
+fn is_merge_request(words: &[String]) -> bool
     ensures { IsTrue result ↔ AskForMerge words.now }
 {
     match words {
@@ -117,7 +119,7 @@ fn read_job_command_request(
         → (request : JobRequestType) → ¬ IsJobRequestOf words.now request) }
     ensures memory { IfErr result (λ refusal. refusal ≡ refusals.Memory → NamesTask words.now) }
 {
-    if has_double_dash_word(words) {
+    if has_double_dash_argument(words) {
         return Err(CommandLineRefusal::Usage);
     }
     let Some(named) = read_command_task(words) else {
@@ -136,12 +138,12 @@ fn read_job_command_request(
     Ok(JobRequest {
         task,
         options,
-        parameters: read_parameter_values(alloc, given)?,
+        parameters: read_parameter_arguments(alloc, given)?,
     })
 }
 
 /// Whether a word is `--`, which ends the options of other programs; this program has none.
-fn has_double_dash_word(words: &[String]) -> bool
+fn has_double_dash_argument(words: &[String]) -> bool
     ensures { result ≡ list_any is_separator words.now }
 {
     for word in words {
@@ -195,12 +197,16 @@ fn read_farm_fault_options(given: &ArgMatches) -> Option<Faults>
 }
 
 /// How many nodes the world is to have; usual if the option is absent.
-fn read_node_count_option(given: &ArgMatches) -> Option<NodesArg>
+fn read_node_count_option(given: &ArgMatches) -> Option<NodesArgument>
     ensures some { IfSome result (λ nodes. HasOwn (rows_of (found_of given.now)) (World nodes)) }
     ensures none { IfNone result ((nodes : ℕ)
         → ¬ HasOwn (rows_of (found_of given.now)) (World nodes)) }
 {
-    NodesArg::new(read_number_option(given, "nodes", u32::from(NodesArg::with_defaults().get()))?)
+    NodesArgument::new(read_number_option(
+        given,
+        "nodes",
+        u32::from(NodesArgument::with_defaults().get()),
+    )?)
 }
 
 /// How the command is to be run; absent options have their usual values.
@@ -215,7 +221,7 @@ fn read_schedule_options(given: &ArgMatches) -> Option<Options>
     let percent = read_number_option(given, "percent", usual.percent.get())?;
     Some(Options {
         sides: TileSides::new(rows, cols)?,
-        percent: PercentArg::new(percent)?,
+        percent: PercentArgument::new(percent)?,
         stored: read_flag_option(given, "stored"),
     })
 }
@@ -238,7 +244,7 @@ fn read_flag_option(given: &ArgMatches, name: &str) -> bool
 }
 
 /// The values of parameters.
-fn read_parameter_values(
+fn read_parameter_arguments(
     alloc: Global,
     given: &ArgMatches,
 ) -> Result<Vec<(String, i32)>, CommandLineRefusal>
@@ -248,13 +254,13 @@ fn read_parameter_values(
         → (parameters : List Given) → ¬ AreParametersIn (rows_of (found_of given.now)) parameters) }
 {
     match given.get_strs("NAME=VALUE") {
-        Some(words) => parse_parameter_words(alloc, words),
+        Some(words) => parse_all_parameter_arguments(alloc, words),
         None => Ok(Vec::new(alloc)),
     }
 }
 
 /// The values of parameters, one for each word.
-fn parse_parameter_words(
+fn parse_all_parameter_arguments(
     alloc: Global,
     words: &[&str],
 ) -> Result<Vec<(String, i32)>, CommandLineRefusal>
@@ -265,7 +271,7 @@ fn parse_parameter_words(
 {
     let mut parameters = Vec::new(alloc);
     for word in words {
-        let Some((name, value)) = parse_parameter_word(word) else {
+        let Some((name, value)) = parse_parameter_argument(word) else {
             return Err(CommandLineRefusal::Usage);
         };
         parameters.push((String::from_str(alloc, name)?, value))?;

@@ -11,7 +11,10 @@ use streams::{Source, SourceFault, read_all_bytes};
 const MAX_INPUT: usize = 536_870_912;
 
 /// All bytes of the input.
-pub fn read_command_input<R: Source>(alloc: Global, reader: &mut R) -> Result<Vec<u8>, StreamFault>
+pub fn read_command_input_bytes<R: Source>(
+    alloc: Global,
+    reader: &mut R,
+) -> Result<Vec<u8>, StreamFault>
     ensures whole { IfOk result
         (λ input. IfSome (R.remaining reader.old) (λ all. input.items ≡ all)) }
     ensures within { IfOk result (λ input. length input.items ≤ most_input) }

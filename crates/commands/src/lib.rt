@@ -1,4 +1,6 @@
 //! The commands `eval`, `check` and `plan`, and `run_command`: from the words to the exit status.
+//!
+//! Words: run command, eval stream, check stream, plan stream, eval check or plan, eval reply, check line, plan line.
 #![tactic(auto)]
 
 mod answer;

@@ -39,7 +39,7 @@ fn put_plan_line(
 {
     match (job.kind(number), job.name(number)) {
         (Some(StageKind::Function | StageKind::Accumulator), Some(name)) => {
-            put_stage_plan_line(
+            put_plan_line_of_name_and_cost(
                 alloc,
                 lines,
                 &name,
@@ -59,7 +59,7 @@ fn find_plan_line_cost(job: &Job, schedule: &Schedule, number: usize) -> Option<
     schedule.cost(number)
 }
 
-fn put_stage_plan_line(
+fn put_plan_line_of_name_and_cost(
     alloc: Global,
     lines: &mut Vec<u8>,
     name: &Name,

@@ -13,7 +13,7 @@ use crate::answer::compute_eval_reply;
 use crate::plan_lines::make_plan_lines;
 use crate::question::JobQuestion;
 use crate::stage_lines::make_check_lines;
-use command_jobs::make_schedule_of_options;
+use command_jobs::make_requested_schedule;
 use command_line::Options;
 use command_outcomes::JobReply;
 use job::Job;
@@ -36,14 +36,14 @@ pub fn compute_eval_check_or_plan_reply(
     match question {
         JobQuestion::Answer => compute_eval_reply(rt, job, options),
         JobQuestion::Stages => Ok(JobReply::from_lines(make_check_lines(alloc, &job)?)),
-        JobQuestion::Plan => Ok(JobReply::from_lines(make_plan_lines_of_options(
+        JobQuestion::Plan => Ok(JobReply::from_lines(make_requested_plan_lines(
             alloc, options, &job,
         )?)),
     }
 }
 
 /// The lines of the schedule that the options request.
-fn make_plan_lines_of_options(
+fn make_requested_plan_lines(
     alloc: Global,
     options: &Options,
     job: &Job,
@@ -52,6 +52,6 @@ fn make_plan_lines_of_options(
         IfOk result (λ lines. IsPlan job (requested_inlining options.now.stored options.now.percent job)
         lines.items) }
 {
-    let schedule = make_schedule_of_options(alloc, job, options)?;
+    let schedule = make_requested_schedule(alloc, job, options)?;
     make_plan_lines(alloc, job, &schedule)
 }

@@ -17,14 +17,14 @@ pub fn make_check_lines(alloc: Global, job: &Job) -> Result<Vec<u8>, AllocError>
         (λ lines. lines.items ≡ check_bytes (program_text_in job.now) (pipeline_in job.now)) }
 {
     let mut lines = Vec::new(alloc);
-    put_check_identity_line(alloc, &mut lines, b"program", job.program_id().as_bytes())?;
-    put_check_identity_line(alloc, &mut lines, b"input", job.input_id().as_bytes())?;
-    put_check_stage_lines(alloc, &mut lines, job)?;
+    put_check_line_of_identity(alloc, &mut lines, b"program", job.program_id().as_bytes())?;
+    put_check_line_of_identity(alloc, &mut lines, b"input", job.input_id().as_bytes())?;
+    put_check_lines_of_stages(alloc, &mut lines, job)?;
     Ok(lines)
 }
 
 /// A word and an identity.
-fn put_check_identity_line(
+fn put_check_line_of_identity(
     alloc: Global,
     lines: &mut Vec<u8>,
     word: &[u8],
@@ -41,17 +41,21 @@ fn put_check_identity_line(
 }
 
 /// A line for each stage, in order.
-fn put_check_stage_lines(alloc: Global, lines: &mut Vec<u8>, job: &Job) -> Result<(), AllocError>
+fn put_check_lines_of_stages(
+    alloc: Global,
+    lines: &mut Vec<u8>,
+    job: &Job,
+) -> Result<(), AllocError>
     ensures { OnOk result (lines.new.items ≡ lines.old.items ++ stage_lines (pipeline_in job.now)) }
 {
     for number in 0..job.stages().len() {
-        put_check_stage_line(alloc, lines, job, number)?;
+        put_check_line_of_stage(alloc, lines, job, number)?;
     }
     Ok(())
 }
 
 /// The line of the stage of this number, if there is one.
-fn put_check_stage_line(
+fn put_check_line_of_stage(
     alloc: Global,
     lines: &mut Vec<u8>,
     job: &Job,
@@ -62,8 +66,8 @@ fn put_check_stage_line(
 {
     match job.stage(number) {
         Some(stage) => {
-            put_check_stage_head(alloc, lines, number, stage)?;
-            put_check_stage_domain(
+            put_check_line_stage_head(alloc, lines, number, stage)?;
+            put_check_line_domain_and_tiles(
                 alloc,
                 lines,
                 stage.domain(),
@@ -75,7 +79,7 @@ fn put_check_stage_line(
 }
 
 /// The number of a stage, its kind and its name.
-fn put_check_stage_head(
+fn put_check_line_stage_head(
     alloc: Global,
     lines: &mut Vec<u8>,
     number: usize,
@@ -104,7 +108,7 @@ fn choose_check_line_kind_word(body: &Body) -> &'static [u8]
 }
 
 /// The rows and the columns of a domain, and how many tiles there are.
-fn put_check_stage_domain(
+fn put_check_line_domain_and_tiles(
     alloc: Global,
     lines: &mut Vec<u8>,
     domain: &Area,
@@ -112,15 +116,19 @@ fn put_check_stage_domain(
 ) -> Result<(), AllocError>
     ensures { OnOk result (lines.new.items ≡ lines.old.items ++ stage_tail domain.now tiles) }
 {
-    put_check_domain_span(alloc, lines, &domain.rows)?;
-    put_check_domain_span(alloc, lines, &domain.cols)?;
+    put_check_line_domain_span(alloc, lines, &domain.rows)?;
+    put_check_line_domain_span(alloc, lines, &domain.cols)?;
     let count = format!(in alloc; " tiles {tiles}\n")?;
     lines.extend_from_slice(count.as_bytes())?;
     Ok(())
 }
 
 /// A blank and the ends of a span.
-fn put_check_domain_span(alloc: Global, lines: &mut Vec<u8>, span: &Span) -> Result<(), AllocError>
+fn put_check_line_domain_span(
+    alloc: Global,
+    lines: &mut Vec<u8>,
+    span: &Span,
+) -> Result<(), AllocError>
     ensures { OnOk result (lines.new.items ≡ lines.old.items ++ 32 ∷ span_text span.now) }
 {
     let text = format!(in alloc; " {}..{}", span.lo(), span.hi())?;

@@ -11,7 +11,7 @@ use crate::reply::compute_eval_check_or_plan_reply;
 use command_faults::StreamFault;
 use command_inputs::read_input_job;
 use command_line::Options;
-use command_outcomes::{read_command_input, write_job_reply};
+use command_outcomes::{read_command_input_bytes, write_job_reply};
 use std::thread::Threads;
 use streams::{Sink, Source};
 
@@ -100,7 +100,7 @@ fn run_eval_check_or_plan<H: AllocGlobal + Threads + Sync, R: Source, W: Sink>(
     ensures read { CountsRead result (R.failures reader.old) (R.failures reader.new) }
     ensures write { CountsWritten result (W.failures writer.old) (W.failures writer.new) }
 {
-    let input = read_command_input(rt.alloc(), reader)?;
+    let input = read_command_input_bytes(rt.alloc(), reader)?;
     let job = read_input_job(rt.alloc(), options.sides, parameters, input)?;
     let reply = compute_eval_check_or_plan_reply(rt, question, options, job)?;
     Ok(write_job_reply(&reply, writer)?)

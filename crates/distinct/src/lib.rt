@@ -1,4 +1,6 @@
 //! Lists without repeats.
+//!
+//! Words: without repeats.
 #![tactic(auto)]
 
 ghost use Rattle.std.specs.List.{Any, Contains};

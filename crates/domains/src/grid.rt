@@ -118,8 +118,8 @@ impl Grid {
         ensures within { IfSome result IsArea }
         ensures none { IfNone result (¬ (HasTile self.now i j)) }
     {
-        let rows = parts::get_span_part(&self.area.rows, self.sides.height(), i)?;
-        let cols = parts::get_span_part(&self.area.cols, self.sides.width(), j)?;
+        let rows = parts::compute_nth_span_part(&self.area.rows, self.sides.height(), i)?;
+        let cols = parts::compute_nth_span_part(&self.area.cols, self.sides.width(), j)?;
         Some(Area { rows, cols })
     }
 
@@ -130,8 +130,8 @@ impl Grid {
             × IsTileOf self.now row col t) }
         ensures none { IfNone result (¬ (HoldsPoint self.now.area row col)) }
     {
-        let i = parts::find_span_part(&self.area.rows, self.sides.height(), row)?;
-        let j = parts::find_span_part(&self.area.cols, self.sides.width(), col)?;
+        let i = parts::find_span_part_index(&self.area.rows, self.sides.height(), row)?;
+        let j = parts::find_span_part_index(&self.area.cols, self.sides.width(), col)?;
         Some((i, j))
     }
 
@@ -150,14 +150,14 @@ impl Grid {
         let cols = parts::find_meeting_span_parts(&self.area.cols, self.sides.width(), &area.cols);
         let mut tiles = Vec::new(alloc);
         for i in rows.0..rows.1 {
-            push_tiles_of_row(&mut tiles, i, cols)?;
+            push_tiles_of_grid_row(&mut tiles, i, cols)?;
         }
         Ok(tiles)
     }
 }
 
 // Adds the tiles of row `i` from column `cols.0` up to before column `cols.1`.
-fn push_tiles_of_row(
+fn push_tiles_of_grid_row(
     tiles: &mut Vec<(u32, u32)>,
     i: u32,
     cols: (u32, u32),

@@ -20,7 +20,7 @@ pub fn wrapping_is_congruence()
 {}
 
 /// The quotient and the remainder are the one pair that makes up the number, with a remainder from 0 up to below the divisor.
-pub fn division_rounds_down()
+pub fn floor_division_rounds_down()
     ensures splits { (a d : ℤ) → pos 0 <ℤ d → IsFloor a d (floor_div a d) (floor_rem a d) }
     ensures only { (a d q r : ℤ) → pos 0 <ℤ d → IsFloor a d q r
         → (q ≡ floor_div a d) × (r ≡ floor_rem a d) }
@@ -28,7 +28,7 @@ pub fn division_rounds_down()
 {}
 
 /// An index never falls. So images grow with spans, and the image of a bounding box is the bounding box of the images.
-pub fn images_grow()
+pub fn index_images_grow_with_spans()
     ensures rises { (x : Scale) (v w : ℤ) → IsIndex x → v ≤ℤ w → index_at x v ≤ℤ index_at x w }
     ensures grows { (x : Scale) (s t : Ends) → IsIndex x → IsSpan s → IsSubspan s t
         → IsSubspan (image_of x s) (image_of x t) }
@@ -47,14 +47,14 @@ pub fn areas_meet_by_their_spans()
 {}
 
 /// The list of an area's points has each point that it holds once, row by row.
-pub fn points_are_listed()
+pub fn area_points_are_listed_once()
     ensures all { (a : Area) (r c : ℤ) → IsArea a → Contains (points_of a) (r, c)
         ↔ HoldsPoint a r c }
     ensures order { (a : Area) → AllPairs IsPointBefore (points_of a) }
 {}
 
 /// The tiles partition the area: each point lies in exactly one, and no two have a point in common.
-pub fn tiles_part_the_area()
+pub fn tiles_partition_the_area()
     ensures one { (g : Grid) (r c : ℤ) → IsGrid g → HoldsPoint g.area r c
         → IsTileOf g r c (tile_at g r c) }
     ensures within { (g : Grid) (i j : ℕ) (r c : ℤ) → HoldsPoint (tile_area g i j) r c
@@ -65,7 +65,7 @@ pub fn tiles_part_the_area()
 {}
 
 /// A tile is there exactly where its first point lies in the area; the list of the tiles has each that is there, row by row.
-pub fn tiles_are_listed()
+pub fn grid_tiles_are_listed_once()
     ensures begins { (g : Grid) (i j : ℕ) → IsGrid g → HasTile g i j
         ↔ HoldsPoint g.area (g.area.rows.lo +ℤ pos (i * g.sides.height))
         (g.area.cols.lo +ℤ pos (j * g.sides.width)) }
@@ -74,7 +74,7 @@ pub fn tiles_are_listed()
 {}
 
 /// The tiles of a cover hold each point that the grid's area has in common with the area that is covered.
-pub fn covers_hold_their_points()
+pub fn grid_covers_hold_common_points()
     ensures { (g : Grid) (a : Area) (r c : ℤ) → IsGrid g → HoldsPoint g.area r c → HoldsPoint a r c
         → Contains (cover g a) (tile_at g r c) × IsTileOf g r c (tile_at g r c) }
 {}

@@ -1,4 +1,6 @@
 //! Spans of whole numbers, areas of points, the tiles that partition an area, and the indices at which an area is read.
+//!
+//! Words: area, span, grid, side, index, wrapping, floor.
 #![tactic(auto)]
 
 pub mod area;

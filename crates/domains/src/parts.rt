@@ -16,7 +16,7 @@ pub(crate) fn count_span_parts(span: &Span, side: u32) -> u32
 }
 
 // Part `i` of a span; none where there are no more than `i` parts.
-pub(crate) fn get_span_part(span: &Span, side: u32, i: u32) -> Option<Span>
+pub(crate) fn compute_nth_span_part(span: &Span, side: u32, i: u32) -> Option<Span>
     requires least { 1 ≤ side }
     requires most { side ≤ 1024 }
     ensures some { IfSome result (λ p. (i < part_count span.now side)
@@ -33,7 +33,7 @@ pub(crate) fn get_span_part(span: &Span, side: u32, i: u32) -> Option<Span>
 }
 
 // The part in which `v`, a number of the span, lies.
-fn find_span_part_of_member(span: &Span, side: u32, v: i32) -> u32
+fn compute_span_part_index(span: &Span, side: u32, v: i32) -> u32
     requires side { 1 ≤ side }
     requires holds { Holds span.now v }
     ensures at { result ≡ part_at span.now side v }
@@ -44,14 +44,14 @@ fn find_span_part_of_member(span: &Span, side: u32, v: i32) -> u32
 }
 
 // The part in which `v` lies; none outside the span.
-pub(crate) fn find_span_part(span: &Span, side: u32, v: i32) -> Option<u32>
+pub(crate) fn find_span_part_index(span: &Span, side: u32, v: i32) -> Option<u32>
     requires { 1 ≤ side }
     ensures at { IfSome result (λ i. i ≡ part_at span.now side v) }
     ensures some { IfSome result (λ i. Holds span.now v × IsPlace span.now side v i) }
     ensures none { IfNone result (¬ (Holds span.now v)) }
 {
     if span.holds(v) {
-        Some(find_span_part_of_member(span, side, v))
+        Some(compute_span_part_index(span, side, v))
     } else {
         None
     }
@@ -69,8 +69,8 @@ pub(crate) fn find_meeting_span_parts(span: &Span, side: u32, other: &Span) -> (
 {
     match span.meet(other) {
         Some(common) => (
-            find_span_part_of_member(span, side, common.lo()),
-            find_span_part_of_member(span, side, common.hi()) + 1,
+            compute_span_part_index(span, side, common.lo()),
+            compute_span_part_index(span, side, common.hi()) + 1,
         ),
         None => (0, 0),
     }

@@ -1,4 +1,6 @@
 //! Which facts are true of the jobs of a catalog: verdicts, by whole stages that are computed without a schedule.
+//!
+//! Words: audit, audited, audited stage, judge, verdict, true fact, well shaped, job of fact key.
 #![tactic(auto)]
 
 pub mod laws;

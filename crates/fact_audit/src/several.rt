@@ -7,12 +7,12 @@ ghost use Rattle.fact_audit.specs.inside.Ready.{AreNamed, AreReady, AreStagesFor
 
 use crate::truth::judge_fact_by_stages;
 use crate::verdict::Verdict;
-use catalog::{Catalog, compute_job_ids};
+use catalog::{Catalog, compute_catalog_job_ids};
 use identity::{JobId, Key};
 use job::Job;
 use std::alloc::{AllocError, Global};
 use tile_fact::Fact;
-use whole_stages::TrueStages;
+use whole_stages::WholeStages;
 
 /// Judges facts by the jobs of a catalog: for each in order, the verdict of [`audit`](crate::audit). The stages of each job that
 /// facts name, and what these read, are computed whole, each once. All are kept until the last verdict. For a fact of no job
@@ -28,7 +28,7 @@ pub fn audit_facts(
 ) -> Result<Vec<Verdict>, AllocError>
     ensures { IfOk result (λ verdicts. AreVerdicts catalog.now facts.now verdicts.items) }
 {
-    let known = compute_stages_of_facts_by_job(alloc, catalog, facts)?;
+    let known = compute_audited_stages_by_job(alloc, catalog, facts)?;
     let mut verdicts = Vec::with_capacity(alloc, facts.len())?;
     for fact in facts {
         verdicts.push(judge_fact_among_jobs(alloc, catalog, &known, fact)?)?;
@@ -40,7 +40,7 @@ pub fn audit_facts(
 fn judge_fact_among_jobs(
     alloc: Global,
     catalog: &Catalog,
-    known: &[TrueStages<'_>],
+    known: &[WholeStages<'_>],
     fact: &Fact,
 ) -> Result<Verdict, AllocError>
     requires { IsReady catalog.now known.now fact.now }
@@ -53,11 +53,11 @@ fn judge_fact_among_jobs(
 }
 
 // The stages of each job that facts name, in the order of the jobs.
-fn compute_stages_of_facts_by_job<'a>(
+fn compute_audited_stages_by_job<'a>(
     alloc: Global,
     catalog: &'a Catalog,
     facts: &[Fact],
-) -> Result<Vec<TrueStages<'a>>, AllocError>
+) -> Result<Vec<WholeStages<'a>>, AllocError>
     ensures { IfOk result (λ known. AreReady catalog.now facts.now known.items) }
 {
     let mut known = Vec::with_capacity(alloc, catalog.len())?;
@@ -65,25 +65,25 @@ fn compute_stages_of_facts_by_job<'a>(
         let Some(job) = catalog.job(index) else {
             unreachable!();
         };
-        known.push(compute_true_stages_of_facts(alloc, job, facts)?)?;
+        known.push(compute_audited_stages_of_job(alloc, job, facts)?)?;
     }
     Ok(known)
 }
 
 // The stages of a job that facts name, and what these read.
-fn compute_true_stages_of_facts<'a>(
+fn compute_audited_stages_of_job<'a>(
     alloc: Global,
     job: &'a Job,
     facts: &[Fact],
-) -> Result<TrueStages<'a>, AllocError>
+) -> Result<WholeStages<'a>, AllocError>
     ensures { IfOk result (AreStagesFor facts.now (entry_of job.now)) }
 {
-    let stages = list_stages_of_facts(alloc, &compute_job_ids(job), facts)?;
-    TrueStages::from_job(alloc, job, &stages)
+    let stages = list_audited_stage_numbers(alloc, &compute_catalog_job_ids(job), facts)?;
+    WholeStages::from_job(alloc, job, &stages)
 }
 
 // The stages that facts name of the job of these identities.
-fn list_stages_of_facts(
+fn list_audited_stage_numbers(
     alloc: Global,
     ids: &JobId,
     facts: &[Fact],
@@ -93,7 +93,7 @@ fn list_stages_of_facts(
     let mut stages = Vec::new(alloc);
     for fact in facts {
         let key = fact.key();
-        if is_fact_key_of_job(key, ids) {
+        if is_key_of_audited_job(key, ids) {
             stages.push(usize::from(key.stage))?;
         }
     }
@@ -101,7 +101,7 @@ fn list_stages_of_facts(
 }
 
 // Whether the key names the job of these identities.
-fn is_fact_key_of_job(key: &Key, ids: &JobId) -> bool
+fn is_key_of_audited_job(key: &Key, ids: &JobId) -> bool
     ensures { IsTrue result ↔ ids.now ≡ ids_in key.now }
 {
     ids.program.as_bytes() == key.program.as_bytes() && ids.input.as_bytes() == key.input.as_bytes()

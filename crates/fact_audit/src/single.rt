@@ -12,7 +12,7 @@ use identity::{JobId, Key};
 use job::Job;
 use std::alloc::{AllocError, Global};
 use tile_fact::Fact;
-use whole_stages::TrueStages;
+use whole_stages::WholeStages;
 
 /// Judges a fact by the jobs of a catalog. The stage that the fact names is computed whole, after what it reads.
 ///
@@ -28,7 +28,7 @@ pub fn audit(alloc: Global, catalog: &Catalog, fact: &Fact) -> Result<Verdict, A
     if !is_well_shaped_fact(job, fact) {
         return Ok(Verdict::Misshapen);
     }
-    let stages = TrueStages::from_job(alloc, job, &[usize::from(fact.key().stage)])?;
+    let stages = WholeStages::from_job(alloc, job, &[usize::from(fact.key().stage)])?;
     judge_fact_by_stages(alloc, &stages, fact)
 }
 

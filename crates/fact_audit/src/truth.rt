@@ -12,7 +12,7 @@ use crate::verdict::Verdict;
 use reductions::compute_true_partial;
 use std::alloc::{AllocError, Global};
 use tile_fact::{Body, Fact};
-use whole_stages::TrueStages;
+use whole_stages::WholeStages;
 
 /// The verdict on a fact by its job, whose stages were computed whole.
 ///
@@ -21,7 +21,7 @@ use whole_stages::TrueStages;
 /// Fails only where memory is refused.
 pub(crate) fn judge_fact_by_stages(
     alloc: Global,
-    stages: &TrueStages<'_>,
+    stages: &WholeStages<'_>,
     fact: &Fact,
 ) -> Result<Verdict, AllocError>
     requires { IsServed (pipeline_in stages.now.job.now) stages.now.known.buffers.items
@@ -31,16 +31,16 @@ pub(crate) fn judge_fact_by_stages(
     if !is_well_shaped_fact(stages.job(), fact) {
         return Ok(Verdict::Misshapen);
     }
-    if is_fact_true_of_job(alloc, stages, fact)? {
+    if is_true_fact_of_job(alloc, stages, fact)? {
         return Ok(Verdict::True);
     }
     Ok(Verdict::False)
 }
 
 // Whether a fact is true of the job.
-fn is_fact_true_of_job(
+fn is_true_fact_of_job(
     alloc: Global,
-    stages: &TrueStages<'_>,
+    stages: &WholeStages<'_>,
     fact: &Fact,
 ) -> Result<bool, AllocError>
     requires { IsServed (pipeline_in stages.now.job.now) stages.now.known.buffers.items
@@ -51,23 +51,23 @@ fn is_fact_true_of_job(
     let stage = usize::from(key.stage);
     match fact.body() {
         Body::Tile(samples) => match stages.copy_tile_values(alloc, stage, key.row, key.col)? {
-            Some(values) => Ok(has_only_true_samples(samples.as_slice(), &values)),
+            Some(values) => Ok(are_samples_of_true_fact(samples.as_slice(), &values)),
             None => Ok(false),
         },
         Body::Partial(bins) => match compute_true_partial(alloc, stages, stage, key.row, key.col)? {
-            Some(totals) => Ok(has_only_true_bins(bins.as_slice(), &totals)),
+            Some(totals) => Ok(are_bins_of_true_fact(bins.as_slice(), &totals)),
             None => Ok(false),
         },
     }
 }
 
-fn has_only_true_samples(samples: &[i32], values: &Vec<i32>) -> bool
+fn are_samples_of_true_fact(samples: &[i32], values: &Vec<i32>) -> bool
     ensures { IsTrue result ↔ samples.now ≡ values.now.items }
 {
     samples == values.as_slice()
 }
 
-fn has_only_true_bins(bins: &[i64], totals: &Vec<i64>) -> bool
+fn are_bins_of_true_fact(bins: &[i64], totals: &Vec<i64>) -> bool
     ensures { IsTrue result ↔ bins.now ≡ totals.now.items }
 {
     bins == totals.as_slice()

@@ -7,7 +7,7 @@ ghost use Rattle.fact_commands.specs.Auditing.{SaysVerdicts};
 ghost use Rattle.fact_commands.specs.Verdicts.{audit_lines};
 
 use crate::fact_input::read_audit_input;
-use crate::finding::{AuditFinding, find_false_audit_verdict};
+use crate::finding::{AuditFinding, make_finding_of_audit_verdicts};
 use command_faults::StreamFault;
 use command_inputs::make_catalog_of_input_job;
 use command_line::Options;
@@ -44,7 +44,7 @@ pub fn judge_facts_of_audit_input(
     let FactFileContents { retired, facts } = contents;
     let catalog = make_catalog_of_input_job(alloc, job)?;
     let verdicts = audit_facts(alloc, &catalog, &facts)?;
-    let found = find_false_audit_verdict(&verdicts);
+    let found = make_finding_of_audit_verdicts(&verdicts);
     Ok(AuditJudgment {
         facts,
         verdicts,

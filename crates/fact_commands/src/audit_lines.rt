@@ -48,10 +48,10 @@ fn put_audit_lines<W: Sink>(
         (W.failures writer.old) (W.failures writer.new) }
 {
     put_audit_verdict_lines(buffer, writer, facts, verdicts)?;
-    put_audit_retired_job_lines(buffer, writer, retired)
+    put_retirement_audit_lines(buffer, writer, retired)
 }
 
-fn put_audit_retired_job_lines<W: Sink>(
+fn put_retirement_audit_lines<W: Sink>(
     buffer: &mut WriteBuffer,
     writer: &mut W,
     retired: &[JobId],
@@ -61,12 +61,12 @@ fn put_audit_retired_job_lines<W: Sink>(
         (W.failures writer.old) (W.failures writer.new) }
 {
     for job in retired {
-        put_audit_retired_job_line(buffer, writer, job)?;
+        put_retirement_audit_line(buffer, writer, job)?;
     }
     Ok(())
 }
 
-fn put_audit_retired_job_line<W: Sink>(
+fn put_retirement_audit_line<W: Sink>(
     buffer: &mut WriteBuffer,
     writer: &mut W,
     job: &JobId,
@@ -75,13 +75,13 @@ fn put_audit_retired_job_line<W: Sink>(
         (W.contents writer.old) (W.contents writer.new)
         (W.failures writer.old) (W.failures writer.new) }
 {
-    let program = encode_id_for_audit_line(job.program.as_bytes());
-    let input = encode_id_for_audit_line(job.input.as_bytes());
+    let program = encode_id_in_hex_for_audit_line(job.program.as_bytes());
+    let input = encode_id_in_hex_for_audit_line(job.input.as_bytes());
     buffer.put_slices(writer, &[b"Retired ", &program, b" ", &input, b"\n"])
 }
 
 // Two lower-case hexadecimal digits for each byte.
-fn encode_id_for_audit_line(bytes: &[u8; 32]) -> [u8; 64]
+fn encode_id_in_hex_for_audit_line(bytes: &[u8; 32]) -> [u8; 64]
     ensures { result ≡ encode_lower bytes.now }
 {
     let mut digits = [0; 64];

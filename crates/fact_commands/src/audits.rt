@@ -10,7 +10,7 @@ use crate::audit_lines::write_audit_lines;
 use crate::finding::AuditFinding;
 use command_faults::StreamFault;
 use command_line::Options;
-use command_outcomes::read_command_input;
+use command_outcomes::read_command_input_bytes;
 use streams::{Sink, Source};
 
 /// Reads a program, fact files and a picture. Writes a line for each fact of the files, rising: the verdict, its stage, its row
@@ -37,7 +37,7 @@ pub fn audit_stream<H: AllocGlobal, R: Source, W: Sink>(
     ensures read { CountsRead result (R.failures reader.old) (R.failures reader.new) }
     ensures write { CountsWritten result (W.failures writer.old) (W.failures writer.new) }
 {
-    let input = read_command_input(rt.alloc(), reader)?;
+    let input = read_command_input_bytes(rt.alloc(), reader)?;
     let judged = judge_facts_of_audit_input(rt.alloc(), options, parameters, input)?;
     write_audit_lines(&judged.facts, &judged.verdicts, &judged.retired, writer)?;
     Ok(judged.found)

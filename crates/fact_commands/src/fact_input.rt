@@ -8,9 +8,9 @@ ghost use Rattle.job.specs.Kept.{pipeline_in};
 ghost use Rattle.job.specs.WellFormed.{IsJob, IsSmall};
 
 use command_faults::StreamFault;
-use command_inputs::read_input_job_and_middle;
+use command_inputs::read_input_job_and_middle_section;
 use domains::TileSides;
-use fact_lines::{FactFileContents, join_fact_files};
+use fact_lines::{FactFileContents, join_fact_file_lines};
 use job::Job;
 use std::alloc::Global;
 
@@ -28,8 +28,8 @@ pub fn read_audit_input(
     ensures small { IfOk result (λ read. IsSmall (pipeline_in read.0)) }
     ensures fault { IfErr result (IsAuditFault input.items given.now sides) }
 {
-    let (job, middle) = read_input_job_and_middle(alloc, sides, given, input.as_slice())?;
-    let contents = join_fact_files(alloc, middle)?;
+    let (job, middle) = read_input_job_and_middle_section(alloc, sides, given, input.as_slice())?;
+    let contents = join_fact_file_lines(alloc, middle)?;
     Ok((job, contents))
 }
 
@@ -39,5 +39,5 @@ pub fn read_merge_input(alloc: Global, input: Vec<u8>) -> Result<FactFileContent
         (λ contents. IsJoin input.items contents.retired.items contents.facts.items) }
     ensures fault { IfErr result (IsMergeFault input.items) }
 {
-    Ok(join_fact_files(alloc, input.as_slice())?)
+    Ok(join_fact_file_lines(alloc, input.as_slice())?)
 }

@@ -14,7 +14,7 @@ pub enum AuditFinding {
 }
 
 /// What the verdicts found.
-pub fn find_false_audit_verdict(verdicts: &[Verdict]) -> AuditFinding
+pub fn make_finding_of_audit_verdicts(verdicts: &[Verdict]) -> AuditFinding
     ensures { IsFinding result verdicts.now }
 {
     if verdicts.contains(&Verdict::False) {

@@ -1,4 +1,6 @@
 //! The commands `merge` and `audit`: from an input to the lines that they write.
+//!
+//! Words: audit stream, audit input, audit line, audit verdict, merge stream, merge input.
 #![tactic(auto)]
 
 mod audit;

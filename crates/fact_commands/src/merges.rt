@@ -10,9 +10,9 @@ ghost use Rattle.fact_commands.specs.Merging.{saying_join};
 
 use crate::fact_input::read_merge_input;
 use command_faults::StreamFault;
-use command_outcomes::read_command_input;
+use command_outcomes::read_command_input_bytes;
 use fact_lines::{
-    FactFileContents, FactFileCounts, count_fact_file_contents, write_fact_file_line,
+    FactFileContents, FactFileCounts, count_fact_file_line_contents, write_fact_file_line,
 };
 use std::alloc::Global;
 use streams::{Sink, Source};
@@ -35,7 +35,7 @@ pub fn merge_stream<H: AllocGlobal, R: Source, W: Sink>(
     ensures read { CountsRead result (R.failures reader.old) (R.failures reader.new) }
     ensures write { CountsWritten result (W.failures writer.old) (W.failures writer.new) }
 {
-    let input = read_command_input(rt.alloc(), reader)?;
+    let input = read_command_input_bytes(rt.alloc(), reader)?;
     let (contents, counts) = join_and_count_merge_input(rt.alloc(), input)?;
     Ok(write_fact_file_line(&contents.retired, &contents.facts, counts, writer)?)
 }
@@ -52,7 +52,7 @@ fn join_and_count_merge_input(
     ensures fault { IfErr result (IsMergeFault input.items) }
 {
     let contents = read_merge_input(alloc, input)?;
-    match count_fact_file_contents(&contents.retired, &contents.facts) {
+    match count_fact_file_line_contents(&contents.retired, &contents.facts) {
         Some(counts) => Ok((contents, counts)),
         None => Err(StreamFault::Memory),
     }

@@ -21,7 +21,7 @@ use tile_fact::Fact;
 ///
 /// Each line ends with LF or at the end of the text. It is one file in hexadecimal digits of either case, or empty and skipped. A
 /// text of no file has neither. A line's bad digits are found without any memory.
-pub fn join_fact_files(alloc: Global, text: &[u8]) -> Result<FactFileContents, FactLinesFault>
+pub fn join_fact_file_lines(alloc: Global, text: &[u8]) -> Result<FactFileContents, FactLinesFault>
     // The lists are what the text's files hold together.
     ensures found { IfOk result (λ contents. IsJoin text.now contents.retired.items contents.facts.items) }
 
@@ -34,7 +34,7 @@ pub fn join_fact_files(alloc: Global, text: &[u8]) -> Result<FactFileContents, F
     } = read_fact_file_lines(alloc, text)?;
     sort_without_repeats(&mut retired);
     sort_without_repeats(&mut facts);
-    remove_retired_facts_of_files(&retired, &mut facts);
+    remove_facts_retired_by_fact_lines(&retired, &mut facts);
     Ok(FactFileContents { retired, facts })
 }
 
@@ -57,15 +57,15 @@ fn read_fact_file_lines(alloc: Global, text: &[u8]) -> Result<FactFileContents, 
 }
 
 // Removes the facts of these jobs, which rise, from the list.
-fn remove_retired_facts_of_files(jobs: &[JobId], facts: &mut Vec<Fact>)
+fn remove_facts_retired_by_fact_lines(jobs: &[JobId], facts: &mut Vec<Fact>)
     ensures { IsStrictlySortedBy ids_cmp jobs.now
         → facts.new.items ≡ filter (λ fact. not (is_retired jobs.now fact)) facts.old.items }
 {
-    facts.retain(|fact| !is_retired_fact_of_files(jobs, fact));
+    facts.retain(|fact| !is_fact_retired_by_fact_lines(jobs, fact));
 }
 
 // Whether the fact is of one of these jobs, if they rise.
-fn is_retired_fact_of_files(jobs: &[JobId], fact: &Fact) -> bool
+fn is_fact_retired_by_fact_lines(jobs: &[JobId], fact: &Fact) -> bool
     ensures { IsStrictlySortedBy ids_cmp jobs.now → result ≡ is_retired jobs.now fact.now }
 {
     jobs.binary_search(&JobId::from_key(fact.key())).is_ok()

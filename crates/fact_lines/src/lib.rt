@@ -1,4 +1,6 @@
 //! Texts of fact files, a line for each in hexadecimal digits: what they hold together, and the line of a file.
+//!
+//! Words: fact line, fact file line, hex fact, hex fact file, hex fact record, hex retired job.
 #![tactic(auto)]
 
 mod contents;
@@ -11,7 +13,7 @@ mod writing;
 
 pub use contents::FactFileContents;
 pub use fault::FactLinesFault;
-pub use join::join_fact_files;
+pub use join::join_fact_file_lines;
 pub use writing::{
-    FactFileCounts, count_fact_file_contents, put_fact_file_line, write_fact_file_line,
+    FactFileCounts, count_fact_file_line_contents, put_fact_file_line, write_fact_file_line,
 };

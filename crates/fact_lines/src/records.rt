@@ -13,7 +13,7 @@ use tile_fact::{Body, Fact};
 use write_buffer::WriteBuffer;
 
 /// Puts the digits of the count of the facts and of their records.
-pub fn put_hex_counted_facts<W: Sink>(
+pub fn put_hex_fact_count_and_records<W: Sink>(
     buffer: &mut WriteBuffer,
     writer: &mut W,
     count: u32,

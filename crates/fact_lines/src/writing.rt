@@ -9,7 +9,7 @@ ghost use Rattle.tile_fact.specs.FactFile.{fact_file};
 ghost use Rattle.fact_lines.specs.Written.{AreCounts, written};
 
 use crate::head::put_hex_fact_file_head;
-use crate::records::put_hex_counted_facts;
+use crate::records::put_hex_fact_count_and_records;
 use identity::JobId;
 use streams::{Sink, WriteFailed};
 use tile_fact::Fact;
@@ -23,7 +23,7 @@ pub struct FactFileCounts {
 }
 
 /// How many there are, if a fact file can count them: none if there are more than 4,294,967,295 of either.
-pub fn count_fact_file_contents(retired: &[JobId], facts: &[Fact]) -> Option<FactFileCounts>
+pub fn count_fact_file_line_contents(retired: &[JobId], facts: &[Fact]) -> Option<FactFileCounts>
     ensures { MatchOption result ((2 ^ 32 ≤ length retired.now) ⊎ (2 ^ 32 ≤ length facts.now))
         (λ counts. AreCounts counts retired.now facts.now) }
 {
@@ -83,5 +83,5 @@ fn put_hex_fact_file<W: Sink>(
         (W.failures writer.old) (W.failures writer.new) }
 {
     put_hex_fact_file_head(buffer, writer, counts.retired, retired)?;
-    put_hex_counted_facts(buffer, writer, counts.facts, facts)
+    put_hex_fact_count_and_records(buffer, writer, counts.facts, facts)
 }

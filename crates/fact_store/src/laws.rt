@@ -10,7 +10,7 @@ ghost use Rattle.tile_fact.specs.Order.{Rises};
 
 /// Sets of the same facts are equal. The empty set has no fact. A set with one more fact has this one and those that it had, and
 /// a join has the facts of both.
-pub fn sets_are_their_facts()
+pub fn fact_sets_are_their_facts()
     ensures same { (s t : FactSet) →
         ((f : Fact) → (holds s f ≡ true) ↔ (holds t f ≡ true)) → s ≡ t }
     ensures nothing { (f : Fact) → holds nothing f ≡ false }
@@ -23,7 +23,7 @@ pub fn sets_are_their_facts()
 {}
 
 /// The facts of a key are those of the set that have it, and what a set lacks of another is what only the other has.
-pub fn parts_of_sets_are_exact()
+pub fn fact_set_selections_are_exact()
     ensures of_key { (s : FactSet) (key : Key) (f : Fact) →
         Contains (facts_of s key) f ↔ ((holds s f ≡ true) × (f.key ≡ key)) }
     ensures lacked { (s t : FactSet) (f : Fact) →
@@ -31,7 +31,7 @@ pub fn parts_of_sets_are_exact()
 {}
 
 /// Join is commutative, associative and idempotent, and the least set of which both are part.
-pub fn set_join_is_least_upper_bound()
+pub fn fact_set_join_is_least_upper_bound()
     ensures commutative { (s t : FactSet) → join s t ≡ join t s }
     ensures associative { (s t u : FactSet) → join (join s t) u ≡ join s (join t u) }
     ensures idempotent { (s : FactSet) → join s s ≡ s }
@@ -42,7 +42,7 @@ pub fn set_join_is_least_upper_bound()
 {}
 
 /// Facts may come in any order, more than once, and through joins: the set is the same.
-pub fn order_of_facts_is_forgotten()
+pub fn fact_sets_ignore_order_and_repeats()
     ensures swapped { (s : FactSet) (f g : Fact) →
         with_fact (with_fact s f) g ≡ with_fact (with_fact s g) f }
     ensures twice { (s : FactSet) (f : Fact) → with_fact (with_fact s f) f ≡ with_fact s f }
@@ -51,7 +51,7 @@ pub fn order_of_facts_is_forgotten()
 
 /// Of what a merge adds, the facts of jobs that either side has retired are left out. Those are the other's facts of jobs that
 /// are retired here.
-pub fn merges_count_new_facts()
+pub fn fact_set_merges_count_unretired_facts()
     ensures { (old other : FactSet) (ours theirs : List JobId)
         → ((f : Fact) → holds old f ≡ true → names_one ours f.key ≡ false)
         → ((f : Fact) → holds other f ≡ true → names_one theirs f.key ≡ false)

@@ -10,8 +10,8 @@ ghost use Rattle.std.specs.Prelude.{◌≡◌, ◌≤◌, ◌<◌, ◌^◌, true
 ghost use Rattle.tile_fact.specs.Order.{fact_cmp};
 
 use crate::sorted::{
-    count_facts_not_above, find_fact_place, get_fact_at_index, is_fact_key_of_jobs,
-    push_fact_copies,
+    count_sorted_facts_not_above, find_place_in_sorted_facts, get_sorted_fact_at_index,
+    is_fact_set_key_of_jobs, push_sorted_fact_copies,
 };
 use crate::store::FactStore;
 use identity::{JobId, Key};
@@ -65,7 +65,7 @@ impl KeyFacts {
         ensures { IfOk result (λ table. table ≡ insert facts.now place fact.now) }
     {
         let mut copies = Vec::with_capacity(alloc, facts.len() + 1)?;
-        push_fact_copies(&mut copies, facts)?;
+        push_sorted_fact_copies(&mut copies, facts)?;
         copies.insert(place, fact.clone()?)?;
         let facts = ArcSlice::from_vec(copies)?;
         Ok(KeyFacts { facts })
@@ -118,34 +118,35 @@ impl FactStore for TableFacts {
         match self.add_fact_tables_with_undo(&other.tables, &mut undo) {
             Ok(new) => Ok(new),
             Err(fault) => {
-                restore_facts_of_keys(&mut self.tables, undo);
+                restore_table_facts_of_keys(&mut self.tables, undo);
                 Err(fault)
             }
         }
     }
 
     fn remove_facts_of_jobs(&mut self, jobs: &[JobId]) {
-        self.tables.retain(|key, _| !is_fact_key_of_jobs(jobs, key));
+        self.tables
+            .retain(|key, _| !is_fact_set_key_of_jobs(jobs, key));
     }
 
     fn count_facts_of_key(&self, key: &Key) -> usize {
-        self.find_facts_of_key(key).len()
+        self.find_sorted_facts_of_key(key).len()
     }
 
     fn find_nth_fact_of_key(&self, key: &Key, n: usize) -> Option<&Fact> {
-        get_fact_at_index(self.find_facts_of_key(key), n)
+        get_sorted_fact_at_index(self.find_sorted_facts_of_key(key), n)
     }
 
     fn find_least_fact_of_all_keys(&self) -> Option<&Fact> {
         match self.tables.first_key_value() {
-            Some((_, table)) => get_fact_at_index(table.as_slice(), 0),
+            Some((_, table)) => get_sorted_fact_at_index(table.as_slice(), 0),
             None => None,
         }
     }
 
     fn find_least_fact_above(&self, fact: &Fact) -> Option<&Fact> {
-        let facts = self.find_facts_of_key(fact.key());
-        match get_fact_at_index(facts, count_facts_not_above(facts, fact)) {
+        let facts = self.find_sorted_facts_of_key(fact.key());
+        match get_sorted_fact_at_index(facts, count_sorted_facts_not_above(facts, fact)) {
             Some(next) => Some(next),
             None => self.find_least_fact_above_key(fact.key()),
         }
@@ -154,7 +155,7 @@ impl FactStore for TableFacts {
 
 impl TableFacts {
     // The facts of the key.
-    fn find_facts_of_key(&self, key: &Key) -> &[Fact]
+    fn find_sorted_facts_of_key(&self, key: &Key) -> &[Fact]
         ensures table { result.now ≡ table_at self.now.tables.entries key.now }
         ensures rising { rises result.now ≡ true }
     {
@@ -171,7 +172,7 @@ impl TableFacts {
     {
         let above = (Bound::Excluded(*key), Bound::Unbounded);
         match self.tables.range(above).next() {
-            Some((_, table)) => get_fact_at_index(table.as_slice(), 0),
+            Some((_, table)) => get_sorted_fact_at_index(table.as_slice(), 0),
             None => None,
         }
     }
@@ -190,8 +191,8 @@ impl TableFacts {
             (λ _. holds (set_in self.old.tables.entries) fact.now ≡ false) }
         ensures unchanged { OnErr result (self.new.tables.entries ≡ self.old.tables.entries) }
     {
-        let facts = self.find_facts_of_key(fact.key());
-        let Err(at) = find_fact_place(facts, fact) else {
+        let facts = self.find_sorted_facts_of_key(fact.key());
+        let Err(at) = find_place_in_sorted_facts(facts, fact) else {
             return Ok(None);
         };
         let table = KeyFacts::from_insertion(self.alloc, facts, at, fact)?;
@@ -272,7 +273,11 @@ impl TableFacts {
 }
 
 // Restores the former entry of a key.
-fn restore_facts_of_key(tables: &mut BTreeMap<Key, KeyFacts>, key: &Key, former: Option<KeyFacts>)
+fn restore_table_facts_of_key(
+    tables: &mut BTreeMap<Key, KeyFacts>,
+    key: &Key,
+    former: Option<KeyFacts>,
+)
     ensures { tables.new.entries ≡ undo_one (key.now, former) tables.old.entries }
 {
     match former {
@@ -288,11 +293,14 @@ fn restore_facts_of_key(tables: &mut BTreeMap<Key, KeyFacts>, key: &Key, former:
 }
 
 // Undoes changes, from the last on.
-fn restore_facts_of_keys(tables: &mut BTreeMap<Key, KeyFacts>, undo: Vec<(Key, Option<KeyFacts>)>)
+fn restore_table_facts_of_keys(
+    tables: &mut BTreeMap<Key, KeyFacts>,
+    undo: Vec<(Key, Option<KeyFacts>)>,
+)
     ensures { tables.new.entries ≡ undone undo.items tables.old.entries }
 {
     let mut rest = undo;
     while let Some((key, former)) = rest.pop() {
-        restore_facts_of_key(tables, &key, former);
+        restore_table_facts_of_key(tables, &key, former);
     }
 }

@@ -23,7 +23,7 @@ use std::vec;
 /// # Errors
 ///
 /// `Close` where receipts do not match a node's history, before `Memory` of a worker.
-pub fn close_nodes_and_check_memory<C: NamedCatalog>(
+pub fn close_farm_nodes_and_check_memory<C: NamedCatalog>(
     alloc: Global,
     nodes: Vec<FarmNode<C>>,
     ends: Vec<WorkerReceipts>,
@@ -32,19 +32,19 @@ pub fn close_nodes_and_check_memory<C: NamedCatalog>(
     ensures count { IfOk result (λ closed. length closed.items ≡ length nodes.items) }
     ensures memory { IfOk result (λ _. list_any (λ end. end.memory) ends.items ≡ false) }
 {
-    let memory = has_worker_memory_fault(&ends);
-    add_worker_memory_fault(memory, close_each_farm_node(alloc, nodes, ends))
+    let memory = has_any_farm_worker_lacked_memory(&ends);
+    fail_if_farm_worker_lacked_memory(memory, close_each_farm_node(alloc, nodes, ends))
 }
 
 // Whether one of these workers ran out of memory.
-fn has_worker_memory_fault(ends: &[WorkerReceipts]) -> bool
+fn has_any_farm_worker_lacked_memory(ends: &[WorkerReceipts]) -> bool
     ensures { result ≡ list_any (λ end. end.memory) ends.now }
 {
     ends.iter().any(|end| end.memory)
 }
 
 // The result of closing all nodes, by whether some worker ran out of memory.
-fn add_worker_memory_fault<T: Drop>(
+fn fail_if_farm_worker_lacked_memory<T: Drop>(
     memory: bool,
     closing: Result<T, FarmFault>,
 ) -> Result<T, FarmFault>
@@ -112,7 +112,7 @@ fn close_farm_node<C: NamedCatalog>(
 }
 
 /// The facts of the keys that any of the nodes holds at the end. A retirement at one node excludes no fact of another.
-pub fn collect_facts_of_closed_nodes(
+pub fn collect_facts_of_closed_farm_nodes(
     alloc: Global,
     keys: &[Key],
     closed: &[ClosedNode],
@@ -121,14 +121,14 @@ pub fn collect_facts_of_closed_nodes(
 {
     let mut all = HeldFacts::new(alloc);
     for one in closed {
-        let lent = lend_facts_of_closed_node(alloc, keys, one.state().held())?;
+        let lent = lend_facts_of_closed_farm_node(alloc, keys, one.state().held())?;
         all.merge(&lent)?;
     }
     Ok(all)
 }
 
 // The held facts of the keys. Of some keys nothing may be held.
-fn lend_facts_of_closed_node(
+fn lend_facts_of_closed_farm_node(
     alloc: Global,
     keys: &[Key],
     held: &HeldFacts,

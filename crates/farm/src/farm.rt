@@ -6,10 +6,10 @@ ghost use Rattle.farm.specs.Reports.{IsSoundEnd, all_held};
 ghost use Rattle.farm_answers.specs.Answering.{IsAnswerOf, IsPlanned, missing_work};
 ghost use Rattle.netpbm.specs.Image.{IsImage};
 
-use crate::closing::{close_nodes_and_check_memory, collect_facts_of_closed_nodes};
+use crate::closing::{close_farm_nodes_and_check_memory, collect_facts_of_closed_farm_nodes};
 use crate::fault::FarmFault;
 use crate::hand::{WorkerReceipts, WorkerSeat};
-use crate::node::{FarmNode, WORKERS, open_farm_nodes, open_mailbox_ports};
+use crate::node::{FarmNode, WORKERS, open_farm_nodes, open_ports_to_farm_node_mailboxes};
 use crate::report::FarmReport;
 use crate::threads::run_and_join_farm_threads;
 use crate::worker::FarmWorker;
@@ -66,8 +66,10 @@ impl Farm {
             schedule,
             keys: &keys,
         };
-        let closed = run_farm_nodes::<Brand, G, R>(rt, alloc, catalog, &plan, setup, gate)?;
-        let held = collect_facts_of_closed_nodes(alloc, &keys, &closed)?;
+        let closed = open_run_and_close_farm_nodes::<Brand, G, R>(
+            rt, alloc, catalog, &plan, setup, gate,
+        )?;
+        let held = collect_facts_of_closed_farm_nodes(alloc, &keys, &closed)?;
         let done = complete_farm_answer(alloc, catalog, job, schedule, held)?;
         Ok(FarmReport {
             answer: done.answer,
@@ -94,7 +96,7 @@ struct FarmSharedState<'a, C: NamedCatalog> {
 }
 
 // The ends of all nodes, after their workers have gone through all turns.
-fn run_farm_nodes<
+fn open_run_and_close_farm_nodes<
     'a,
     C: NamedCatalog + Send + Sync + 'static,
     G: Gate + Sync,
@@ -120,7 +122,7 @@ fn run_farm_nodes<
     let workers = make_farm_workers(alloc, setup, &shared, seats)?;
     let ends = run_farm_workers(rt, alloc, workers, gate)?;
     let FarmSharedState { nodes, .. } = shared;
-    close_nodes_and_check_memory(alloc, nodes, ends)
+    close_farm_nodes_and_check_memory(alloc, nodes, ends)
 }
 
 // Runs all workers in threads of their own.
@@ -160,7 +162,7 @@ fn make_farm_workers<'a, C: NamedCatalog>(
                     node: &node.live,
                     end,
                 },
-                ports: open_mailbox_ports(alloc, &shared.nodes)?,
+                ports: open_ports_to_farm_node_mailboxes(alloc, &shared.nodes)?,
             });
             number = number.saturating_add(1);
         }

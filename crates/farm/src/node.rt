@@ -73,7 +73,7 @@ fn wrap_seats_as_worker_receipts(
 }
 
 /// A port to each node's mailbox.
-pub fn open_mailbox_ports<'a, C: NamedCatalog>(
+pub fn open_ports_to_farm_node_mailboxes<'a, C: NamedCatalog>(
     alloc: Global,
     nodes: &'a [FarmNode<C>],
 ) -> Result<Vec<MailboxPort<'a, C>>, AllocError> {

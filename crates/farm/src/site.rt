@@ -12,7 +12,7 @@ use posts::{MailboxPort, Parcel};
 use std::alloc::{AllocError, Global};
 use std::sync::Wait;
 use tile_fact::{Fact, Update};
-use updates::{copy_fact_to_updates, copy_updates};
+use updates::{copy_update_list, make_update_list_of_fact};
 
 /// The node, the mailboxes, the desk and the gate that a worker calls.
 #[derive(Drop)]
@@ -58,12 +58,12 @@ impl<'s, 'a, C: NamedCatalog, R: Wait, G: Gate> WorkerPlace for WorkerSite<'s, '
     }
 
     fn add_update_copies_to_node(&mut self, updates: &[Update]) -> Result<(), AllocError> {
-        let copies = copy_updates(self.alloc, updates)?;
+        let copies = copy_update_list(self.alloc, updates)?;
         self.hand.add_updates_to_node(self.rt, copies)
     }
 
     fn add_fact_to_node(&mut self, fact: &Fact) -> Result<(), AllocError> {
-        let updates = copy_fact_to_updates(self.alloc, fact)?;
+        let updates = make_update_list_of_fact(self.alloc, fact)?;
         self.hand.add_updates_to_node(self.rt, updates)
     }
 
@@ -79,7 +79,10 @@ impl<'s, 'a, C: NamedCatalog, R: Wait, G: Gate> WorkerPlace for WorkerSite<'s, '
         if held.held().count_facts_of_key(key) > 0 {
             return Ok(KeyReadiness::Known);
         }
-        match self.work.plan_ready_tile(self.alloc, held.held(), key)? {
+        match self
+            .work
+            .plan_tile_if_missing_and_ready(self.alloc, held.held(), key)?
+        {
             Some(plan) => Ok(KeyReadiness::Open(plan)),
             None => Ok(KeyReadiness::Waiting),
         }
@@ -119,7 +122,7 @@ impl<'s, 'a, C: NamedCatalog, R: Wait, G: Gate> WorkerPlace for WorkerSite<'s, '
         let Some(port) = self.ports.get_mut(usize::from(node)) else {
             return Ok(());
         };
-        let updates = copy_fact_to_updates(self.alloc, fact)?;
+        let updates = make_update_list_of_fact(self.alloc, fact)?;
         let _ = port.put_parcel(self.rt, Parcel { from, updates });
         Ok(())
     }

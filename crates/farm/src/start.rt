@@ -2,14 +2,14 @@
 
 use std::thread::{JoinHandle, Scope};
 
-/// The system refused to start a thread. Only [`start_worker_thread`] makes one, from what the toolchain's `spawn` hands back.
+/// The system refused to start a thread. Only [`start_farm_worker_thread`] makes one, from what the toolchain's `spawn` hands back.
 #[derive(Clone, Copy, Debug, PartialEq, Eq)]
 pub struct ThreadRefusal {
     by_spawn: (),
 }
 
 /// Starts work in a thread of its own.
-pub fn start_worker_thread<'s, E, F: FnOnce() -> T + Send + Drop + 's, T: Send + Drop + 's>(
+pub fn start_farm_worker_thread<'s, E, F: FnOnce() -> T + Send + Drop + 's, T: Send + Drop + 's>(
     scope: &Scope<'s, E>,
     work: F,
 ) -> Result<JoinHandle<T>, ThreadRefusal>

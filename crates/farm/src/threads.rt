@@ -2,7 +2,7 @@
 
 use crate::fault::FarmFault;
 use crate::hand::WorkerReceipts;
-use crate::start::start_worker_thread;
+use crate::start::start_farm_worker_thread;
 use farm_work::Gate;
 use std::alloc::Global;
 use std::sync::Wait;
@@ -47,7 +47,7 @@ fn start_farm_threads<'s, E, T: FarmThreadTask + Send + Drop + 's, G: Gate + Syn
     let mut handles = Vec::new(alloc);
     for task in tasks {
         handles.reserve(1)?;
-        handles.push_reserved(start_worker_thread(scope, move || task.run(rt, alloc, gate))?);
+        handles.push_reserved(start_farm_worker_thread(scope, move || task.run(rt, alloc, gate))?);
     }
     Ok(handles)
 }

@@ -7,7 +7,7 @@ use command_faults::{FarmFaultLine, StreamFault};
 use farm::FarmFault;
 
 /// The fault of the command where its farm has this one. A refusal of memory is the command's own.
-pub fn convert_farm_fault_for_command(fault: FarmFault) -> StreamFault
+pub fn convert_fault_of_farm_for_run_stream(fault: FarmFault) -> StreamFault
     ensures { result ≡ fault_at_farm fault }
 {
     match fault {

@@ -6,11 +6,11 @@ ghost use Rattle.farm_commands.specs.RunFaults.{IsRunFault, refusing_run};
 ghost use Rattle.command_outcomes.specs.Replies.{reply_bytes};
 ghost use Rattle.command_jobs.specs.Results.{SaysResult};
 
-use crate::farm_run::{FarmRun, run_farm_for_command_job};
+use crate::farm_run::{FarmResult, compute_farm_result_of_job};
 use command_faults::StreamFault;
 use command_inputs::read_input_job;
 use command_line::Options;
-use command_outcomes::{read_command_input, write_job_reply};
+use command_outcomes::{read_command_input_bytes, write_job_reply};
 use farm_setup::FarmSetup;
 use std::sync::Wait;
 use std::thread::Threads;
@@ -39,24 +39,24 @@ pub fn run_stream<H: AllocGlobal + Threads + Wait + Sync, R: Source, W: Sink>(
     ensures read { CountsRead result (R.failures reader.old) (R.failures reader.new) }
     ensures write { CountsWritten result (W.failures writer.old) (W.failures writer.new) }
 {
-    let input = read_command_input(rt.alloc(), reader)?;
-    let farmed = run_farm_for_command_input(rt, setup, options, parameters, input)?;
+    let input = read_command_input_bytes(rt.alloc(), reader)?;
+    let farmed = compute_farm_result_of_input(rt, setup, options, parameters, input)?;
     Ok(write_job_reply(&farmed.reply, writer)?)
 }
 
 /// Runs the farm of `run_stream` on what was read, and returns what it left.
-pub fn run_farm_for_command_input<H: AllocGlobal + Threads + Wait + Sync>(
+pub fn compute_farm_result_of_input<H: AllocGlobal + Threads + Wait + Sync>(
     rt: &H,
     setup: &FarmSetup,
     options: &Options,
     given: &[(String, i32)],
     input: Vec<u8>,
-) -> Result<FarmRun, StreamFault>
+) -> Result<FarmResult, StreamFault>
     ensures said { IfOk result (λ farmed. IsSaid SaysResult given.now options.now.sides input.items
         (reply_bytes farmed.reply)) }
     ensures nodes { IfOk result (λ farmed. length farmed.closed.items ≡ setup.now.nodes) }
     ensures fault { IfErr result (IsRunFault input.items given.now options.now.sides) }
 {
     let job = read_input_job(rt.alloc(), options.sides, given, input)?;
-    run_farm_for_command_job(rt, setup, options, job)
+    compute_farm_result_of_job(rt, setup, options, job)
 }

@@ -1,4 +1,6 @@
 //! How a farm is set up: how many nodes it has, for how long they work, and which faults it makes.
+//!
+//! Words: farm setup.
 #![tactic(auto)]
 
 mod setup;

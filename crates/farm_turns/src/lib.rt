@@ -1,4 +1,6 @@
 //! What a worker of a farm does in a turn, over any place that takes its calls.
+//!
+//! Words: worker place, worker shift, period counter.
 #![tactic(auto)]
 
 mod counts;

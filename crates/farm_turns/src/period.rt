@@ -21,7 +21,7 @@ impl ParcelPeriodCounter {
     }
 
     /// Counts one more, and returns whether it is selected, as the last of `period`.
-    pub fn count_next(&mut self) -> bool
+    pub fn count_parcel_and_check_period_end(&mut self) -> bool
         ensures told { result ≡ is_selected self.old.period self.old.passed }
         ensures passed { self.new.passed ≡ count_after self.old.period self.old.passed }
         ensures same { self.new.period ≡ self.old.period }

@@ -99,19 +99,19 @@ impl<'a, P: WorkerPlace> WorkerShift<'a, P> {
             let Some(updates) = self.place.receive_parcel_updates(self.rules.home) else {
                 return Ok(());
             };
-            self.give_updates_to_node(updates)?;
+            self.give_updates_to_node_once_or_twice(updates)?;
         }
         Ok(())
     }
 
     // Gives the updates of a parcel to the node, once or twice.
-    fn give_updates_to_node(&mut self, updates: Vec<Update>) -> Result<(), AllocError>
+    fn give_updates_to_node_once_or_twice(&mut self, updates: Vec<Update>) -> Result<(), AllocError>
         requires { P.are_true updates.items }
         ensures rules { self.new.rules ≡ self.old.rules }
         ensures given { OnOk result ((g : Progress) → IsAt P.has_log self.old.place self.old.counts g
             → IsAt P.has_log self.new.place self.new.counts (after_giving self.old.rules g updates.items)) }
     {
-        if self.counts.repeated.count_next() {
+        if self.counts.repeated.count_parcel_and_check_period_end() {
             self.place.add_update_copies_to_node(&updates)?;
         }
         self.place.add_updates_to_node(updates)
@@ -265,7 +265,7 @@ impl<'a, P: WorkerPlace> WorkerShift<'a, P> {
             → IsAt P.has_log self.new.place self.new.counts
             (after_sending_to self.old.rules fact.now g node)) }
     {
-        if node != self.rules.home && !self.counts.lost.count_next() {
+        if node != self.rules.home && !self.counts.lost.count_parcel_and_check_period_end() {
             self.place.post_fact(node, self.rules.home, fact)?;
         }
         Ok(())

@@ -52,7 +52,7 @@ impl<'a, C: NamedCatalog> FarmWork<'a, C> {
     }
 
     /// How a tile is made of which nothing is held, if something is held of all that it needs.
-    pub fn plan_ready_tile(
+    pub fn plan_tile_if_missing_and_ready(
         &self,
         alloc: Global,
         held: &HeldFacts,
@@ -65,13 +65,13 @@ impl<'a, C: NamedCatalog> FarmWork<'a, C> {
         ensures ready { IfOk result
             (λ found. IfSome found (λ plan. list_any (lacks held.now) plan.needs ≡ false)) }
     {
-        if !is_farm_key_missing(held, key) {
+        if !is_farm_work_fact_missing(held, key) {
             return Ok(None);
         }
         let Some(plan) = self.plan_tile(alloc, key)? else {
             return Ok(None);
         };
-        if is_any_farm_key_missing(held, plan.needs()) {
+        if is_any_farm_work_fact_missing(held, plan.needs()) {
             return Ok(None);
         }
         Ok(Some(plan))
@@ -105,7 +105,7 @@ impl<'a, C: NamedCatalog> FarmWork<'a, C> {
         ensures none { IfOk result (λ made. IfNone made (IsNotMade
             C.catalog facts.now self.now.schedule.now.inlining key.now)) }
     {
-        let held = build_worker_held_facts(alloc, facts)?;
+        let held = hold_facts_for_farm_work(alloc, facts)?;
         match held.make(self.catalog, self.schedule, key) {
             Ok(fact) => Ok(Some(fact)),
             Err(MakeFault::Memory) => Err(AllocError),
@@ -115,21 +115,21 @@ impl<'a, C: NamedCatalog> FarmWork<'a, C> {
 }
 
 // Whether nothing is held of a key.
-fn is_farm_key_missing(held: &HeldFacts, key: &Key) -> bool
+fn is_farm_work_fact_missing(held: &HeldFacts, key: &Key) -> bool
     ensures { result ≡ lacks held.now key.now }
 {
     held.count_facts_of_key(key) == 0
 }
 
 // Whether nothing is held of one of these keys.
-fn is_any_farm_key_missing(held: &HeldFacts, keys: &[Key]) -> bool
+fn is_any_farm_work_fact_missing(held: &HeldFacts, keys: &[Key]) -> bool
     ensures { result ≡ list_any (lacks held.now) keys.now }
 {
-    keys.iter().any(|key| is_farm_key_missing(held, key))
+    keys.iter().any(|key| is_farm_work_fact_missing(held, key))
 }
 
 // These facts as held facts, all of which are true if these are.
-fn build_worker_held_facts(alloc: Global, facts: &[Fact]) -> Result<HeldFacts, AllocError>
+fn hold_facts_for_farm_work(alloc: Global, facts: &[Fact]) -> Result<HeldFacts, AllocError>
     ensures these { IfOk result (λ held. held ≡ fold with_fact nothing facts.now) }
     ensures is_true { (catalog : List Entry) → All (IsTrueFact catalog) facts.now
         → IfOk result (HoldsTrueFacts catalog) }

@@ -1,4 +1,6 @@
 //! Faults as rows of tables. Each enum of faults lists its own once, in one [`fault_row!`]: their numbers and their names.
+//!
+//! Words: fault row, fault.
 #![tactic(auto)]
 
 ghost use Rattle.std.specs.Prelude.{◌≡◌, ℕ, List};

@@ -33,14 +33,14 @@ pub fn nodes_hold_what_they_took()
 /// What a node holds is the join of all that came together in it. The parts are the messages that were delivered to it after its
 /// last restart, and what nodes had taken that were merged in after that. The last part is what it had taken itself at its last
 /// keep before that restart.
-pub fn what_is_taken_is_the_join_of_its_parts()
+pub fn nodes_hold_the_join_of_what_they_took()
     ensures { (u : WorldWork) (size : ℕ) (h accepted : List Event) (w : Network)
         → Leads u size h accepted w
         → (n : ℕ) → IsJoinOf (IsPart w.messages accepted n) (held w n) }
 {}
 
 /// So nodes that took the same hold the same.
-pub fn equal_takings_are_equal_states()
+pub fn nodes_that_took_the_same_hold_the_same()
     ensures { (u : WorldWork) (size : ℕ) (h accepted : List Event) (w : Network) (n m : ℕ)
         → Leads u size h accepted w
         → ((update : Update) → HasTaken w.messages accepted n update ↔ HasTaken w.messages accepted m update)
@@ -49,7 +49,7 @@ pub fn equal_takings_are_equal_states()
 
 /// After a merge a node holds the least state that has what both held before. The other node holds what it held, unless it is the
 /// same one.
-pub fn merges_are_least()
+pub fn accepted_merges_give_least_upper_bounds()
     ensures first { (u : WorldWork) (w new : Network) (a b : ℕ) → Accepts u w (Merge a b) new
         → IsBelow (held w a) (held new a) }
     ensures second { (u : WorldWork) (w new : Network) (a b : ℕ) → Accepts u w (Merge a b) new
@@ -61,7 +61,7 @@ pub fn merges_are_least()
 {}
 
 /// What is made of a tile is true, if all held facts of the tiles that it needs are true.
-pub fn made_facts_are_true()
+pub fn facts_made_from_truth_are_true()
     ensures { (jobs : List Entry) (s : FactSet) (inlining : List Bool) (fact : Fact)
         → IsCatalog jobs → AreJobs jobs → AreNeedsTrue jobs s inlining fact.key
         → IsMade jobs s inlining fact → IsTrueFact jobs fact }
@@ -74,7 +74,7 @@ pub fn accepted_events_keep_truth()
 {}
 
 /// So all that nodes hold, keep and send is true in each world to which events lead from nodes that hold nothing.
-pub fn worlds_hold_true_facts()
+pub fn worlds_hold_only_truth()
     ensures { (u : WorldWork) (size : ℕ) (h accepted : List Event) (w : Network) → IsCatalog u.jobs
         → AreJobs u.jobs → Leads u size h accepted w → AllTrue u.jobs w }
 {}
@@ -83,7 +83,7 @@ pub fn worlds_hold_true_facts()
 /// deliver these tiles are not refused, if the node has not retired the job and each tile fits into scratch memory. Then the node
 /// holds all tiles of the job's stored functions and accumulators. If its schedule stores the outputs, it holds all tiles that
 /// the job's answer is composed from.
-pub fn finishing_events_give_all()
+pub fn accepted_finishing_events_give_all_tiles()
     ensures accepted { (u : WorldWork) (w : Network) (n j : ℕ) (entry : Entry) (inlining : List Bool)
         → IsCatalog u.jobs → AreJobs u.jobs → AllTrue u.jobs w
         → n < length w.nodes → IsPlanned u n j entry inlining

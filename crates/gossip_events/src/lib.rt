@@ -1,4 +1,6 @@
 //! The events of the nodes of a world, and scripts that specify them line by line.
+//!
+//! Words: script, event, event verb, script line, script request, script tile name.
 #![tactic(auto)]
 
 mod event;

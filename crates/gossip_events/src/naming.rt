@@ -9,7 +9,7 @@ ghost use Rattle.identity.specs.declared.key.Key.{Key as KeyType};
 use crate::event::{Event, Keys};
 use crate::order::ScriptRequest;
 use crate::places::TileName;
-use catalog::{Catalog, compute_job_ids};
+use catalog::{Catalog, compute_catalog_job_ids};
 use identity::{JobId, Key};
 use std::alloc::{AllocError, Global};
 
@@ -89,5 +89,5 @@ fn find_ids_of_script_job(jobs: &Catalog, job: u32) -> Option<JobId>
     ensures none { IfNone result ((ids : IdsType) → ¬ AreIdsAt jobs.now job ids) }
 {
     let job = jobs.job(job as usize)?;
-    Some(compute_job_ids(job))
+    Some(compute_catalog_job_ids(job))
 }

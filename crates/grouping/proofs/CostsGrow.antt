@@ -34,7 +34,7 @@ use Rattle.grouping.specs.inside.Trials.{count_box_points}
 use Rattle.tile_boxes.proofs.DemandsFall.{none_of_higher}
 use Rattle.tile_boxes.proofs.BoxesFollowTheRule.{same_areas}
 use Rattle.tile_boxes.proofs.OrderHasEachStage.{order_pairs, order_has}
-use Rattle.tile_boxes.proofs.CostsAddUp.{sum_cons, scratch_is, points_is, cost_is, fits_is, tiles_are_targets}
+use Rattle.tile_boxes.proofs.CostsAddUp.{sum_cons, scratch_is, points_is, cost_is, fits_is, tiles_in_schedules_are_targets}
 use Rattle.tile_boxes.proofs.Lists.{AllPairs-head, AllPairs-tail}
 
 -- with_one t g is the target t where g is inlined besides
@@ -262,7 +262,7 @@ areas_are_targets job inlining h is = by (slice_get job.stages h) refl
   where
     pick : (s : Stage) (b : Bool) → slice_get job.stages h ≡ Some s
         → All (λ a. IsTarget (target_over job inlining h a)) (option_map_or list_tile_areas (if b then Some (grid_of job s) else None) [])
-    pick s true there = tiles_are_targets job inlining h s is there
+    pick s true there = tiles_in_schedules_are_targets job inlining h s is there
     pick s false there = All-nil (λ a. IsTarget (target_over job inlining h a))
 
     from : (o : Option Stage) → slice_get job.stages h ≡ o

@@ -24,8 +24,8 @@ use Rattle.grouping.specs.inside.Trials.{grouping_of, find_kept_box, IsCandidate
 use Rattle.grouping.specs.inside.Crossed.{crossed, boxes_in, IsCrossed}
 use Rattle.grouping.specs.inside.Between.{find_kept_region, IsBetween, IsNumberedTile, HasWhole, find_grid_tile, LiesAcross, AreSides}
 use Rattle.grouping.specs.declared.between.NumberedTile.{NumberedTile}
-use Rattle.grouping.specs.declared.boxes.BoxesByTile.{BoxesByTile}
-use Rattle.grouping.specs.declared.boxes.BoxesByTile.TheVariants.{Each, Crossed}
+use Rattle.grouping.specs.declared.boxes.GroupBoxes.{GroupBoxes}
+use Rattle.grouping.specs.declared.boxes.GroupBoxes.TheVariants.{Each, Crossed}
 use Rattle.grouping.specs.declared.greedy.Grouper.{Grouper}
 use Rattle.grouping.specs.declared.standing.StageStatus.{StageStatus}
 use Rattle.grouping.specs.declared.standing.StageStatus.TheVariants.{Inlined}
@@ -67,7 +67,7 @@ crossed_at rows cols n i j d width row col =
     ∙ at_row (λ r c. Some (area_of r c)) rows cols i j (get_or rows i d) (get_or cols j d) None (slice_get-get_or rows i d row)
     (slice_get-get_or cols j d low)
 
-between_crossed : (b : BoxesByTile) (g : Grid) (i j : ℕ) → IsCrossed (tile_rows g) (tile_cols g) b → HasTile g i j
+between_crossed : (b : GroupBoxes) (g : Grid) (i j : ℕ) → IsCrossed (tile_rows g) (tile_cols g) b → HasTile g i j
     → IsBetween (slice_index_or (boxes_in b) (i * tile_cols g + j) None) (slice_index_or (boxes_in b) (i * tile_cols g + 0) None)
     (slice_index_or (boxes_in b) (0 * tile_cols g + j) None)
 between_crossed (Each boxes) g i j are has = absurd are
@@ -91,7 +91,7 @@ between_crossed (Crossed spans) g i j are has =
     (Some (area_of (get_or spans.rows.items i d) (get_or spans.cols.items 0 d))) o) (sym top) (refl, refl)))
 
 -- what is kept of an inlined reader by rows and columns lies across
-pub kept_across : (standings : List StageStatus) (h r : ℕ) (g : Grid) (b : BoxesByTile) → (r ≡ h → ⊥) → slice_get standings r ≡ Some (Inlined b)
+pub kept_across : (standings : List StageStatus) (h r : ℕ) (g : Grid) (b : GroupBoxes) → (r ≡ h → ⊥) → slice_get standings r ≡ Some (Inlined b)
     → IsCrossed (tile_rows g) (tile_cols g) b → LiesAcross standings h g r
 kept_across standings h r g b apart is are i j has =
     let other : nat_eq r h ≡ false = ne_eqb r h apart in

@@ -22,7 +22,7 @@ use Rattle.tile_boxes.specs.Targets.{box, target_over}
 use Rattle.tile_boxes.specs.Tallies.{list_tile_areas, over_domain}
 use Rattle.grouping.specs.inside.Standings.{areas_at, boxes_by_tile}
 use Rattle.grouping.specs.inside.Trials.{count_box_points}
-use Rattle.tile_boxes.proofs.CostsAddUp.{cost_is, tiles_are_targets}
+use Rattle.tile_boxes.proofs.CostsAddUp.{cost_is, tiles_in_schedules_are_targets}
 use Rattle.tile_boxes.proofs.CostsAreSmall.{most_box, box_small, sum_small, areas_few, cost_small}
 
 pub areas_at_few : (job : Pipeline) (g : ℕ) → IsJob job → length (areas_at job g) ≤ 65536
@@ -64,7 +64,7 @@ kept_small job inlining g is = by (slice_get job.stages g) refl
         → option_map_or (λ n. n) (if b then Some (cost_of job inlining g s) else None) 0 < 2 ^ 63
     pick s there true has =
         let small = cost_small (over_domain job inlining g s) (list_tile_areas (grid_of job s)) is
-        (tiles_are_targets job inlining g s is there)
+        (tiles_in_schedules_are_targets job inlining g s is there)
         (areas_few job g (grid_of job s) is (ap (stage_grid job) there
         ∙ ap (λ c. if c then Some (grid_of job s) else None) (and_parts (has_tiles s.body) (not (is_inlined inlining g)) has).0)) in
         omega (arith, cost_is job inlining g s, small)

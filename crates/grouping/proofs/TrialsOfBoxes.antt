@@ -19,9 +19,9 @@ use Rattle.grouping.specs.inside.Standings.{areas_at, boxes_by_tile, AllStand}
 use Rattle.grouping.specs.inside.Trials.{count_box_points, find_kept_scratch, scratch_with, IsTrialOf, AreTaken, IsRowOfBoxes}
 use Rattle.tile_boxes.specs.Tallies.{area_of}
 use Rattle.grouping.specs.inside.Crossed.{crossed}
-use Rattle.grouping.specs.declared.boxes.BoxesByTile.TheVariants.{Crossed}
+use Rattle.grouping.specs.declared.boxes.GroupBoxes.TheVariants.{Crossed}
 use Rattle.grouping.specs.declared.boxes.SeparableBoxes.{SeparableBoxes}
-use Rattle.grouping.specs.declared.trial.PointTally.{PointTally}
+use Rattle.grouping.specs.declared.trial.TrialPoints.{TrialPoints}
 use Rattle.grouping.proofs.CrossedLists.{length-by_rows, at_row}
 use Rattle.grouping.specs.declared.standing.StageStatus.{StageStatus}
 use Rattle.tile_boxes.proofs.CostsAreSmall.{box_small, scratch_small}
@@ -52,7 +52,7 @@ row_of_boxes job inlining h g rows cols i r boxes at j c at' =
     )
 
 -- where all tiles are taken, the trial is made
-pub all_taken : (job : Pipeline) (inlining : List Bool) (h g n : ℕ) (t : PointTally) (spans : SeparableBoxes)
+pub all_taken : (job : Pipeline) (inlining : List Bool) (h g n : ℕ) (t : TrialPoints) (spans : SeparableBoxes)
     → crossed spans.rows.items spans.cols.items ≡ boxes_by_tile job inlining h g → n ≡ length spans.rows.items * length spans.cols.items
     → AreTaken job inlining h g n t
     → IsTrialOf job inlining h g (record { boxes = Crossed spans; added = t.added; scratch = t.scratch })

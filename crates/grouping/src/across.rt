@@ -53,17 +53,17 @@ impl Grouper {
         if !self.has_separable_readers(candidate, grid) {
             return Ok(None);
         }
-        let Some(rows) = self.find_box_rows(alloc, job, candidate, grid, hulls)? else {
+        let Some(rows) = self.find_separable_box_rows(alloc, job, candidate, grid, hulls)? else {
             return Ok(None);
         };
-        let Some(cols) = self.find_box_columns(alloc, job, candidate, grid, hulls)? else {
+        let Some(cols) = self.find_separable_box_columns(alloc, job, candidate, grid, hulls)? else {
             return Ok(None);
         };
         Ok(Some(SeparableBoxes { rows, cols }))
     }
 
     // The rows of the boxes in the first tile of each row of tiles, if all readers are whole in each of these tiles.
-    fn find_box_rows(
+    fn find_separable_box_rows(
         &self,
         alloc: Global,
         job: &Job,
@@ -92,7 +92,7 @@ impl Grouper {
     }
 
     // The columns of the boxes in the first tile of each column of tiles, if all readers are whole in each of these tiles.
-    fn find_box_columns(
+    fn find_separable_box_columns(
         &self,
         alloc: Global,
         job: &Job,
@@ -142,7 +142,7 @@ impl Grouper {
     {
         let spot = find_grid_tile(grid, row, col)?;
         let area = self.find_box_in_tile(job, candidate, &spot, hulls);
-        self.keep_box_if_readers_whole(job, candidate, &spot, &area)
+        self.accept_box_if_readers_whole(job, candidate, &spot, &area)
     }
 
     // Whether the regions of all readers are separable into rows and columns of tiles.
@@ -150,14 +150,14 @@ impl Grouper {
         ensures { result ≡ true → All (LiesAcross self.now.standings.items candidate.now.group grid.now)
             candidate.now.readers.items }
     {
-        candidate.readers.iter().all(|reader| self.has_separable_region(
+        candidate.readers.iter().all(|reader| self.is_separable_reader(
             candidate.group,
             grid,
             *reader,
         ))
     }
 
-    fn has_separable_region(&self, group: usize, grid: &Grid, reader: usize) -> bool
+    fn is_separable_reader(&self, group: usize, grid: &Grid, reader: usize) -> bool
         ensures { result ≡ true → LiesAcross self.now.standings.items group grid.now reader }
     {
         if reader == group {

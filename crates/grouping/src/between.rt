@@ -15,7 +15,7 @@ use crate::trial::InlineCandidate;
 use domains::Area;
 use job::{Body, Job, JobCase};
 use std::alloc::{AllocError, Global};
-use tile_boxes::intersect_areas;
+use tile_boxes::intersect_boxes;
 
 /// A tile of a stage: its number, row by row, and its area.
 #[derive(Clone, Copy)]
@@ -27,23 +27,23 @@ pub(crate) struct NumberedTile {
 /// The known boxes of a function in tiles in which all of its readers are whole; how many tiles a row has; and the first tile of
 /// the row of the next tile.
 #[derive(Drop)]
-pub(crate) struct WholeBoxes {
+pub(crate) struct WholeReaderBoxes {
     boxes: Vec<Option<Area>>,
     columns: usize,
     first: usize,
 }
 
-impl WholeBoxes {
+impl WholeReaderBoxes {
     /// Nothing is known of the tiles of a stage yet; there is capacity for `count` tiles.
     pub(crate) fn new(
         alloc: Global,
         job: &Job,
         group: usize,
         count: usize,
-    ) -> Result<WholeBoxes, AllocError>
+    ) -> Result<WholeReaderBoxes, AllocError>
         ensures { IfOk result (λ w. w.boxes.items ≡ []) }
     {
-        Ok(WholeBoxes {
+        Ok(WholeReaderBoxes {
             boxes: Vec::with_capacity(alloc, count)?,
             columns: job.grid(group).map_or(0, |grid| grid.tile_cols() as usize),
             first: 0,
@@ -77,7 +77,7 @@ impl Grouper {
         job: &Job,
         candidate: &InlineCandidate,
         tiles: &[Area],
-        wholes: &WholeBoxes,
+        wholes: &WholeReaderBoxes,
         here: &NumberedTile,
     ) -> Option<Area>
         requires stand { AllStand (pipeline_in job.now) (grouping_of self.now)
@@ -92,8 +92,8 @@ impl Grouper {
             (target_over (pipeline_in job.now) self.now.inlining candidate.now.group here.now.tile)
             candidate.now.number ≡ Some a) }
     {
-        let left = find_tile_by_number(tiles, wholes.first)?;
-        let top = find_tile_by_number(tiles, here.place.checked_sub(wholes.first)?)?;
+        let left = find_group_tile_by_number(tiles, wholes.first)?;
+        let top = find_group_tile_by_number(tiles, here.place.checked_sub(wholes.first)?)?;
         let one = wholes.find_known_box(left.place)?;
         let other = wholes.find_known_box(top.place)?;
         if self.can_derive_inner_box(candidate, here, &left, &top) {
@@ -121,7 +121,7 @@ impl Grouper {
             candidate.now.readers.items }
     {
         candidate.readers.iter().all(|reader| {
-            has_shared_rows_and_columns(
+            is_separable_into_left_and_top(
                 self.find_kept_region(candidate.group, here, *reader),
                 self.find_kept_region(candidate.group, left, *reader),
                 self.find_kept_region(candidate.group, top, *reader),
@@ -130,7 +130,7 @@ impl Grouper {
     }
 
     /// A box of the function in a tile, if there is one and the region of each reader there meets all cases of the reader.
-    pub(crate) fn keep_box_if_readers_whole(
+    pub(crate) fn accept_box_if_readers_whole(
         &self,
         job: &Job,
         candidate: &InlineCandidate,
@@ -156,11 +156,14 @@ impl Grouper {
             (find_kept_region self.now.standings.items candidate.now.group spot.now r))
             candidate.now.readers.items }
     {
-        candidate.readers.iter().all(|reader| is_whole_region(
-            job,
-            *reader,
-            self.find_kept_region(candidate.group, spot, *reader),
-        ))
+        candidate
+            .readers
+            .iter()
+            .all(|reader| is_region_of_whole_reader(
+                job,
+                *reader,
+                self.find_kept_region(candidate.group, spot, *reader),
+            ))
     }
 
     // The region of a stage in a tile of its group, as it is kept.
@@ -175,7 +178,7 @@ impl Grouper {
     }
 }
 
-fn find_tile_by_number(tiles: &[Area], place: usize) -> Option<NumberedTile>
+fn find_group_tile_by_number(tiles: &[Area], place: usize) -> Option<NumberedTile>
     ensures tile { IfSome result (λ spot. slice_get tiles.now place ≡ Some spot.tile) }
     ensures place { IfSome result (λ spot. spot.place ≡ place) }
 {
@@ -183,7 +186,7 @@ fn find_tile_by_number(tiles: &[Area], place: usize) -> Option<NumberedTile>
     Some(NumberedTile { place, tile })
 }
 
-fn has_shared_rows_and_columns(here: Option<Area>, left: Option<Area>, top: Option<Area>) -> bool
+fn is_separable_into_left_and_top(here: Option<Area>, left: Option<Area>, top: Option<Area>) -> bool
     ensures { result ≡ true → IsBetween here left top }
 {
     match (here, left, top) {
@@ -192,7 +195,7 @@ fn has_shared_rows_and_columns(here: Option<Area>, left: Option<Area>, top: Opti
     }
 }
 
-fn is_whole_region(job: &Job, number: usize, region: Option<Area>) -> bool
+fn is_region_of_whole_reader(job: &Job, number: usize, region: Option<Area>) -> bool
     ensures { result ≡ true → IsWhole (slice_get (pipeline_in job.now).stages number) region }
 {
     match (job.stage(number), region) {
@@ -207,11 +210,11 @@ fn meets_all_case_boxes(body: &Body, region: &Area) -> bool
 {
     match body {
         Body::Plane(_) | Body::Accumulator(_) => true,
-        Body::Function(function) => meets_each_case_box(function.cases(), region),
+        Body::Function(function) => meets_case_box_of_each(function.cases(), region),
     }
 }
 
-fn meets_each_case_box(cases: &[JobCase], region: &Area) -> bool
+fn meets_case_box_of_each(cases: &[JobCase], region: &Area) -> bool
     ensures { result ≡ list_all (λ p. meets_case_box region.now p.box) (map case_view cases.now) }
 {
     for case in cases {
@@ -226,7 +229,7 @@ fn meets_case_box(case: &JobCase, region: &Area) -> bool
     ensures { result ≡ meets_case_box region.now (case_view case.now).box }
 {
     match case.area() {
-        Some(area) => intersect_areas(area, region).is_some(),
+        Some(area) => intersect_boxes(area, region).is_some(),
         None => true,
     }
 }

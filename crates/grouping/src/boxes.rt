@@ -8,7 +8,7 @@ use domains::{Area, Span};
 
 /// The boxes of an inlined function in the tiles of its group.
 #[derive(Drop)]
-pub(crate) enum BoxesByTile {
+pub(crate) enum GroupBoxes {
     /// The box in each tile, if there is one, row by row.
     Each(Vec<Option<Area>>),
     /// The rows of the boxes in each row of tiles, and the columns of those in each column of tiles.
@@ -22,14 +22,14 @@ pub(crate) struct SeparableBoxes {
     pub(crate) cols: Vec<Span>,
 }
 
-impl BoxesByTile {
+impl GroupBoxes {
     /// The box in the tile of this number.
     pub(crate) fn get_tile_box(&self, place: usize) -> Option<Area>
         ensures { result ≡ slice_index_or (boxes_in self.now) place None }
     {
         match self {
-            BoxesByTile::Each(boxes) => *boxes.get(place)?,
-            BoxesByTile::Crossed(spans) => find_separable_box(&spans.rows, &spans.cols, place),
+            GroupBoxes::Each(boxes) => *boxes.get(place)?,
+            GroupBoxes::Crossed(spans) => find_separable_box(&spans.rows, &spans.cols, place),
         }
     }
 
@@ -38,8 +38,8 @@ impl BoxesByTile {
         ensures { result ≡ true → IsCrossed rows cols self.now }
     {
         match self {
-            BoxesByTile::Each(_) => false,
-            BoxesByTile::Crossed(spans) => spans.rows.len() == rows && spans.cols.len() == cols,
+            GroupBoxes::Each(_) => false,
+            GroupBoxes::Crossed(spans) => spans.rows.len() == rows && spans.cols.len() == cols,
         }
     }
 }

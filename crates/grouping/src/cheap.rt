@@ -106,48 +106,50 @@ fn is_pointwise_candidate(job: &Job, inlining: &InlinedStages, number: usize) ->
     ensures { result ≡ true → steps_at (pipeline_in job.now) number ≤ 8 }
 {
     match job.stage(number) {
-        Some(stage) if has_few_operations(stage) => has_only_stored_reads(inlining, stage),
+        Some(stage) if has_few_pointwise_operations(stage) => has_only_stored_reads(
+            inlining, stage,
+        ),
         _ => false,
     }
 }
 
-fn has_few_operations(stage: &Stage) -> bool
+fn has_few_pointwise_operations(stage: &Stage) -> bool
     ensures { result ≡ true → steps_of (stage_view stage.now).body ≤ 8 }
 {
     match stage.body() {
         Body::Plane(_) | Body::Accumulator(_) => false,
-        Body::Function(given) => count_operations_left(given).is_some(),
+        Body::Function(given) => count_pointwise_operations_left(given).is_some(),
     }
 }
 
 // How many steps fewer a function takes than a point-wise one may take, if it is within that limit.
-fn count_operations_left(given: &Function) -> Option<u32>
+fn count_pointwise_operations_left(given: &Function) -> Option<u32>
     ensures { IfSome result (λ left. left
         + steps_of (function (map case_view given.now.cases.items)
         (option_map formula_view given.now.otherwise)) ≡ 8) }
 {
-    let left = subtract_case_operations(given.cases(), MOST_STEPS)?;
+    let left = subtract_pointwise_operations_of_cases(given.cases(), MOST_STEPS)?;
     match given.otherwise() {
-        Some(formula) => subtract_formula_operations(formula, left),
+        Some(formula) => subtract_pointwise_operations(formula, left),
         None => Some(left),
     }
 }
 
 // How many of `steps` steps are left after those of these cases.
-fn subtract_case_operations(cases: &[JobCase], steps: u32) -> Option<u32>
+fn subtract_pointwise_operations_of_cases(cases: &[JobCase], steps: u32) -> Option<u32>
     ensures { IfSome result (λ left. left + sum (map steps_of_case (map case_view cases.now))
         ≡ steps) }
 {
     let mut left = steps;
     for case in cases {
-        left = subtract_formula_operations(case.formula(), left)?;
+        left = subtract_pointwise_operations(case.formula(), left)?;
     }
     Some(left)
 }
 
 // How many of `steps` steps are left after those of a formula. An operator is one step, and so is a read. A stencil takes too
 // many.
-fn subtract_formula_operations(formula: &Formula, steps: u32) -> Option<u32>
+fn subtract_pointwise_operations(formula: &Formula, steps: u32) -> Option<u32>
     ensures { IfSome result (λ left. left + steps_in (formula_view formula.now) ≡ steps) }
 {
     match formula {
@@ -155,24 +157,24 @@ fn subtract_formula_operations(formula: &Formula, steps: u32) -> Option<u32>
         Formula::Read(_, _, _) => steps.checked_sub(1),
         Formula::Unary(_, operand)
         | Formula::Lookup(_, operand)
-        | Formula::Literal(_, operand, _) => subtract_formula_operations(
+        | Formula::Literal(_, operand, _) => subtract_pointwise_operations(
             operand,
             steps.checked_sub(1)?,
         ),
         Formula::Binary(_, left, right) => {
-            let rest = subtract_formula_operations(left, steps.checked_sub(1)?)?;
-            subtract_formula_operations(right, rest)
+            let rest = subtract_pointwise_operations(left, steps.checked_sub(1)?)?;
+            subtract_pointwise_operations(right, rest)
         }
         Formula::Ternary(_, first, second, third) => {
-            let rest = subtract_formula_operations(first, steps.checked_sub(1)?)?;
-            let rest = subtract_formula_operations(second, rest)?;
-            subtract_formula_operations(third, rest)
+            let rest = subtract_pointwise_operations(first, steps.checked_sub(1)?)?;
+            let rest = subtract_pointwise_operations(second, rest)?;
+            subtract_pointwise_operations(third, rest)
         }
         Formula::Select(left, _, right, then, otherwise) => {
-            let rest = subtract_formula_operations(left, steps.checked_sub(1)?)?;
-            let rest = subtract_formula_operations(right, rest)?;
-            let rest = subtract_formula_operations(then, rest)?;
-            subtract_formula_operations(otherwise, rest)
+            let rest = subtract_pointwise_operations(left, steps.checked_sub(1)?)?;
+            let rest = subtract_pointwise_operations(right, rest)?;
+            let rest = subtract_pointwise_operations(then, rest)?;
+            subtract_pointwise_operations(otherwise, rest)
         }
         Formula::Stencil(_, _, _) => None,
     }
@@ -232,12 +234,12 @@ fn is_pointwise_read(read: &Read, number: usize) -> bool
 fn is_identity_index(index: &Index) -> bool
     ensures { result ≡ is_identity_index index.now }
 {
-    are_index_parts_equal(index.mul(), 1)
-        && are_index_parts_equal(index.add(), 0)
-        && are_index_parts_equal(index.div(), 1)
+    is_identity_index_part(index.mul(), 1)
+        && is_identity_index_part(index.add(), 0)
+        && is_identity_index_part(index.div(), 1)
 }
 
-fn are_index_parts_equal(a: i32, b: i32) -> bool
+fn is_identity_index_part(a: i32, b: i32) -> bool
     ensures { result ≡ int_eq a b }
 {
     a == b

@@ -89,7 +89,7 @@ impl Grouper {
         let mut standings = Vec::new(alloc);
         for number in 0..job.stages().len() {
             groups.push(number)?;
-            standings.push(new_stored_status(alloc, job, &survey.costs, number)?)?;
+            standings.push(new_stored_stage_status(alloc, job, &survey.costs, number)?)?;
         }
         Ok(Grouper {
             inlining,
@@ -261,7 +261,7 @@ fn is_inlining_worthwhile(own: u64, apart: u64, added: u64, percent: u32) -> boo
 }
 
 // A stage that is stored, and in whose tiles nothing is inlined.
-fn new_stored_status(
+fn new_stored_stage_status(
     alloc: Global,
     job: &Job,
     costs: &[Option<u64>],
@@ -271,12 +271,12 @@ fn new_stored_status(
     ensures { IfOk result
         (Stands (pipeline_in job.now) (initial_grouping (pipeline_in job.now)) number) }
 {
-    let points = get_stage_cost_or_zero(costs, number);
-    Ok(StageStatus::Stored(points, zero_scratch_per_tile(alloc, job, number)?))
+    let points = find_group_cost_or_zero(costs, number);
+    Ok(StageStatus::Stored(points, new_zero_scratch_of_group_tiles(alloc, job, number)?))
 }
 
 // The cost of a stage, if it has one.
-fn get_stage_cost_or_zero(costs: &[Option<u64>], number: usize) -> u64
+fn find_group_cost_or_zero(costs: &[Option<u64>], number: usize) -> u64
     ensures { result ≡ option_map_or (λ n. n) (slice_index_or costs.now number None) 0 }
 {
     match costs.get(number) {
@@ -286,14 +286,18 @@ fn get_stage_cost_or_zero(costs: &[Option<u64>], number: usize) -> u64
 }
 
 // For each tile of a stage 0 points in scratch memory.
-fn zero_scratch_per_tile(alloc: Global, job: &Job, number: usize) -> Result<Vec<u64>, AllocError>
+fn new_zero_scratch_of_group_tiles(
+    alloc: Global,
+    job: &Job,
+    number: usize,
+) -> Result<Vec<u64>, AllocError>
     ensures { IfOk result (λ v. v.items ≡ map (λ a. 0) (areas_at (pipeline_in job.now) number)) }
 {
-    vec![in alloc; 0; count_stage_tiles(job, number)]
+    vec![in alloc; 0; count_group_tiles(job, number)]
 }
 
 /// How many tiles a stage has; planes have none.
-pub(crate) fn count_stage_tiles(job: &Job, number: usize) -> usize
+pub(crate) fn count_group_tiles(job: &Job, number: usize) -> usize
     ensures { result ≡ length (areas_at (pipeline_in job.now) number) }
 {
     match job.grid(number) {

@@ -21,17 +21,17 @@ ghost use Rattle.tile_boxes.specs.Targets.{Target, target_over, IsTarget, IsList
 /// The box of a stage is a bounding box, intersected with its domain. It bounds what the stages in the target demand of the
 /// stage, each over its own region.
 /// region.
-pub fn boxes_follow_the_rule()
+pub fn boxes_of_schedules_bound_demands()
     ensures { (t : Target) (g : ℕ) → IsJob t.job → box t g ≡ box_by t (box t) g }
 {}
 
 /// Whatever a stage in a target reads at a point of its region lies in the box of what it reads.
-pub fn boxes_hold_what_is_read()
+pub fn boxes_of_schedules_hold_all_reads()
     ensures { (t : Target) → IsJob t.job → IsTarget t → HasWhatItReads t }
 {}
 
 /// Dependence order has each stage once, by ranks, and by numbers where ranks are equal.
-pub fn dependence_order_has_each_stage()
+pub fn schedule_order_has_each_stage()
     ensures all { (stages : List Stage) (g : ℕ) → Contains (order_stages_by_rank stages) g
         ↔ (g < length stages) }
     ensures order { (stages : List Stage) → AllPairs (ComesBefore stages) (order_stages_by_rank stages) }
@@ -41,14 +41,14 @@ pub fn dependence_order_has_each_stage()
 {}
 
 /// A bounding box is the least area that contains each of those that it is made of; there is one if there are any.
-pub fn hulls_are_least()
+pub fn bounding_boxes_in_schedules_are_least()
     ensures some { (areas : List Area) (h : Area) → All IsArea areas → hull_of_all areas ≡ Some h
         → IsHullOfAll areas h }
     ensures none { (areas : List Area) → hull_of_all areas ≡ None → areas ≡ [] }
 {}
 
 /// Each tile of a stage is a target.
-pub fn tiles_are_targets()
+pub fn tiles_in_schedules_are_targets()
     ensures { (job : Pipeline) (inlining : List Bool) (g i j : ℕ) (grid : Grid) → IsJob job
         → grid_at job g ≡ Some grid → HasTile grid i j
         → IsTarget (target_over job inlining g (tile_area grid i j)) }
@@ -56,7 +56,7 @@ pub fn tiles_are_targets()
 
 /// Boxes, and the regions of all stages in a target, are areas that lie in the domains. The listed stages are functions with
 /// their boxes.
-pub fn boxes_lie_in_domains()
+pub fn boxes_of_schedules_lie_in_domains()
     ensures boxes { (t : Target) (g : ℕ) (s : Stage) (a : Area) → IsJob t.job
         → slice_get t.job.stages g ≡ Some s → box t g ≡ Some a
         → IsArea a × IsSubarea a s.domain }
@@ -67,7 +67,7 @@ pub fn boxes_lie_in_domains()
 {}
 
 /// Where nothing is inlined a target takes no scratch memory, and its own points alone.
-pub fn stored_stages_take_no_scratch()
+pub fn stored_schedules_take_no_scratch()
     ensures scratch { (t : Target) → t.inlining ≡ all_stored t.job → scratch t ≡ 0 }
     ensures points { (t : Target) → t.inlining ≡ all_stored t.job
         → points t ≡ point_count t.region }

@@ -1,4 +1,7 @@
 //! Schedules: which functions of a job are inlined into the tiles that need them.
+//!
+//! Words: schedule, group, grouper, reader, pointwise, separable, inlining, trial, stage status, find grid tile, identity
+//! index, box points, meets case box, meets all case boxes.
 #![tactic(auto)]
 
 mod across;

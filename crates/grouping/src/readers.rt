@@ -34,12 +34,12 @@ fn is_reader_of_stage(job: &Job, number: usize, reader: usize) -> bool
     ensures { result ≡ is_reader_of_stage (pipeline_in job.now) number reader }
 {
     match job.stage(reader) {
-        Some(stage) => has_read_of_stage(stage, number),
+        Some(stage) => is_stage_reader(stage, number),
         None => false,
     }
 }
 
-fn has_read_of_stage(stage: &Stage, number: usize) -> bool
+fn is_stage_reader(stage: &Stage, number: usize) -> bool
     ensures { result
         ≡ list_any (λ x. stage_read x == number) (reads_of (stage_view stage.now).body) }
 {

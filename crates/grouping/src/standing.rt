@@ -4,7 +4,7 @@
 ghost use Rattle.std.specs.Prelude.{◌≡◌, Some};
 ghost use Rattle.grouping.specs.inside.Trials.{find_kept_cost, find_kept_box, find_kept_scratch};
 
-use crate::boxes::BoxesByTile;
+use crate::boxes::GroupBoxes;
 use domains::Area;
 
 /// The status of a stage.
@@ -13,7 +13,7 @@ pub(crate) enum StageStatus {
     /// Stored: how many points its tiles take together, and how many each of them has in scratch memory.
     Stored(u64, Vec<u64>),
     /// Inlined: its boxes in the tiles of its group.
-    Inlined(BoxesByTile),
+    Inlined(GroupBoxes),
 }
 
 impl StageStatus {

@@ -14,9 +14,9 @@ ghost use Rattle.tile_boxes.specs.Targets.{region, box, demands_by, target_over}
 ghost use Rattle.grouping.specs.inside.Trials.{grouping_of, find_kept_box, find_kept_scratch, count_box_points, IsCandidate, IsOverTile, IsTrialOf, AreTaken, IsRowOfBoxes};
 ghost use Rattle.tile_boxes.specs.Walks.{InDomainRanges, demanded_all, target_of};
 
-use crate::between::{NumberedTile, WholeBoxes};
-use crate::boxes::{BoxesByTile, SeparableBoxes};
-use crate::greedy::{Grouper, count_stage_tiles};
+use crate::between::{NumberedTile, WholeReaderBoxes};
+use crate::boxes::{GroupBoxes, SeparableBoxes};
+use crate::greedy::{Grouper, count_group_tiles};
 use domains::{Area, Span};
 use job::Job;
 use std::alloc::{AllocError, Global};
@@ -35,7 +35,7 @@ pub(crate) struct InlineCandidate {
 /// scratch memory.
 #[derive(Drop)]
 pub(crate) struct InlineTrial {
-    pub(crate) boxes: BoxesByTile,
+    pub(crate) boxes: GroupBoxes,
     pub(crate) added: u64,
     pub(crate) scratch: Vec<u64>,
 }
@@ -51,12 +51,12 @@ impl InlineTrial {
 
 /// How many points the boxes in the tiles so far have together, and how many each of these tiles then has in scratch memory.
 #[derive(Drop)]
-struct PointTally {
+struct TrialPoints {
     added: u64,
     scratch: Vec<u64>,
 }
 
-impl PointTally {
+impl TrialPoints {
     // Adds a tile whose box has `points` points, and which had `before` points in scratch memory.
     fn add_tile(&mut self, points: u64, before: u64) -> Result<(), AllocError>
         requires added { self.old.added + points < 2 ^ 64 }
@@ -73,20 +73,20 @@ impl PointTally {
 
 /// The same of the tiles so far, with the box in each.
 #[derive(Drop)]
-struct BoxTally {
+struct TrialBoxes {
     boxes: Vec<Option<Area>>,
     added: u64,
     scratch: Vec<u64>,
 }
 
-impl BoxTally {
+impl TrialBoxes {
     // No tiles so far, with capacity for `count` tiles.
-    fn new(alloc: Global, count: usize) -> Result<BoxTally, AllocError>
+    fn new(alloc: Global, count: usize) -> Result<TrialBoxes, AllocError>
         ensures boxes { IfOk result (λ t. t.boxes.items ≡ []) }
         ensures added { IfOk result (λ t. t.added ≡ 0) }
         ensures scratch { IfOk result (λ t. t.scratch.items ≡ []) }
     {
-        Ok(BoxTally {
+        Ok(TrialBoxes {
             boxes: Vec::with_capacity(alloc, count)?,
             added: 0,
             scratch: Vec::with_capacity(alloc, count)?,
@@ -138,7 +138,7 @@ impl Grouper {
         match self.find_separable_boxes(alloc, job, candidate, &mut hulls)? {
             Some(spans) => self.try_separable_boxes(alloc, job, candidate, spans),
             None => {
-                let tiles = list_stage_tile_areas(alloc, job, candidate.group)?;
+                let tiles = list_areas_of_group_tiles(alloc, job, candidate.group)?;
                 self.try_each_tile(alloc, job, candidate, &tiles, &mut hulls)
             }
         }
@@ -186,7 +186,7 @@ impl Grouper {
     {
         let taken = self.tally_separable_boxes(alloc, job, candidate, &spans.rows, &spans.cols)?;
         Ok(InlineTrial {
-            boxes: BoxesByTile::Crossed(spans),
+            boxes: GroupBoxes::Crossed(spans),
             added: taken.added,
             scratch: taken.scratch,
         })
@@ -200,7 +200,7 @@ impl Grouper {
         candidate: &InlineCandidate,
         rows: &[Span],
         cols: &[Span],
-    ) -> Result<PointTally, AllocError>
+    ) -> Result<TrialPoints, AllocError>
         requires stand { AllStand (pipeline_in job.now) (grouping_of self.now)
             self.now.standings.items }
         requires candidate { IsCandidate (pipeline_in job.now) (grouping_of self.now)
@@ -210,9 +210,9 @@ impl Grouper {
         ensures { IfOk result (AreTaken (pipeline_in job.now) self.now.inlining candidate.now.group
             candidate.now.number (length rows.now * length cols.now)) }
     {
-        let mut taken = PointTally {
+        let mut taken = TrialPoints {
             added: 0,
-            scratch: Vec::with_capacity(alloc, count_stage_tiles(job, candidate.group))?,
+            scratch: Vec::with_capacity(alloc, count_group_tiles(job, candidate.group))?,
         };
         for (row, span) in rows.iter().enumerate() {
             self.tally_box_row(job, candidate, &mut taken, span, cols, row * cols.len())?;
@@ -225,7 +225,7 @@ impl Grouper {
         &self,
         job: &Job,
         candidate: &InlineCandidate,
-        taken: &mut PointTally,
+        taken: &mut TrialPoints,
         rows: &Span,
         cols: &[Span],
         first: usize,
@@ -272,15 +272,15 @@ impl Grouper {
         ensures { IfOk result (IsTrialOf (pipeline_in job.now) self.now.inlining
             candidate.now.group candidate.now.number) }
     {
-        let mut trial = BoxTally::new(alloc, tiles.len())?;
-        let mut wholes = WholeBoxes::new(alloc, job, candidate.group, tiles.len())?;
+        let mut trial = TrialBoxes::new(alloc, tiles.len())?;
+        let mut wholes = WholeReaderBoxes::new(alloc, job, candidate.group, tiles.len())?;
         for (place, tile) in tiles.iter().enumerate() {
             let spot = NumberedTile { place, tile: *tile };
             let area = self.find_next_tile_box(job, candidate, tiles, &mut wholes, &spot, hulls)?;
             trial.add_tile_box(area, self.find_kept_scratch(candidate.group, place))?;
         }
         Ok(InlineTrial {
-            boxes: BoxesByTile::Each(trial.boxes),
+            boxes: GroupBoxes::Each(trial.boxes),
             added: trial.added,
             scratch: trial.scratch,
         })
@@ -292,7 +292,7 @@ impl Grouper {
         job: &Job,
         candidate: &InlineCandidate,
         tiles: &[Area],
-        wholes: &mut WholeBoxes,
+        wholes: &mut WholeReaderBoxes,
         spot: &NumberedTile,
         hulls: &mut [Option<Area>],
     ) -> Result<Option<Area>, AllocError>
@@ -320,7 +320,7 @@ impl Grouper {
             return Ok(between);
         }
         let area = self.find_box_in_tile(job, candidate, spot, hulls);
-        let whole = self.keep_box_if_readers_whole(job, candidate, spot, &area);
+        let whole = self.accept_box_if_readers_whole(job, candidate, spot, &area);
         wholes.push_box(whole)?;
         Ok(area)
     }
@@ -350,7 +350,7 @@ impl Grouper {
             stage: candidate.group,
             region: spot.tile,
         };
-        clear_bounding_box(hulls, candidate.number);
+        clear_trial_bounding_box(hulls, candidate.number);
         self.demand_reads_of_readers(hulls, &walk, &candidate.readers, spot.place);
         walk.find_stage_box(hulls, candidate.number)
     }
@@ -413,7 +413,7 @@ impl Grouper {
 }
 
 // Nothing is demanded of this stage yet.
-fn clear_bounding_box(hulls: &mut [Option<Area>], number: usize)
+fn clear_trial_bounding_box(hulls: &mut [Option<Area>], number: usize)
     ensures { hulls.new ≡ slice_set hulls.old number None }
 {
     if number < hulls.len() {
@@ -422,7 +422,7 @@ fn clear_bounding_box(hulls: &mut [Option<Area>], number: usize)
 }
 
 /// The areas of the tiles of a stage; planes have none.
-pub(crate) fn list_stage_tile_areas(
+pub(crate) fn list_areas_of_group_tiles(
     alloc: Global,
     job: &Job,
     number: usize,

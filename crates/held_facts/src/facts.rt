@@ -6,7 +6,7 @@ ghost use Rattle.std.specs.Option.{option_copied};
 ghost use Rattle.std.specs.Prelude.{◌≡◌, ◌<◌, ◌^◌, OnOk, OnErr, IfOk, IfErr, length, slice_get, filter, false};
 
 use crate::answers::{Known, Taken};
-use fact_store::{FactStore, TableFacts, is_fact_key_of_jobs};
+use fact_store::{FactStore, TableFacts, is_fact_set_key_of_jobs};
 use identity::{JobId, Key};
 use std::alloc::{AllocError, AllocFailed, Global};
 use std::marker::Model;
@@ -88,7 +88,7 @@ impl<S: FactStore> HeldFacts<S> {
     }
 
     /// How many facts of the key are held: none, one or several. No memory is taken.
-    pub fn classify_facts_of_key(&self, key: &Key) -> Known
+    pub fn classify_fact_count_of_key(&self, key: &Key) -> Known
         ensures { result ≡ known_of self.now key.now }
     {
         match self.store.count_facts_of_key(key) {
@@ -152,7 +152,7 @@ impl<S: FactStore> HeldFacts<S> {
         let mut next = self.find_least_fact_of_all_keys();
         while let Some(fact) = next {
             passed = passed.checked_add(1).ok_or(AllocError)?;
-            count += usize::from(is_fact_key_of_jobs(jobs, fact.key()));
+            count += usize::from(is_fact_set_key_of_jobs(jobs, fact.key()));
             next = self.find_least_fact_above(fact);
         }
         Ok(count)

@@ -36,7 +36,7 @@ fn find_held_tile_fact(facts: &[Fact], stage: usize, row: u32, col: u32) -> Opti
     ensures { option_copied result ≡ find (is_of_tile stage row col) facts.now }
 {
     let place = facts.partition_point(|fact| is_held_fact_before_tile(fact, stage, row, col));
-    let fact = get_fact_at_index(facts, place)?;
+    let fact = get_held_fact_at_index(facts, place)?;
     if is_held_fact_of_tile(fact, stage, row, col) {
         Some(fact)
     } else {
@@ -44,7 +44,7 @@ fn find_held_tile_fact(facts: &[Fact], stage: usize, row: u32, col: u32) -> Opti
     }
 }
 
-fn get_fact_at_index(facts: &[Fact], n: usize) -> Option<&Fact>
+fn get_held_fact_at_index(facts: &[Fact], n: usize) -> Option<&Fact>
     ensures { option_copied result ≡ slice_get facts.now n }
 {
     facts.get(n)

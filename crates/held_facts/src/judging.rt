@@ -66,7 +66,7 @@ impl<S: FactStore> HeldJobFacts<'_, S> {
         ensures fault { IfErr result
             (IsFaultAt self.now.state.now (pipeline_in self.now.job.now) key.now) }
     {
-        match self.state.classify_facts_of_key(key) {
+        match self.state.classify_fact_count_of_key(key) {
             Known::Nothing => Err(AnswerFault::Missing(*key)),
             Known::One => self.check_shape_of_held_fact(key),
             Known::Disputed => Err(AnswerFault::Disputed(*key)),

@@ -20,7 +20,7 @@ pub fn lent_facts_are_held()
 
 /// If all held facts are true of the jobs of a catalog, the answer for one of these jobs is its image and its totals. If there is
 /// no answer, nothing is held of the least wanted key that is not ready, or all are held and memory was refused.
-pub fn true_states_answer_the_job()
+pub fn true_held_facts_answer_the_job()
     ensures answer { (catalog : List Entry) (entry : Entry) (s : FactSet) (answer : Answer)
         → IsCatalog catalog → Contains catalog entry → IsJob entry.pipeline
         → HoldsTrueFacts catalog s → IsHeldAnswer s (ids_of entry).program entry.pipeline answer

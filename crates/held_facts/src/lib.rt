@@ -1,4 +1,6 @@
 //! The facts that a node holds, and what it makes and answers from them.
+//!
+//! Words: held, held fact, held tile, held job facts, lend, make fault, answer fault.
 #![tactic(auto)]
 
 mod answer_fault;

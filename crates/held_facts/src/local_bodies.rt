@@ -25,7 +25,7 @@ use tile_run::{TileScratch, run_tile};
 /// # Errors
 ///
 /// Fails only where memory is refused.
-pub(crate) fn compute_local_fact_body(
+pub(crate) fn compute_fact_body_from_held_tiles(
     alloc: Global,
     job: &Job,
     plan: &TilePlan<'_>,

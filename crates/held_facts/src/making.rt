@@ -12,7 +12,7 @@ ghost use Rattle.held_facts.specs.Facts.{facts_of};
 use crate::answers::Known;
 use crate::facts::HeldFacts;
 use crate::held_tiles::HeldTiles;
-use crate::local_bodies::compute_local_fact_body;
+use crate::local_bodies::compute_fact_body_from_held_tiles;
 use crate::make_fault::MakeFault;
 use catalog::Catalog;
 use fact_audit::{find_job_of_fact_key, is_well_shaped_fact};
@@ -47,7 +47,13 @@ impl<S: FactStore> HeldFacts<S> {
         let stage = usize::from(key.stage);
         let plan = TilePlan::of(self.alloc, job, schedule, stage, key.row, key.col)?;
         let facts = self.find_needed_facts(job, plan.needs())?;
-        let body = compute_local_fact_body(self.alloc, job, &plan, key, &HeldTiles { facts })?;
+        let body = compute_fact_body_from_held_tiles(
+            self.alloc,
+            job,
+            &plan,
+            key,
+            &HeldTiles { facts },
+        )?;
         match Fact::new(*key, body) {
             Ok(fact) => Ok(fact),
             Err(_) => unreachable!(),
@@ -75,7 +81,7 @@ impl<S: FactStore> HeldFacts<S> {
         ensures fits { IfOk result (λ fact. FitsJob fact (pipeline_in job.now)) }
         ensures fault { IfErr result (IsNeedFault self.now (pipeline_in job.now) need.now) }
     {
-        match self.classify_facts_of_key(need) {
+        match self.classify_fact_count_of_key(need) {
             Known::Nothing => Err(MakeFault::NeedMissing(*need)),
             Known::Disputed => Err(MakeFault::NeedDisputed(*need)),
             Known::Retired => unreachable!(),

@@ -9,7 +9,7 @@ use crate::facts::HeldFacts;
 use fact_store::FactStore;
 use identity::Key;
 use job::Job;
-use overlap_tiles::list_wanted_keys;
+use overlap_tiles::list_work_keys_of_results;
 use std::alloc::AllocError;
 
 impl<S: FactStore> HeldFacts<S> {
@@ -24,7 +24,7 @@ impl<S: FactStore> HeldFacts<S> {
             ≡ missing_keys self.now (program_id_in job.now) (pipeline_in job.now)) }
         ensures rising { IfOk result (λ keys. AllPairs IsKeyBefore keys.items) }
     {
-        let mut keys = list_wanted_keys(self.alloc, job)?;
+        let mut keys = list_work_keys_of_results(self.alloc, job)?;
         keys.retain(|key| self.count_facts_of_key(key) == 0);
         Ok(keys)
     }

@@ -48,7 +48,7 @@ impl IdList {
         ensures { IfOk result (λ copy. copy ≡ self.now) }
     {
         let mut ids = Vec::with_capacity(alloc, self.ids.len())?;
-        push_job_id_copies(&mut ids, &self.ids)?;
+        push_listed_job_id_copies(&mut ids, &self.ids)?;
         Ok(IdList { ids })
     }
 
@@ -77,12 +77,12 @@ impl IdList {
     }
 
     /// The identities that are in this list or in the other.
-    pub fn unite(&self, alloc: Global, other: &IdList) -> Result<IdList, AllocError>
+    pub fn build_union(&self, alloc: Global, other: &IdList) -> Result<IdList, AllocError>
         ensures { IfOk result (λ both. both ≡ union self.now other.now) }
     {
         let mut ids = Vec::with_capacity(alloc, self.ids.len())?;
-        push_job_id_copies(&mut ids, &self.ids)?;
-        push_job_id_copies(&mut ids, &other.ids)?;
+        push_listed_job_id_copies(&mut ids, &self.ids)?;
+        push_listed_job_id_copies(&mut ids, &other.ids)?;
         sort_without_repeats(&mut ids);
         Ok(IdList { ids })
     }
@@ -110,7 +110,7 @@ fn has_listed_job_id(list: &[JobId], ids: &JobId) -> bool
 }
 
 // Adds copies of the identities.
-fn push_job_id_copies(copies: &mut Vec<JobId>, ids: &[JobId]) -> Result<(), AllocError>
+fn push_listed_job_id_copies(copies: &mut Vec<JobId>, ids: &[JobId]) -> Result<(), AllocError>
     ensures { OnOk result (copies.new.items ≡ copies.old.items ++ ids.now) }
 {
     for one in ids {

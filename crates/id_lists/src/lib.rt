@@ -1,4 +1,6 @@
 //! Sets of jobs' identities as rising lists.
+//!
+//! Words: id list, listed job id.
 #![tactic(auto)]
 
 mod id_list;

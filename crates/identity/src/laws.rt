@@ -8,7 +8,7 @@ use crate::key::Key;
 use std::cmp::Ordering;
 
 /// Keys are in the order of their fields, which is total. Keys that compare as equal are equal.
-pub fn compare_keys(a: &Key, b: &Key) -> Ordering
+pub fn compare_key_fields(a: &Key, b: &Key) -> Ordering
     ensures fields { result ≡ key_cmp a.now b.now }
     ensures total { IsTotalOrder key_cmp }
     ensures one { (result ≡ Ordering.Equal) ↔ (a.now ≡ b.now) }

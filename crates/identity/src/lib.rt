@@ -1,4 +1,6 @@
 //! The identities of programs and of their inputs, and the keys of tiles.
+//!
+//! Words: id, key field, hex digit, hex byte, hex digest.
 #![tactic(auto)]
 
 mod ids;

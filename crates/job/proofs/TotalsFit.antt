@@ -101,5 +101,5 @@ module _ (job : Pipeline) (is : IsJob job) where
   by_stage g None there = All-nil (FitsSigned w64)
   by_stage g (Some s) there = body_totals_fit s s.domain s.body (is.stages g s there) refl (domain_is s (is.stages g s there)) (λ r c h. h)
 
-  pub totals_fit : (g : ℕ) → All (FitsSigned w64) (totals job g)
-  totals_fit g = by_stage g (slice_get job.stages g) refl
+  pub job_totals_fit_in_64_bits : (g : ℕ) → All (FitsSigned w64) (totals job g)
+  job_totals_fit_in_64_bits g = by_stage g (slice_get job.stages g) refl

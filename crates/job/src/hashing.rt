@@ -19,7 +19,7 @@ use std::alloc::{AllocError, Global};
 use tables::Table;
 
 /// The identity of the program of this canonical text.
-pub(crate) fn hash_program_text(text: &[u8]) -> ProgramId
+pub(crate) fn hash_job_program(text: &[u8]) -> ProgramId
     ensures { result ≡ sha256 text.now }
 {
     ProgramId::new(Sha256::digest(text))
@@ -43,16 +43,16 @@ fn hash_input_settings<D: Digest>(hasher: &mut D, parts: &BoundPipeline)
     let tables = parts.tables.as_slice();
     if tables.is_empty() {
         hasher.update(b"PTI1");
-        hash_sides_and_parameters(hasher, parts);
+        hash_input_sides_and_parameters(hasher, parts);
     } else {
         hasher.update(b"PTI2");
-        hash_sides_and_parameters(hasher, parts);
+        hash_input_sides_and_parameters(hasher, parts);
         hash_input_tables(hasher, tables);
     }
 }
 
 // The sides of the tiles and the parameters.
-fn hash_sides_and_parameters<D: Digest>(hasher: &mut D, parts: &BoundPipeline)
+fn hash_input_sides_and_parameters<D: Digest>(hasher: &mut D, parts: &BoundPipeline)
     ensures { (m : List ℕ) → D.holds hasher.old m
         → D.holds hasher.new (m ++ given_bytes (pipeline_of parts.now)) }
 {
@@ -96,10 +96,10 @@ fn hash_input_tables<D: Digest>(hasher: &mut D, tables: &[Table])
         → D.holds hasher.new (m ++ tables_bytes tables.now) }
 {
     hasher.update(&encode_input_count(tables.len()));
-    hash_each_input_table(hasher, tables);
+    hash_input_tables_without_count(hasher, tables);
 }
 
-fn hash_each_input_table<D: Digest>(hasher: &mut D, tables: &[Table])
+fn hash_input_tables_without_count<D: Digest>(hasher: &mut D, tables: &[Table])
     ensures { (m : List ℕ) → D.holds hasher.old m
         → D.holds hasher.new (m ++ flat_map table_bytes tables.now) }
 {
@@ -116,10 +116,10 @@ fn hash_input_table<D: Digest>(hasher: &mut D, table: &Table)
     hash_input_name(hasher, &table.name);
     hasher.update(&table.lo.to_be_bytes());
     hasher.update(&encode_input_count(values.len()));
-    hash_table_entries(hasher, values);
+    hash_input_table_entries(hasher, values);
 }
 
-fn hash_table_entries<D: Digest>(hasher: &mut D, entries: &[i32])
+fn hash_input_table_entries<D: Digest>(hasher: &mut D, entries: &[i32])
     ensures { (m : List ℕ) → D.holds hasher.old m
         → D.holds hasher.new (m ++ flat_map entry_bytes entries.now) }
 {
@@ -149,17 +149,17 @@ fn encode_input_settings(alloc: Global, parts: &BoundPipeline) -> Result<Vec<u8>
     let tables = parts.tables.as_slice();
     if tables.is_empty() {
         bytes.extend_from_slice(b"PTI1")?;
-        push_sides_and_parameters_bytes(&mut bytes, parts)?;
+        push_input_sides_and_parameters_bytes(&mut bytes, parts)?;
     } else {
         bytes.extend_from_slice(b"PTI2")?;
-        push_sides_and_parameters_bytes(&mut bytes, parts)?;
+        push_input_sides_and_parameters_bytes(&mut bytes, parts)?;
         push_input_tables_bytes(&mut bytes, tables)?;
     }
     Ok(bytes)
 }
 
 // The sides of the tiles and the parameters.
-fn push_sides_and_parameters_bytes(
+fn push_input_sides_and_parameters_bytes(
     bytes: &mut Vec<u8>,
     parts: &BoundPipeline,
 ) -> Result<(), AllocError>
@@ -192,10 +192,10 @@ fn push_input_table_bytes(bytes: &mut Vec<u8>, table: &Table) -> Result<(), Allo
     push_input_name_bytes(bytes, &table.name)?;
     bytes.extend_from_slice(&table.lo.to_be_bytes())?;
     bytes.extend_from_slice(&encode_input_count(values.len()))?;
-    push_table_entries_bytes(bytes, values)
+    push_input_table_entries_bytes(bytes, values)
 }
 
-fn push_table_entries_bytes(bytes: &mut Vec<u8>, entries: &[i32]) -> Result<(), AllocError>
+fn push_input_table_entries_bytes(bytes: &mut Vec<u8>, entries: &[i32]) -> Result<(), AllocError>
     ensures { OnOk result (bytes.new.items ≡ bytes.old.items ++ flat_map entry_bytes entries.now) }
 {
     for entry in entries {

@@ -55,7 +55,7 @@ impl Job {
         ensures text { program_text_in result ≡ text.items }
         ensures program { program_id_in result ≡ sha256 text.items }
     {
-        let program = hashing::hash_program_text(&text);
+        let program = hashing::hash_job_program(&text);
         Job {
             parts,
             text,
@@ -65,7 +65,7 @@ impl Job {
     }
 
     /// The same job with tiles of these sides, if no stage has more than 65,536 of them. Its answer is the same
-    /// (`laws::answers_know_no_sides`), and its input has another identity if the sides differ.
+    /// (`laws::job_answers_do_not_depend_on_tiling`), and its input has another identity if the sides differ.
     ///
     /// # Errors
     ///

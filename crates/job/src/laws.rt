@@ -22,7 +22,7 @@ ghost use Rattle.job.specs.Identity.{input_bytes};
 
 /// Reads lead to lower ranks. So a value is what its stage makes of the values that it reads, and steps beyond the rank change
 /// nothing.
-pub fn values_unroll()
+pub fn stage_values_follow_from_lower_ranks()
     ensures falls { (stages : List Stage) (g : ℕ) (s : Stage) → IsRanked stages
         → slice_get stages g ≡ Some s
         → All (λ x. rank_of stages (stage_read x) < rank_of stages g) (reads_of s.body) }
@@ -33,14 +33,14 @@ pub fn values_unroll()
 {}
 
 /// On their domains the stages' equations have one solution, the values of the job.
-pub fn values_are_the_one_solution()
+pub fn stage_equations_have_one_solution()
     ensures solves { (job : Pipeline) → IsJob job → Solves job (value job) }
     ensures only { (job : Pipeline) (env : Valuation) (g : ℕ) (r c : ℤ) → IsJob job → Solves job env
         → IsReadable job.stages g r c → env g r c ≡ value job g r c }
 {}
 
 /// The answer of a job does not depend on the sides of tiles.
-pub fn answers_know_no_sides()
+pub fn job_answers_do_not_depend_on_tiling()
     ensures values { (job : Pipeline) (sides : Sides) → value (with_sides sides job) ≡ value job }
     ensures image { (job : Pipeline) (sides : Sides) → image (with_sides sides job) ≡ image job }
     ensures totals { (job : Pipeline) (sides : Sides) (g : ℕ)
@@ -48,13 +48,13 @@ pub fn answers_know_no_sides()
 {}
 
 /// Each value of a job is a number of 32 bits.
-pub fn values_fit()
+pub fn stage_values_fit_in_32_bits()
     ensures { (job : Pipeline) (g : ℕ) (r c : ℤ) → IsJob job → IsReadable job.stages g r c
         → FitsSigned w32 (value job g r c) }
 {}
 
 /// Each total of a job is a number of 64 bits, over all points and over a part of them.
-pub fn totals_fit()
+pub fn job_totals_fit_in_64_bits()
     ensures whole { (job : Pipeline) (g : ℕ) → IsJob job → All (FitsSigned w64) (totals job g) }
     ensures part { (job : Pipeline) (g : ℕ) (s : Stage) (area : Area) → IsJob job
         → slice_get job.stages g ≡ Some s → IsArea area → IsSubarea area s.domain
@@ -63,7 +63,7 @@ pub fn totals_fit()
 
 /// Two valuations that have one value for all that is read give one value. This holds of a formula at a point or over a region,
 /// of a stage at a point of its domain, and of totals over an area.
-pub fn what_is_read_decides()
+pub fn equal_reads_give_equal_stage_values()
     ensures formula { (e h : Valuation) (f : Formula) (r c : ℤ) → EachRead (SameAt e h) f r c
         → formula_value e f r c ≡ formula_value h f r c }
     ensures region { (e h : Valuation) (region : Area) (f : Formula) → AgreeOver e h region f
@@ -77,13 +77,13 @@ pub fn what_is_read_decides()
 {}
 
 /// The total of two lists of values, one after the other, is that of their totals.
-pub fn totals_join()
+pub fn job_totals_join_over_parts()
     ensures { (way : ReductionOp) (vs ws : List ℤ)
         → total_of way (vs ++ ws) ≡ joined way (total_of way vs) (total_of way ws) }
 {}
 
 /// The box of tests has the points of the domain at which the tests of bounds hold, and is an area if there are any.
-pub fn boxes_are_cut_by_bounds()
+pub fn job_case_areas_are_cut_by_bounds()
     ensures cut { (domain : Area) (tests : List Test)
         → IsCutArea (BoundsHold tests) domain (box_of domain tests) }
     ensures area { (domain box : Area) (tests : List Test) → IsArea domain

@@ -1,5 +1,7 @@
 //! A job: a program at its parameters' values, with the picture that it works on and the sides of its tiles. Its definitions
 //! specify the value of a stage at a point. It knows of no text but the canonical one that it keeps.
+//!
+//! Words: job, stage, function, formula, accumulator, output, input, same input, hash input, push input, worked job.
 #![tactic(auto)]
 
 mod bound_pipeline;

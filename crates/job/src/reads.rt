@@ -70,7 +70,7 @@ fn push_formula_reads(found: &mut Vec<Read>, formula: &Formula) -> Result<(), Al
     }
 }
 
-fn push_case_reads(found: &mut Vec<Read>, cases: &[JobCase]) -> Result<(), AllocError>
+fn push_job_case_reads(found: &mut Vec<Read>, cases: &[JobCase]) -> Result<(), AllocError>
     ensures { OnOk result (map read_view found.new.items
         ≡ map read_view found.old.items
         ++ flat_map reads_in (map (λ p. formula_view p.formula) cases.now)) }
@@ -81,7 +81,10 @@ fn push_case_reads(found: &mut Vec<Read>, cases: &[JobCase]) -> Result<(), Alloc
     Ok(())
 }
 
-fn push_otherwise_reads(found: &mut Vec<Read>, other: &Option<Formula>) -> Result<(), AllocError>
+fn push_otherwise_formula_reads(
+    found: &mut Vec<Read>,
+    other: &Option<Formula>,
+) -> Result<(), AllocError>
     ensures { OnOk result (map read_view found.new.items
         ≡ map read_view found.old.items
         ++ flat_map reads_in (other_formula (option_map formula_view other.now))) }
@@ -105,7 +108,7 @@ pub(crate) fn collect_formula_reads(
 }
 
 /// What a formula reads, if there is one.
-pub(crate) fn collect_otherwise_reads(
+pub(crate) fn collect_otherwise_formula_reads(
     alloc: Global,
     otherwise: &Option<Formula>,
 ) -> Result<Vec<Read>, AllocError>
@@ -113,7 +116,7 @@ pub(crate) fn collect_otherwise_reads(
         ≡ flat_map reads_in (other_formula (option_map formula_view otherwise.now))) }
 {
     let mut found = Vec::new(alloc);
-    push_otherwise_reads(&mut found, otherwise)?;
+    push_otherwise_formula_reads(&mut found, otherwise)?;
     Ok(found)
 }
 
@@ -128,8 +131,8 @@ pub(crate) fn collect_function_reads(
         ++ other_formula (option_map formula_view otherwise.now))) }
 {
     let mut found = Vec::new(alloc);
-    push_case_reads(&mut found, cases)?;
-    push_otherwise_reads(&mut found, otherwise)?;
+    push_job_case_reads(&mut found, cases)?;
+    push_otherwise_formula_reads(&mut found, otherwise)?;
     Ok(found)
 }
 

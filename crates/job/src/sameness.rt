@@ -23,7 +23,7 @@ pub(crate) fn has_same_input_bytes(a: &BoundPipeline, b: &BoundPipeline) -> bool
     requires second { IsJob (pipeline_of b.now) }
     ensures { IsTrue result ↔ input_bytes (pipeline_of a.now) ≡ input_bytes (pipeline_of b.now) }
 {
-    if !has_same_tile_sides(&a.sides, &b.sides) {
+    if !has_same_input_sides(&a.sides, &b.sides) {
         return false;
     }
     if a.tables.is_empty() != b.tables.is_empty() {
@@ -38,7 +38,7 @@ pub(crate) fn has_same_input_bytes(a: &BoundPipeline, b: &BoundPipeline) -> bool
     is_same_input_picture(&a.picture, &b.picture)
 }
 
-fn has_same_tile_sides(a: &TileSides, b: &TileSides) -> bool
+fn has_same_input_sides(a: &TileSides, b: &TileSides) -> bool
     ensures { IsTrue result ↔ a.now ≡ b.now }
 {
     a == b
@@ -101,10 +101,10 @@ fn is_same_input_table(a: &Table, b: &Table) -> bool
 {
     a.name.as_bytes() == b.name.as_bytes()
         && a.lo == b.lo
-        && has_same_table_entries(a.values.as_slice(), b.values.as_slice())
+        && has_same_input_table_entries(a.values.as_slice(), b.values.as_slice())
 }
 
-fn has_same_table_entries(a: &[i32], b: &[i32]) -> bool
+fn has_same_input_table_entries(a: &[i32], b: &[i32]) -> bool
     ensures { IsTrue result ↔ a.now ≡ b.now }
 {
     a == b
@@ -116,17 +116,17 @@ fn is_same_input_picture(a: &Picture, b: &Picture) -> bool
     a.rows() == b.rows()
         && a.cols() == b.cols()
         && a.max() == b.max()
-        && has_same_picture_planes(a, b)
+        && has_same_input_planes(a, b)
 }
 
-fn has_same_picture_planes(a: &Picture, b: &Picture) -> bool
+fn has_same_input_planes(a: &Picture, b: &Picture) -> bool
     ensures { IsTrue result ↔ a.now.planes ≡ b.now.planes }
 {
     if a.plane_count() != b.plane_count() {
         return false;
     }
     for plane in 0..a.plane_count() {
-        if !has_same_plane_samples(&a.samples(plane), &b.samples(plane)) {
+        if !has_same_input_samples(&a.samples(plane), &b.samples(plane)) {
             return false;
         }
     }
@@ -134,7 +134,7 @@ fn has_same_picture_planes(a: &Picture, b: &Picture) -> bool
 }
 
 // Whether samples are the same, however they lie in memory.
-fn has_same_plane_samples(a: &PlaneSamples<'_>, b: &PlaneSamples<'_>) -> bool
+fn has_same_input_samples(a: &PlaneSamples<'_>, b: &PlaneSamples<'_>) -> bool
     ensures { IsTrue result
         ↔ (count_in a.now ≡ count_in b.now)
         × ((k : ℕ) → k < count_in a.now → sample_in a.now k ≡ sample_in b.now k) }

@@ -12,7 +12,7 @@ ghost use Rattle.job.specs.TileSides.{HasFewTiles};
 use crate::formula::Formula;
 use crate::job::StageKind;
 use crate::reads::{
-    Read, collect_formula_reads, collect_function_reads, collect_otherwise_reads,
+    Read, collect_formula_reads, collect_function_reads, collect_otherwise_formula_reads,
     collect_reads_of_two_formulas,
 };
 use domains::{Area, Grid, Span, TileSides};
@@ -248,7 +248,7 @@ impl Function {
         ensures cases { IfOk result (λ f. f.cases ≡ cases) }
         ensures otherwise { IfOk result (λ f. f.otherwise ≡ otherwise) }
     {
-        let otherwise_reads = collect_otherwise_reads(alloc, &otherwise)?;
+        let otherwise_reads = collect_otherwise_formula_reads(alloc, &otherwise)?;
         let all_reads = collect_function_reads(alloc, &cases, &otherwise)?;
         Ok(Function {
             cases,

@@ -36,7 +36,7 @@ impl Desk {
     }
 
     // The lease of a key, if it is not over at the time.
-    fn find_lease(&self, key: &Key, time: u64) -> Option<Lease>
+    fn find_lease_in_force(&self, key: &Key, time: u64) -> Option<Lease>
         ensures { result ≡ shown_lease time self.now key.now }
     {
         let lease = *self.leases.get(key)?;
@@ -61,7 +61,7 @@ impl Desk {
         ensures kept { lease_count self.new ≤ lease_count self.old + 1 }
     {
         let time = self.clock.max(now);
-        let claim = Claim::decide_by_lease(self.find_lease(&key, time), time, node, ttl);
+        let claim = Claim::decide_by_lease(self.find_lease_in_force(&key, time), time, node, ttl);
         if let Some(lease) = claim.to_lease(time, node) {
             let Ok(_) = self.leases.insert(key, lease) else {
                 return Claim::Memory;
@@ -82,7 +82,7 @@ impl Desk {
         ensures fewer { result ≡ Release.Released → lease_count self.new + 1 ≤ lease_count self.old }
     {
         self.clock = self.clock.max(now);
-        let release = Release::decide_by_lease(self.find_lease(key, self.clock), node);
+        let release = Release::decide_by_lease(self.find_lease_in_force(key, self.clock), node);
         if let Release::Released = release {
             self.leases.remove(key);
         }
@@ -98,7 +98,8 @@ impl Desk {
         ensures kept { lease_count self.new ≡ lease_count self.old }
     {
         self.clock = self.clock.max(now);
-        self.find_lease(key, self.clock).map(|lease| lease.node)
+        self.find_lease_in_force(key, self.clock)
+            .map(|lease| lease.node)
     }
 
     // The time of a call.

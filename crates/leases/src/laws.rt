@@ -19,7 +19,7 @@ pub fn leases_are_disjoint()
 {}
 
 /// The times of the entries never fall, and the time of the history is not before them.
-pub fn times_never_fall()
+pub fn lease_times_never_fall()
     ensures rises { (h : List LeaseEntry) (t : ℕ) → IsLegal h t
         → AllPairs (λ a b. time_of a ≤ time_of b) h }
     ensures last { (h : List LeaseEntry) (t : ℕ) → IsLegal h t → All (λ e. time_of e ≤ t) h }

@@ -1,4 +1,6 @@
 //! Leases of keys: for each key one holder at a time, by a clock that the callers supply.
+//!
+//! Words: lease, desk, claim, release.
 #![tactic(auto)]
 
 mod answer;

@@ -11,7 +11,7 @@ ghost use Rattle.node_state.specs.States.{facts_in, lent, retired_in};
 ghost use Rattle.std.specs.Prelude.{◌≡◌, ◌++◌, ◌∷◌, [], IfErr, IfOk, OnErr, OnOk, length};
 ghost use Rattle.updates.specs.TrueUpdates.{AreTrue};
 
-use crate::event::{Event, Updates, copy_updates_to_sequence, make_lent_event};
+use crate::event::{Event, Updates, copy_updates_for_node_event, make_lent_node_event};
 use crate::receipt::{Loan, Receipt};
 use catalog::{Catalog, NamedCatalog};
 use fact_store::{FactStore, TableFacts};
@@ -105,8 +105,8 @@ impl<C: NamedCatalog, S: FactStore> NodeBook<C, S> {
     {
         let facts = self.held.lend(keys)?;
         let retired = self.held.retired().to_vec(self.alloc)?;
-        let lent = make_lent_event(self.alloc, keys, &retired)?;
-        let event = make_lent_event(self.alloc, keys, &retired)?;
+        let lent = make_lent_node_event(self.alloc, keys, &retired)?;
+        let event = make_lent_node_event(self.alloc, keys, &retired)?;
         self.history.reserve(1)?;
         let number = self.history.len() as u64;
         self.history.push_reserved(lent);
@@ -140,8 +140,8 @@ impl<C: NamedCatalog, S: FactStore> NodeBook<C, S> {
         ensures number { IfOk result (λ number. number ≡ length self.old) }
         ensures unchanged { OnErr result (self.new ≡ self.old) }
     {
-        let taken = copy_updates_to_sequence(self.alloc, updates)?;
-        let state: NodeState<S> = build_node_state_from_updates(self.alloc, updates)?;
+        let taken = copy_updates_for_node_event(self.alloc, updates)?;
+        let state: NodeState<S> = build_node_book_state_from_updates(self.alloc, updates)?;
         self.history.reserve(1)?;
         self.held.merge(&state)?;
         let number = self.history.len() as u64;
@@ -182,7 +182,7 @@ impl<C: NamedCatalog, S: FactStore> NodeBook<C, S> {
     }
 
     /// What is held at the end, and all events.
-    pub fn into_parts(self) -> (NodeState<S>, Vec<Event>)
+    pub fn into_state_and_history(self) -> (NodeState<S>, Vec<Event>)
         ensures stands { result.0 ≡ (replay self).held }
         ensures truth { HoldsTrueFacts C.catalog result.0.facts }
         ensures events { result.1.items ≡ self }
@@ -194,7 +194,7 @@ impl<C: NamedCatalog, S: FactStore> NodeBook<C, S> {
 }
 
 // What these updates alone make.
-fn build_node_state_from_updates<S: FactStore>(
+fn build_node_book_state_from_updates<S: FactStore>(
     alloc: Global,
     updates: &[Update],
 ) -> Result<NodeState<S>, AllocError>
@@ -202,13 +202,13 @@ fn build_node_state_from_updates<S: FactStore>(
 {
     let mut state = NodeState::new(alloc);
     for update in updates {
-        apply_update_to_node_state(&mut state, update)?;
+        apply_update_to_node_book_state(&mut state, update)?;
     }
     Ok(state)
 }
 
 // Takes an update into a state.
-fn apply_update_to_node_state<S: FactStore>(
+fn apply_update_to_node_book_state<S: FactStore>(
     state: &mut NodeState<S>,
     update: &Update,
 ) -> Result<(), AllocError>

@@ -7,7 +7,7 @@ use identity::{JobId, Key};
 use sequences::Sequence;
 use std::alloc::{AllocError, Global};
 use tile_fact::Update;
-use updates::copy_updates;
+use updates::copy_update_list;
 
 /// Keys, in the order in which they were requested.
 pub type Keys = Sequence<Key>;
@@ -19,7 +19,7 @@ pub type RetiredIds = Sequence<JobId>;
 pub type Updates = Sequence<Update>;
 
 /// The event that facts of these keys are lent, with these identities of retired jobs.
-pub(crate) fn make_lent_event(
+pub(crate) fn make_lent_node_event(
     alloc: Global,
     keys: &[Key],
     retired: &[JobId],
@@ -32,13 +32,13 @@ pub(crate) fn make_lent_event(
 }
 
 /// A copy of updates, which shares their numbers.
-pub(crate) fn copy_updates_to_sequence(
+pub(crate) fn copy_updates_for_node_event(
     alloc: Global,
     updates: &[Update],
 ) -> Result<Updates, AllocError>
     ensures { IfOk result (λ copy. copy ≡ updates.now) }
 {
-    Ok(Updates::new(copy_updates(alloc, updates)?))
+    Ok(Updates::new(copy_update_list(alloc, updates)?))
 }
 
 /// What happened to a node, as its history records it.

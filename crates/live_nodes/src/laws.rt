@@ -7,7 +7,7 @@ ghost use Rattle.live_nodes.specs.declared.receipt.Receipt.{Receipt};
 ghost use Rattle.std.specs.Prelude.{◌≡◌, ◌↔◌, ◌++◌, ◌∷◌, [], List, length, sum_by};
 
 /// A history grows at its end: its last event happens to the node that the events before it leave, and is allowed there.
-pub fn events_come_one_by_one()
+pub fn node_events_are_replayed_one_by_one()
     ensures replay { (h : List EventType) (e : EventType) →
         replay (h ++ e ∷ []) ≡ node_after (replay h) e }
     ensures legal { (h : List EventType) (e : EventType) →
@@ -15,7 +15,7 @@ pub fn events_come_one_by_one()
 {}
 
 /// If lists of receipts account for a history, they have together as many receipts as it has events.
-pub fn receipts_are_as_many_as_events()
+pub fn receipts_are_as_many_as_node_events()
     ensures { (history : List EventType) (lists : List (List Receipt)) → AccountFor history lists
         → length history ≡ sum_by length lists }
 {}

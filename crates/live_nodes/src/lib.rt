@@ -1,5 +1,7 @@
 //! Nodes that threads share: each is a book under a lock, with a seat for each caller, a receipt for each recorded call, and at
 //! its end a history that is checked against all receipts.
+//!
+//! Words: live node, node book, closed node, close fault, node event, node event part, receipt, seat.
 #![tactic(auto)]
 
 mod book;
@@ -18,6 +20,6 @@ pub use closing::{ClosedNode, close_node_book};
 pub use event::{Event, Keys, RetiredIds, Updates};
 pub use fault::CloseFault;
 pub use live::LiveNode;
-pub use matching::match_receipts;
+pub use matching::match_receipts_with_node_events;
 pub use receipt::{Loan, Receipt};
 pub use seat::Seat;

@@ -20,7 +20,7 @@ use std::alloc::Global;
 ///
 /// Fails at the first receipt, list after list, that does not fit. Else fails at the least number that is on no receipt. Fails
 /// where memory is refused.
-pub fn match_receipts<T>(
+pub fn match_receipts_with_node_events<T>(
     alloc: Global,
     history: &[Event],
     lists: &[(T, Vec<Receipt>)],
@@ -31,7 +31,7 @@ pub fn match_receipts<T>(
 {
     let mut seen = Vec::from_elem(alloc, false, history.len())?;
     for list in lists {
-        if let Err(number) = mark_events_with_receipts(
+        if let Err(number) = mark_node_events_that_have_receipts(
             history,
             list.1.as_slice(),
             seen.as_mut_slice(),
@@ -39,14 +39,14 @@ pub fn match_receipts<T>(
             return Err(CloseFault::ReceiptMismatch(number));
         }
     }
-    match find_first_event_without_receipt(seen.as_slice()) {
+    match find_first_node_event_without_receipt(seen.as_slice()) {
         Some(number) => Err(CloseFault::ReceiptMismatch(number)),
         None => Ok(()),
     }
 }
 
 // Marks the numbers of one more list, or returns the number of the first receipt that does not fit.
-fn mark_events_with_receipts(
+fn mark_node_events_that_have_receipts(
     history: &[Event],
     receipts: &[Receipt],
     seen: &mut [bool],
@@ -88,7 +88,7 @@ fn is_receipt_in_history(history: &[Event], receipt: &Receipt) -> bool
 }
 
 // The least number that is not marked.
-fn find_first_event_without_receipt(seen: &[bool]) -> Option<u64>
+fn find_first_node_event_without_receipt(seen: &[bool]) -> Option<u64>
     ensures within { IfSome result (λ number. number < length seen.now) }
     ensures unseen { IfSome result (λ number. slice_index_or seen.now number false ≡ false) }
     ensures first { IfSome result

@@ -114,7 +114,7 @@ fn split_colour_samples(red: &mut [u16], green: &mut [u16], blue: &mut [u16], sa
 
 /// Puts the samples of three planes, interleaved, into the front of `out`.
 #[tactic(auto, using(crate::proofs::Rasters::weaved))]
-pub fn interleave_samples(out: &mut [u16], red: &[u16], green: &[u16], blue: &[u16])
+pub fn interleave_colour_samples(out: &mut [u16], red: &[u16], green: &[u16], blue: &[u16])
     requires green { length green.now ≡ length red.now }
     requires blue { length blue.now ≡ length red.now }
     requires room { 3 * length red.now ≤ length out.old }
@@ -129,7 +129,7 @@ pub fn interleave_samples(out: &mut [u16], red: &[u16], green: &[u16], blue: &[u
 
 /// The same of bytes.
 #[tactic(auto, using(crate::proofs::Rasters::weaved))]
-pub fn interleave_bytes(out: &mut [u8], red: &[u8], green: &[u8], blue: &[u8])
+pub fn interleave_colour_bytes(out: &mut [u8], red: &[u8], green: &[u8], blue: &[u8])
     requires green { length green.now ≡ length red.now }
     requires blue { length blue.now ≡ length red.now }
     requires room { 3 * length red.now ≤ length out.old }

@@ -45,7 +45,7 @@ pub fn read_picture_header(bytes: &[u8]) -> Result<PictureHeader, PicFault>
     let (coding, colours) = read_picture_magic(bytes)?;
     let (cols, end) = read_picture_side(bytes, 2)?;
     let (rows, end) = read_picture_side(bytes, end)?;
-    let (max, end) = read_max_sample(bytes, end)?;
+    let (max, end) = read_picture_max_sample(bytes, end)?;
     let end = read_picture_header_end(bytes, end)?;
     Ok(PictureHeader {
         coding,
@@ -122,7 +122,7 @@ fn read_picture_side(bytes: &[u8], at: usize) -> Result<(u32, usize), PicFault>
 
 // A gap and a greatest sample after it, and where its digits end.
 #[tactic(auto, unfolding(crate::specs::Reading::max_read))]
-fn read_max_sample(bytes: &[u8], at: usize) -> Result<(u16, usize), PicFault>
+fn read_picture_max_sample(bytes: &[u8], at: usize) -> Result<(u16, usize), PicFault>
     requires { at ≤ length bytes.now }
     ensures read { result ≡ max_read bytes.now at }
     ensures within { IfOk result (λ n. n.1 ≤ length bytes.now) }

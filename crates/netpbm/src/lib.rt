@@ -1,4 +1,7 @@
 //! Pictures in the formats PGM and PPM of Netpbm.
+//!
+//! Words: netpbm, picture, raster, raw, plane, pixels, header, colour, plain raster, packed sample, sample bytes, pic fault,
+//! read.
 #![tactic(auto)]
 
 mod colours;
@@ -19,7 +22,7 @@ mod text;
 mod writing;
 
 pub use fault::PicFault;
-pub use laws::{one_picture, one_spelling};
+pub use laws::{no_bytes_spell_two_pictures, raw_spelling_identifies_the_picture};
 pub use packed_plane::PackedPlane;
 pub use picture::{LONGEST_SIDE, Picture};
 pub use plane_samples::{PlaneSamples, SpacedBytes, SpacedPairs};

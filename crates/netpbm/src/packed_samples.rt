@@ -3,8 +3,8 @@ ghost use Rattle.std.specs.Prelude.{ℕ, ◌≡◌, ◌≤◌, ◌<◌, ◌++◌
 ghost use Rattle.plane_samples.specs.Samples.{IsSamples};
 ghost use Rattle.netpbm.specs.Widths.{list_of, Holds};
 
-use crate::picture::has_bounded_samples;
-use crate::raw_raster::convert_samples_to_bytes;
+use crate::picture::has_bounded_picture_samples;
+use crate::raw_raster::encode_sample_bytes;
 use plane_samples::{PlaneSamples, SpacedBytes};
 use std::alloc::{AllocError, Global};
 
@@ -47,12 +47,12 @@ pub fn append_packed_samples(
     ensures some { (n : ℕ) × (list_of made.new ≡ list_of made.old ++ take n samples.now) }
 {
     match made {
-        PackedSamples::Bytes(bytes) => append_samples_as_bytes(bytes, samples),
-        PackedSamples::Words(words) => append_sample_words(words, samples),
+        PackedSamples::Bytes(bytes) => append_packed_sample_bytes(bytes, samples),
+        PackedSamples::Words(words) => append_packed_sample_words(words, samples),
     }
 }
 
-fn append_sample_words(words: &mut Vec<u16>, samples: &[u16]) -> Result<(), AllocError>
+fn append_packed_sample_words(words: &mut Vec<u16>, samples: &[u16]) -> Result<(), AllocError>
     ensures all { OnOk result (words.new.items ≡ words.old.items ++ samples.now) }
     ensures some { (n : ℕ) × (words.new.items ≡ words.old.items ++ take n samples.now) }
 {
@@ -60,7 +60,7 @@ fn append_sample_words(words: &mut Vec<u16>, samples: &[u16]) -> Result<(), Allo
 }
 
 // Adds samples that are below 256 each, piece by piece.
-fn append_samples_as_bytes(bytes: &mut Vec<u8>, samples: &[u16]) -> Result<(), AllocError>
+fn append_packed_sample_bytes(bytes: &mut Vec<u8>, samples: &[u16]) -> Result<(), AllocError>
     requires { All (λ sample. sample < 256) samples.now }
     ensures all { OnOk result (bytes.new.items ≡ bytes.old.items ++ samples.now) }
     ensures some { (n : ℕ) × (bytes.new.items ≡ bytes.old.items ++ take n samples.now) }
@@ -69,7 +69,7 @@ fn append_samples_as_bytes(bytes: &mut Vec<u8>, samples: &[u16]) -> Result<(), A
     let mut done = 0;
     while done < samples.len() {
         let end = samples.len().min(done + PIECE);
-        convert_samples_to_bytes(&mut piece, &samples[done..end]);
+        encode_sample_bytes(&mut piece, &samples[done..end]);
         bytes.extend_from_slice(&piece[..end - done])?;
         done = end;
     }
@@ -105,13 +105,13 @@ pub fn has_bounded_packed_samples(made: &PackedSamples, max: u16) -> bool
     ensures { IsTrue result ↔ All (λ sample. sample ≤ max) (list_of made.now) }
 {
     match made {
-        PackedSamples::Bytes(bytes) => has_bounded_byte_samples(bytes.as_slice(), max),
-        PackedSamples::Words(words) => has_bounded_samples(max, words.as_slice()),
+        PackedSamples::Bytes(bytes) => has_bounded_sample_bytes(bytes.as_slice(), max),
+        PackedSamples::Words(words) => has_bounded_picture_samples(max, words.as_slice()),
     }
 }
 
 // Whether no byte is above `max`.
-fn has_bounded_byte_samples(bytes: &[u8], max: u16) -> bool
+fn has_bounded_sample_bytes(bytes: &[u8], max: u16) -> bool
     ensures { IsTrue result ↔ All (λ byte. byte ≤ max) bytes.now }
 {
     bytes.iter().all(|byte| u16::from(*byte) <= max)

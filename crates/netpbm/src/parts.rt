@@ -6,7 +6,7 @@ ghost use Rattle.plane_samples.specs.declared.samples.PlaneSamples.TheVariants.{
 use plane_samples::{PlaneSamples, SpacedBytes};
 
 /// A view of the samples from one place up to another: in place if they are words, else copied into the buffer `room`.
-pub fn view_or_copy_samples<'a>(
+pub fn view_or_copy_plane_slice<'a>(
     room: &'a mut [u16],
     samples: &PlaneSamples<'a>,
     start: usize,
@@ -21,14 +21,14 @@ pub fn view_or_copy_samples<'a>(
     match samples {
         PlaneSamples::Words(words) => &words[start..end],
         PlaneSamples::Bytes(_) | PlaneSamples::Pairs(_) => {
-            copy_plane_samples(room, samples, start, end);
+            copy_plane_slice(room, samples, start, end);
             &room[..end - start]
         }
     }
 }
 
 // Puts the samples from one place up to another into the front of `out`, one by one.
-fn copy_plane_samples(out: &mut [u16], samples: &PlaneSamples<'_>, start: usize, end: usize)
+fn copy_plane_slice(out: &mut [u16], samples: &PlaneSamples<'_>, start: usize, end: usize)
     requires order { start ≤ end }
     requires within { end ≤ count_in samples.now }
     requires room { end - start ≤ length out.old }
@@ -41,18 +41,18 @@ fn copy_plane_samples(out: &mut [u16], samples: &PlaneSamples<'_>, start: usize,
 }
 
 /// The samples as bytes, if each is a byte and they are contiguous.
-pub fn view_samples_as_bytes<'a>(samples: &PlaneSamples<'a>) -> Option<&'a [u8]>
+pub fn view_contiguous_sample_bytes<'a>(samples: &PlaneSamples<'a>) -> Option<&'a [u8]>
     ensures { IfSome result
         (λ bytes. (list : List ℕ) → IsSamples samples.now list → bytes.now ≡ list) }
 {
     match samples {
-        PlaneSamples::Bytes(spaced) => view_contiguous_byte_samples(spaced),
+        PlaneSamples::Bytes(spaced) => view_sample_bytes_at_step_one(spaced),
         PlaneSamples::Words(_) => None,
         PlaneSamples::Pairs(_) => None,
     }
 }
 
-fn view_contiguous_byte_samples<'a>(spaced: &SpacedBytes<'a>) -> Option<&'a [u8]>
+fn view_sample_bytes_at_step_one<'a>(spaced: &SpacedBytes<'a>) -> Option<&'a [u8]>
     ensures { IfSome result
         (λ bytes. (list : List ℕ) → IsSamples (Bytes spaced.now) list → bytes.now ≡ list) }
 {

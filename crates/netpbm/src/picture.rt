@@ -10,7 +10,7 @@ ghost use Rattle.netpbm.specs.Raw.{decoded, raw_raster};
 ghost use Rattle.plane_samples.specs.Samples.{IsSamples};
 
 use crate::packed_plane::{PackedPlane, is_valid_packed_plane};
-use crate::parts::view_samples_as_bytes;
+use crate::parts::view_contiguous_sample_bytes;
 use crate::raster::{KeptRaster, Raster, view_kept_raster, view_raster_plane};
 use plane_samples::PlaneSamples;
 use std::marker::Model;
@@ -221,7 +221,7 @@ fn view_packed_grey_raster(planes: &[PackedPlane], max: u16) -> Option<&[u8]>
     if max > 255 {
         return None;
     }
-    view_samples_as_bytes(&planes[0].samples())
+    view_contiguous_sample_bytes(&planes[0].samples())
 }
 
 // Whether these are the parts of a picture.
@@ -286,11 +286,11 @@ fn has_valid_packed_planes(area: usize, max: u16, planes: &[PackedPlane]) -> boo
 fn is_valid_plane(area: usize, max: u16, plane: &Vec<u16>) -> bool
     ensures { IsTrue result ↔ IsPlane area max plane.now.items }
 {
-    plane.len() == area && has_bounded_samples(max, plane.as_slice())
+    plane.len() == area && has_bounded_picture_samples(max, plane.as_slice())
 }
 
 /// Whether no sample is above `max`. It always goes to the end, in a loop that is compiled to few steps.
-pub fn has_bounded_samples(max: u16, samples: &[u16]) -> bool
+pub fn has_bounded_picture_samples(max: u16, samples: &[u16]) -> bool
     ensures { IsTrue result ↔ All (λ sample. sample ≤ max) samples.now }
 {
     let mut greatest = 0;

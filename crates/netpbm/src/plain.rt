@@ -19,7 +19,7 @@ pub fn read_plain_raster(
     ensures { Gives (λ samples. samples.items) result (plain_read bytes.now start max count) }
 {
     match Vec::with_capacity(alloc, count) {
-        Ok(room) => read_plain_samples(room, bytes, start, max, count),
+        Ok(room) => read_plain_raster_samples(room, bytes, start, max, count),
         Err(_) => {
             check_plain_raster(bytes, start, max, count)?;
             Err(PicFault::Memory)
@@ -28,7 +28,7 @@ pub fn read_plain_raster(
 }
 
 // The samples, in the buffer that was allocated for them.
-fn read_plain_samples(
+fn read_plain_raster_samples(
     room: Vec<u16>,
     bytes: &[u8],
     start: usize,
@@ -43,7 +43,7 @@ fn read_plain_samples(
     let mut samples = room;
     let mut at = start;
     for _ in 0..count {
-        let (sample, end) = read_plain_sample(bytes, at, max)?;
+        let (sample, end) = read_plain_raster_sample(bytes, at, max)?;
         samples.push_reserved(sample);
         at = end;
     }
@@ -58,7 +58,7 @@ fn check_plain_raster(bytes: &[u8], start: usize, max: u16, count: usize) -> Res
 {
     let mut at = start;
     for _ in 0..count {
-        let (_, end) = read_plain_sample(bytes, at, max)?;
+        let (_, end) = read_plain_raster_sample(bytes, at, max)?;
         at = end;
     }
     check_plain_raster_end(bytes, at)
@@ -66,7 +66,7 @@ fn check_plain_raster(bytes: &[u8], start: usize, max: u16, count: usize) -> Res
 
 // White space, the sample after it, and where its digits end.
 #[tactic(auto, unfolding(crate::specs::Reading::sample_read))]
-fn read_plain_sample(bytes: &[u8], at: usize, max: u16) -> Result<(u16, usize), PicFault>
+fn read_plain_raster_sample(bytes: &[u8], at: usize, max: u16) -> Result<(u16, usize), PicFault>
     requires { at ≤ length bytes.now }
     ensures read { result ≡ sample_read bytes.now at max }
     ensures within { IfOk result (λ s. s.1 ≤ length bytes.now) }

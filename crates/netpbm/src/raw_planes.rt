@@ -5,8 +5,8 @@ ghost use Rattle.netpbm.specs.Planes.{samples_of};
 ghost use Rattle.netpbm.specs.Raw.{width_of, decoded};
 
 use crate::colours::{ColourPlanes, PIECE};
-use crate::picture::has_bounded_samples;
-use crate::raw_bounds::has_full_sample_range;
+use crate::picture::has_bounded_picture_samples;
+use crate::raw_bounds::has_full_raw_sample_range;
 use crate::raw_raster::decode_raw_samples;
 use std::alloc::Global;
 
@@ -40,13 +40,18 @@ fn decode_grey_plane(alloc: Global, raster: &[u8], max: u16, area: usize) -> Opt
     ensures bounded { IfSome result
         (λ _. All (λ sample. sample ≤ max) (decoded max raster.now)) }
 {
-    let grey = decode_grey_samples(alloc, raster, max, area)?;
+    let grey = decode_grey_raster_samples(alloc, raster, max, area)?;
     let mut planes = Vec::with_capacity(alloc, 1).ok()?;
     planes.push(grey).ok()?;
     Some(planes)
 }
 
-fn decode_grey_samples(alloc: Global, raster: &[u8], max: u16, area: usize) -> Option<Vec<u16>>
+fn decode_grey_raster_samples(
+    alloc: Global,
+    raster: &[u8],
+    max: u16,
+    area: usize,
+) -> Option<Vec<u16>>
     requires { length (decoded max raster.now) ≡ area }
     ensures samples { IfSome result (λ samples. samples.items ≡ decoded max raster.now) }
     ensures bounded { IfSome result
@@ -57,7 +62,7 @@ fn decode_grey_samples(alloc: Global, raster: &[u8], max: u16, area: usize) -> O
     let mut done = 0;
     while done < area {
         let end = area.min(done + PIECE);
-        if !decode_and_check_samples(&mut piece, raster, max, done, end) {
+        if !decode_and_check_raw_samples(&mut piece, raster, max, done, end) {
             return None;
         }
         grey.extend_from_slice(&piece[..end - done]).ok()?;
@@ -85,7 +90,7 @@ fn decode_colour_planes(
     let mut done = 0;
     while done < area {
         let end = area.min(done + PIECE);
-        if !decode_and_check_samples(&mut piece, raster, max, 3 * done, 3 * end) {
+        if !decode_and_check_raw_samples(&mut piece, raster, max, 3 * done, 3 * end) {
             return None;
         }
         apart.append_interleaved(&piece[..3 * (end - done)]).ok()?;
@@ -95,7 +100,7 @@ fn decode_colour_planes(
 }
 
 // Decodes the samples from one place up to another, and returns whether none is above `max`.
-fn decode_and_check_samples(
+fn decode_and_check_raw_samples(
     out: &mut [u16],
     raster: &[u8],
     max: u16,
@@ -111,8 +116,8 @@ fn decode_and_check_samples(
         ↔ All (λ sample. sample ≤ max) (slice_range (decoded max raster.now) start end) }
 {
     decode_raw_samples(out, raster, max, start, end);
-    if has_full_sample_range(max) {
+    if has_full_raw_sample_range(max) {
         return true;
     }
-    has_bounded_samples(max, &out[..end - start])
+    has_bounded_picture_samples(max, &out[..end - start])
 }

@@ -7,7 +7,7 @@ ghost use Rattle.netpbm.specs.Reading.{raw_read};
 use crate::fault::PicFault;
 
 /// How many bytes a sample has.
-pub fn sample_width(max: u16) -> usize
+pub fn count_bytes_per_raw_sample(max: u16) -> usize
     ensures { result ≡ width_of max }
 {
     if max < 256 { 1 } else { 2 }
@@ -22,10 +22,10 @@ pub fn check_raw_raster(bytes: &[u8], start: usize, max: u16, count: usize) -> R
         (λ e. raw_read bytes.now start max count ≡ Err e) }
     ensures whole { OnOk result (length (drop start bytes.now) ≡ count * width_of max) }
 {
-    let width = sample_width(max);
+    let width = count_bytes_per_raw_sample(max);
     let raster = &bytes[start..];
-    if let Some(place) = find_first_sample_above(
-        view_whole_raster_samples(raster, max, count),
+    if let Some(place) = find_first_raw_sample_above(
+        trim_raster_to_complete_samples(raster, max, count),
         max,
     ) {
         return Err(PicFault::SampleTooBig(start + place * width));
@@ -40,17 +40,17 @@ pub fn check_raw_raster(bytes: &[u8], start: usize, max: u16, count: usize) -> R
 }
 
 // The bytes of `count` samples, or of fewer if no more are whole.
-fn view_whole_raster_samples(raster: &[u8], max: u16, count: usize) -> &[u8]
+fn trim_raster_to_complete_samples(raster: &[u8], max: u16, count: usize) -> &[u8]
     ensures samples { decoded max result.now ≡ take count (decoded max raster.now) }
     ensures within { length result.now ≤ length raster.now }
 {
-    let width = sample_width(max);
+    let width = count_bytes_per_raw_sample(max);
     let whole = count.min(raster.len() / width);
     &raster[..whole * width]
 }
 
 // The place of the first sample above `max`.
-fn find_first_sample_above(raster: &[u8], max: u16) -> Option<usize>
+fn find_first_raw_sample_above(raster: &[u8], max: u16) -> Option<usize>
     ensures place { IfSome result (λ place. place ≡ first_big max (decoded max raster.now)) }
     ensures within { IfSome result (λ place. place < length (decoded max raster.now)) }
     ensures none { IfNone result
@@ -99,15 +99,15 @@ pub fn decode_raw_samples(out: &mut [u16], raster: &[u8], max: u16, start: usize
     ensures { take (end - start) out.new ≡ slice_range (decoded max raster.now) start end }
 {
     if max < 256 {
-        convert_bytes_to_samples(out, &raster[start..end]);
+        decode_sample_bytes(out, &raster[start..end]);
     } else {
-        convert_pairs_to_samples(out, &raster[2 * start..2 * end]);
+        decode_sample_byte_pairs(out, &raster[2 * start..2 * end]);
     }
 }
 
 // Puts the bytes as samples into the front of `out`.
 #[tactic(auto, using(crate::proofs::Rasters::copied))]
-fn convert_bytes_to_samples(out: &mut [u16], bytes: &[u8])
+fn decode_sample_bytes(out: &mut [u16], bytes: &[u8])
     requires { length bytes.now ≤ length out.old }
     ensures { take (length bytes.now) out.new ≡ bytes.now }
 {
@@ -118,7 +118,7 @@ fn convert_bytes_to_samples(out: &mut [u16], bytes: &[u8])
 
 // Puts the pairs of bytes, most significant first, as samples into the front of `out`.
 #[tactic(auto, using(crate::proofs::Rasters::joined))]
-fn convert_pairs_to_samples(out: &mut [u16], bytes: &[u8])
+fn decode_sample_byte_pairs(out: &mut [u16], bytes: &[u8])
     requires { length bytes.now ≤ 2 * length out.old }
     ensures { take (length bytes.now / 2) out.new ≡ pairs bytes.now }
 {
@@ -135,17 +135,17 @@ pub fn encode_raw_samples(out: &mut [u8], samples: &[u16], max: u16) -> usize
     ensures written { take result out.new ≡ raw_raster max samples.now }
 {
     if max < 256 {
-        convert_samples_to_bytes(out, samples);
+        encode_sample_bytes(out, samples);
         samples.len()
     } else {
-        convert_samples_to_pairs(out, samples);
+        encode_sample_byte_pairs(out, samples);
         2 * samples.len()
     }
 }
 
 /// Puts samples that are below 256 each as bytes into the front of `out`.
 #[tactic(auto, using(crate::proofs::Rasters::copied))]
-pub fn convert_samples_to_bytes(out: &mut [u8], samples: &[u16])
+pub fn encode_sample_bytes(out: &mut [u8], samples: &[u16])
     requires room { length samples.now ≤ length out.old }
     requires small { All (λ sample. sample < 256) samples.now }
     ensures { take (length samples.now) out.new ≡ samples.now }
@@ -156,7 +156,7 @@ pub fn convert_samples_to_bytes(out: &mut [u8], samples: &[u16])
 }
 
 #[tactic(auto, using(crate::proofs::Rasters::spread))]
-fn convert_samples_to_pairs(out: &mut [u8], samples: &[u16])
+fn encode_sample_byte_pairs(out: &mut [u8], samples: &[u16])
     requires { 2 * length samples.now ≤ length out.old }
     ensures { take (2 * length samples.now) out.new ≡ flat_map two_bytes samples.now }
 {

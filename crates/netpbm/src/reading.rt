@@ -18,7 +18,7 @@ use crate::plain::read_plain_raster;
 use crate::raster::KeptRaster;
 use crate::raw_bounds::has_bounded_raster_samples;
 use crate::raw_planes::decode_raw_planes;
-use crate::raw_raster::{check_raw_raster, sample_width};
+use crate::raw_raster::{check_raw_raster, count_bytes_per_raw_sample};
 use std::alloc::Global;
 
 /// The picture that the bytes spell, or their first fault from the left.
@@ -52,12 +52,12 @@ pub fn read_picture_in_place(
     // A fault is the first one of the bytes, at its place; memory is refused only for a picture.
     ensures fault { IfErr result (IsFault (drop start input.items)) }
 {
-    bytes_are_below_256(input.as_slice());
+    picture_bytes_are_below_256(input.as_slice());
     read_plain_or_raw_picture(alloc, input, start)
 }
 
 // Each byte is below 256, which is known of a slice alone. No code runs.
-fn bytes_are_below_256(bytes: &[u8])
+fn picture_bytes_are_below_256(bytes: &[u8])
     ensures { (k : ℕ) → slice_index bytes.now k < 256 }
 {}
 
@@ -74,12 +74,12 @@ fn read_plain_or_raw_picture(
     let header = read_picture_header(&input[start..])?;
     match header.coding {
         RasterCoding::Plain => read_picture(alloc, &input[start..]),
-        RasterCoding::Raw => keep_raw_raster(input, start, &header),
+        RasterCoding::Raw => read_raw_picture_in_place(input, start, &header),
     }
 }
 
 // The picture of a raw raster, which stays where it is.
-fn keep_raw_raster(
+fn read_raw_picture_in_place(
     input: Vec<u8>,
     start: usize,
     header: &PictureHeader,
@@ -116,9 +116,9 @@ fn check_kept_raster(bytes: &[u8], header: &PictureHeader) -> Result<(), PicFaul
         ≡ (header.now.colours * (header.now.rows * header.now.cols)) * width_of header.now.max) }
     ensures fault { IfErr result (λ e. planes_read Raw bytes.now header.now ≡ Err e) }
 {
-    let count = header.colours * count_plane_samples(header);
+    let count = header.colours * count_samples_per_plane(header);
     let raster = &bytes[header.end..];
-    if raster.len() == count * sample_width(header.max)
+    if raster.len() == count * count_bytes_per_raw_sample(header.max)
         && has_bounded_raster_samples(raster, header.max)
     {
         return Ok(());
@@ -149,13 +149,13 @@ fn read_raster_planes(
         (planes_read header.now.coding bytes.now header.now) }
 {
     match header.coding {
-        RasterCoding::Plain => read_plain_planes(alloc, bytes, header),
-        RasterCoding::Raw => read_raw_planes(alloc, bytes, header),
+        RasterCoding::Plain => read_plain_raster_planes(alloc, bytes, header),
+        RasterCoding::Raw => read_raw_raster_planes(alloc, bytes, header),
     }
 }
 
 // The planes of a raster whose samples are written in digits.
-fn read_plain_planes(
+fn read_plain_raster_planes(
     alloc: Global,
     bytes: &[u8],
     header: &PictureHeader,
@@ -167,7 +167,7 @@ fn read_plain_planes(
     ensures { Gives (λ planes. samples_of planes.items) result
         (planes_read Plain bytes.now header.now) }
 {
-    let count = header.colours * count_plane_samples(header);
+    let count = header.colours * count_samples_per_plane(header);
     let samples = read_plain_raster(alloc, bytes, header.end, header.max, count)?;
     match split_into_planes(alloc, samples, header.colours) {
         Ok(planes) => Ok(planes),
@@ -176,7 +176,7 @@ fn read_plain_planes(
 }
 
 // The planes of a raster whose samples are written in bytes. Their fault is looked for only if they cannot be had.
-fn read_raw_planes(
+fn read_raw_raster_planes(
     alloc: Global,
     bytes: &[u8],
     header: &PictureHeader,
@@ -188,10 +188,10 @@ fn read_raw_planes(
     ensures { Gives (λ planes. samples_of planes.items) result
         (planes_read Raw bytes.now header.now) }
 {
-    let area = count_plane_samples(header);
+    let area = count_samples_per_plane(header);
     let raster = &bytes[header.end..];
     let count = header.colours * area;
-    if raster.len() == count * sample_width(header.max) {
+    if raster.len() == count * count_bytes_per_raw_sample(header.max) {
         if let Some(planes) = decode_raw_planes(alloc, raster, header.max, header.colours, area) {
             return Ok(planes);
         }
@@ -201,7 +201,7 @@ fn read_raw_planes(
 }
 
 // The number of samples in a plane.
-fn count_plane_samples(header: &PictureHeader) -> usize
+fn count_samples_per_plane(header: &PictureHeader) -> usize
     requires rows { InRange 4096 header.now.rows }
     requires cols { InRange 4096 header.now.cols }
     ensures value { result ≡ header.now.rows * header.now.cols }

@@ -8,10 +8,10 @@ ghost use Rattle.netpbm.specs.Spelling.{header as header_of, spelling};
 ghost use Rattle.streams.specs.Streams.{AppendsPart, CountsFailure};
 ghost use Rattle.netpbm.specs.Pixels.{pixels};
 
-use crate::colours::{interleave_bytes, interleave_samples};
-use crate::parts::{view_or_copy_samples, view_samples_as_bytes};
+use crate::colours::{interleave_colour_bytes, interleave_colour_samples};
+use crate::parts::{view_contiguous_sample_bytes, view_or_copy_plane_slice};
 use crate::picture::Picture;
-use crate::raw_raster::{encode_raw_samples, sample_width};
+use crate::raw_raster::{count_bytes_per_raw_sample, encode_raw_samples};
 use sha2::Digest;
 use std::alloc::{AllocError, Global};
 use streams::{Sink, WriteFailed, write_all_bytes};
@@ -150,7 +150,7 @@ fn hash_pixels<D: Digest>(hasher: &mut D, picture: &Picture)
 fn count_raster_bytes(picture: &Picture) -> usize
     ensures { result ≤ 100663296 }
 {
-    picture.plane_count() * (picture.area() * sample_width(picture.max()))
+    picture.plane_count() * (picture.area() * count_bytes_per_raw_sample(picture.max()))
 }
 
 // Puts the bytes of the pixels from `start` on, of as many as are written at a time, into the front of `out`. Returns where these
@@ -181,7 +181,7 @@ fn encode_pixels(out: &mut [u8], picture: &Picture, start: usize, end: usize) ->
         ≡ raw_raster picture.now.max (pixels start end picture.now.planes) }
 {
     if let Some((red, green, blue)) = view_colour_plane_bytes(picture) {
-        interleave_bytes(out, &red[start..end], &green[start..end], &blue[start..end]);
+        interleave_colour_bytes(out, &red[start..end], &green[start..end], &blue[start..end]);
         return 3 * (end - start);
     }
     let mut red_room = [0u16; PIXELS];
@@ -208,9 +208,9 @@ fn view_colour_plane_bytes(picture: &Picture) -> Option<(&[u8], &[u8], &[u8])>
     if picture.plane_count() == 1 {
         return None;
     }
-    let red = view_samples_as_bytes(&picture.samples(0))?;
-    let green = view_samples_as_bytes(&picture.samples(1))?;
-    let blue = view_samples_as_bytes(&picture.samples(2))?;
+    let red = view_contiguous_sample_bytes(&picture.samples(0))?;
+    let green = view_contiguous_sample_bytes(&picture.samples(1))?;
+    let blue = view_contiguous_sample_bytes(&picture.samples(2))?;
     Some((red, green, blue))
 }
 
@@ -230,7 +230,7 @@ fn view_plane_pixels<'a>(
         ≡ slice_range (slice_index_or picture.now.planes plane []) start end }
     ensures bounded { All (λ sample. sample ≤ picture.now.max) result.now }
 {
-    view_or_copy_samples(room, &picture.samples(plane), start, end)
+    view_or_copy_plane_slice(room, &picture.samples(plane), start, end)
 }
 
 // Puts the bytes of interleaved red, green and blue samples into the front of `out`, and returns how many they are.
@@ -252,7 +252,7 @@ fn encode_colour_samples(
     ensures written { take result out.new ≡ raw_raster max (woven red.now green.now blue.now) }
 {
     let mut in_turn = [0u16; 3 * PIXELS];
-    interleave_samples(&mut in_turn, red, green, blue);
+    interleave_colour_samples(&mut in_turn, red, green, blue);
     encode_raw_samples(out, &in_turn[..3 * red.len()], max)
 }
 

@@ -12,7 +12,7 @@ ghost use Rattle.std.specs.Prelude.{◌≡◌, ◌<◌, ℕ, [], List, length};
 /// The replay of a history is what its deliveries, keeps and restarts do to one node of a world. A world accepts these events.
 /// They leave the node as the replay does, and change nothing else. For each history there are messages and events that do the
 /// same to a node.
-pub fn histories_replay_in_worlds()
+pub fn node_histories_replay_in_worlds()
     ensures runs { (u : WorldWork) (w : Network) (n : ℕ) (h : List Event) (events : List Step)
         → n < length w.nodes → Plays w.messages n h events
         → Runs u w events (with_node w n (replay_from (node_in w n) h)) }
@@ -24,7 +24,7 @@ pub fn histories_replay_in_worlds()
 {}
 
 /// After a history a node holds what it took by those events. It keeps what it had taken at its last keep.
-pub fn histories_leave_what_was_taken()
+pub fn node_histories_leave_what_was_taken()
     ensures held { (messages : List Sent) (n : ℕ) (h : List Event) (events : List Step)
         → Plays messages n h events
         → IsTaken messages (newest_first events []) n (replay h).held }

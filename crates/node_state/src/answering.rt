@@ -10,7 +10,7 @@ ghost use Rattle.std.specs.Prelude.{◌≡◌, AllPairs, IfErr, IfOk};
 
 use crate::state::NodeState;
 use accumulators::Answer;
-use catalog::compute_job_ids;
+use catalog::compute_catalog_job_ids;
 use fact_store::FactStore;
 use held_facts::AnswerFault;
 use identity::Key;
@@ -47,7 +47,7 @@ impl<S: FactStore> NodeState<S> {
         ensures fault { IfErr result
             (IsAnswerFault self.now (program_id_in job.now) (pipeline_in job.now)) }
     {
-        if self.has_retired_job(&compute_job_ids(job)) {
+        if self.has_retired_job(&compute_catalog_job_ids(job)) {
             return Err(AnswerFault::Retired);
         }
         self.held.answer(job)

@@ -48,14 +48,14 @@ impl<S: FactStore> NodeState<S> {
     {
         match find_job_of_fact_key(catalog, key) {
             None => MakeFault::Foreign,
-            Some(job) if has_tile_of_fact_key(job, key) => MakeFault::Retired,
+            Some(job) if has_tile_of_retired_key(job, key) => MakeFault::Retired,
             Some(_) => MakeFault::NoSuchTile,
         }
     }
 }
 
 // Whether the job has the function or accumulator and the tile of it that the key names.
-fn has_tile_of_fact_key(job: &Job, key: &Key) -> bool
+fn has_tile_of_retired_key(job: &Job, key: &Key) -> bool
     ensures { IsTrue result ↔ HasTileAt (pipeline_in job.now) key.now.stage key.now.row key.now.col }
 {
     match job.grid(usize::from(key.stage)) {

@@ -123,7 +123,7 @@ impl<S: FactStore> NodeState<S> {
         ensures new { IfOk result (λ count. count ≡ count_lacked self.old self.new) }
         ensures unchanged { OnErr result (self.new ≡ self.old) }
     {
-        let retired = self.retired.unite(self.alloc, &other.retired)?;
+        let retired = self.retired.build_union(self.alloc, &other.retired)?;
         let again = other.held.count_facts_of_jobs(self.retired.as_slice())?;
         let more = self.retired.count_job_ids_only_in_other(&retired);
         let new = self.held.merge(&other.held)?;
@@ -139,7 +139,7 @@ impl<S: FactStore> NodeState<S> {
         if self.has_retired_job(&JobId::from_key(key)) {
             Known::Retired
         } else {
-            self.held.classify_facts_of_key(key)
+            self.held.classify_fact_count_of_key(key)
         }
     }
 

@@ -19,7 +19,7 @@ use Rattle.scratch.proofs.PartLemmas.{length-with_part, with_part-before, with_p
 use Rattle.tile_eval.specs.Raster.{raster, place_of}
 use Rattle.tile_eval.specs.Rows.{at}
 use Rattle.tile_eval.proofs.Rasters.{raster_len, raster_at}
-use Rattle.one_tile.specs.declared.scratch_view.StepScratchView.{StepScratchView}
+use Rattle.one_tile.specs.declared.scratch_view.TileScratchView.{TileScratchView}
 use Rattle.tile_sources.specs.KnownTiles.{KnownTiles}
 use Rattle.one_tile.specs.Local.{local_value}
 use Rattle.one_tile.specs.Prepared.{IsInnerStep, IsBoxed, IsPreparedOn}
@@ -115,7 +115,7 @@ module _ (job : Pipeline) (l : Layout) (given : KnownTiles) (some : IsSomeLayout
 -- ---- after all steps
 
 module _ (job : Pipeline) (l : Layout) (given : KnownTiles) (g i j : ℕ) (at_tile : IsTileLayout job l.inlining g i j l) (good : IsJob job)
-    (needs : NeedsGiven given l.needs) (memory : List ℤ) (size : l.scratch ≤ length memory) (boxes : StepScratchView)
+    (needs : NeedsGiven given l.needs) (memory : List ℤ) (size : l.scratch ≤ length memory) (boxes : TileScratchView)
     (before : boxes.before.now ≡ memory) (behind : length boxes.behind.now ≡ 0) (end : boxes.end ≡ length memory)
     (done : (last : ℕ) → suc last ≡ length l.steps → AreComputed job l given memory last) where
   abbrev of_tile : Target

@@ -22,7 +22,7 @@ use Rattle.overlap_tiles.proofs.StepsRise.{one_place}
 use Rattle.row_kernels.proofs.Places.{place_below}
 use Rattle.tile_eval.specs.Raster.{place_of}
 use Rattle.tile_eval.specs.Rows.{at}
-use Rattle.one_tile.specs.declared.scratch_view.StepScratchView.{StepScratchView}
+use Rattle.one_tile.specs.declared.scratch_view.TileScratchView.{TileScratchView}
 use Rattle.tile_sources.specs.KnownTiles.{KnownTiles}
 use Rattle.one_tile.specs.Local.{local_value}
 use Rattle.one_tile.specs.Prepared.{IsLent, IsInnerStep, HasBox, IsBoxed}
@@ -128,7 +128,7 @@ module _ (t : Target) (l : Layout) (given : KnownTiles) (is : IsLayout t l) wher
 
   -- ---- what a step finds
 
-  module _ (memory : List ℤ) (boxes : StepScratchView) (start m : ℕ) (lent' : AreLent memory boxes start) (size : l.scratch ≤ length memory)
+  module _ (memory : List ℤ) (boxes : TileScratchView) (start m : ℕ) (lent' : AreLent memory boxes start) (size : l.scratch ≤ length memory)
       (few : m < length l.steps) (done : AreComputed t.job l given memory m)
       (off : (p : ℕ) (range : ℕ × ℕ) → p < m → IsReadAt t.job l.steps p m → slice_get l.ranges p ≡ Some range
       → LiesOff range start boxes.end) where

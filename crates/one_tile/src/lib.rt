@@ -1,4 +1,6 @@
 //! One tile of a job, computed from planes and from supplied tiles.
+//!
+//! Words: tile job, tile scratch, tile inputs, tile step, tile operand, run tile, unsupplied, eval fault.
 #![tactic(auto)]
 
 mod memory;
@@ -14,7 +16,7 @@ mod tile_rows;
 
 pub use memory::TileScratch;
 pub use run::{find_first_unsupplied_tile, run_tile};
-pub use scratch_view::StepScratchView;
+pub use scratch_view::TileScratchView;
 pub use tile_fault::EvalFault;
 pub use tile_inputs::TileInputs;
 pub use tile_job::TileJob;

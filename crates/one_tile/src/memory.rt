@@ -25,7 +25,7 @@ pub struct TileScratch {
 /// # Errors
 ///
 /// Fails only where memory is refused.
-pub(crate) fn detach_tile_operands(
+pub(crate) fn detach_and_grow_tile_operands(
     alloc: Global,
     kept: &mut Vec<i32>,
     size: usize,

@@ -6,28 +6,28 @@ ghost use Rattle.job.specs.Kept.{pipeline_in};
 ghost use Rattle.overlap_tiles.specs.Views.{step_view};
 ghost use Rattle.one_tile.specs.inside.Steps.{HasStepRoom, HasStepsRoom};
 
-use crate::steps::find_step_function;
+use crate::steps::find_tile_step_function;
 use job::Job;
 use overlap_tiles::TileStep;
 use tile_eval::compute_function_capacity;
 
 // The capacity for the operands of a step, if it can be counted; 0 for a stage that is no function.
-fn find_operand_capacity_of_step(job: &Job, step: &TileStep) -> Option<usize>
+fn find_tile_operand_capacity_of_step(job: &Job, step: &TileStep) -> Option<usize>
     ensures { IfSome result (HasStepRoom (pipeline_in job.now) (step_view step.now)) }
 {
-    match find_step_function(job, step.stage) {
+    match find_tile_step_function(job, step.stage) {
         Some(function) => compute_function_capacity(function, step.area.cols.len() as usize),
         None => Some(0),
     }
 }
 
 /// A capacity for the operands of each of these steps, if it can be counted.
-pub(crate) fn find_operand_capacity_of_steps(job: &Job, steps: &[TileStep]) -> Option<usize>
+pub(crate) fn find_greatest_tile_operand_capacity(job: &Job, steps: &[TileStep]) -> Option<usize>
     ensures { IfSome result (HasStepsRoom (pipeline_in job.now) (map step_view steps.now)) }
 {
     let mut room = 0;
     for step in steps {
-        room = find_operand_capacity_of_step(job, step)?.max(room);
+        room = find_tile_operand_capacity_of_step(job, step)?.max(room);
     }
     Some(room)
 }

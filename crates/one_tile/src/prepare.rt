@@ -8,9 +8,9 @@ ghost use Rattle.one_tile.specs.Prepared.{IsPreparedOn};
 ghost use Rattle.one_tile.specs.Runs.{NeedsGiven, IsSomeLayout};
 ghost use Rattle.tile_sources.specs.Wide.{AreWide};
 
-use crate::memory::{TileScratch, detach_tile_operands};
-use crate::operands::find_operand_capacity_of_steps;
-use crate::scratch_view::StepScratchView;
+use crate::memory::{TileScratch, detach_and_grow_tile_operands};
+use crate::operands::find_greatest_tile_operand_capacity;
+use crate::scratch_view::TileScratchView;
 use crate::tile_job::TileJob;
 use std::alloc::{AllocError, Global};
 use std::mem;
@@ -27,7 +27,7 @@ impl<K: TileSource> TileJob<'_, K> {
         &self,
         alloc: Global,
         scratch: &'s mut TileScratch,
-    ) -> Result<StepScratchView<'s>, AllocError>
+    ) -> Result<TileScratchView<'s>, AllocError>
         requires layout { IsSomeLayout (pipeline_in self.now.job.now) self.now.layout.now }
         requires needs { NeedsGiven (K.given self.now.known.now) self.now.layout.now.needs }
         ensures prepared { IfOk result (λ boxes. (g i j : ℕ)
@@ -38,9 +38,15 @@ impl<K: TileSource> TileJob<'_, K> {
         ensures wide { IfOk result
             (λ boxes. AreWide (pipeline_in self.now.job.now).picture boxes.planes.now) }
     {
-        let room = find_operand_capacity_of_steps(self.job, self.layout.steps()).ok_or(AllocError)?;
+        let room = find_greatest_tile_operand_capacity(self.job, self.layout.steps()).ok_or(
+            AllocError,
+        )?;
         let areas = find_plane_areas_to_convert(self.job, self.layout.steps());
-        let mut operands = detach_tile_operands(alloc, &mut scratch.operands_of_steps, room)?;
+        let mut operands = detach_and_grow_tile_operands(
+            alloc,
+            &mut scratch.operands_of_steps,
+            room,
+        )?;
         scratch.boxes.grow(self.layout.scratch())?;
         scratch.planes.grow(&areas)?;
         scratch.planes.convert_planes(self.job.picture(), &areas);
@@ -49,6 +55,6 @@ impl<K: TileSource> TileJob<'_, K> {
         self.compute_inlined_steps(&planes, &mut scratch.boxes, &mut operands[..room]);
         scratch.planes = planes;
         scratch.operands_of_steps = operands;
-        Ok(StepScratchView::from_numbers(scratch.boxes.as_slice(), &scratch.planes))
+        Ok(TileScratchView::from_numbers(scratch.boxes.as_slice(), &scratch.planes))
     }
 }

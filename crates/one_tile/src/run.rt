@@ -15,8 +15,8 @@ ghost use Rattle.one_tile.specs.Runs.{is_missing, first_missing, AreLocalOn, Are
 ghost use Rattle.one_tile.specs.Layouts.{IsFunctionLayout};
 ghost use Rattle.one_tile.specs.inside.Steps.{IsFunctionAt};
 
-use crate::memory::{TileScratch, detach_tile_operands};
-use crate::steps::find_step_function;
+use crate::memory::{TileScratch, detach_and_grow_tile_operands};
+use crate::steps::find_tile_step_function;
 use crate::tile_fault::EvalFault;
 use crate::tile_inputs::TileInputs;
 use crate::tile_job::TileJob;
@@ -79,7 +79,7 @@ impl<K: TileSource> TileJob<'_, K> {
     {
         let area = &step.area;
         let room = compute_function_capacity(function, area.cols.len() as usize).ok_or(AllocError)?;
-        let mut operands = detach_tile_operands(alloc, &mut scratch.operands, room)?;
+        let mut operands = detach_and_grow_tile_operands(alloc, &mut scratch.operands, room)?;
         let mut values = scratch.reuse_tile_vector(alloc);
         values.resize(area.points() as usize, 0)?;
         let boxes = self.compute_inlined_boxes(alloc, scratch)?;
@@ -116,7 +116,7 @@ impl<K: TileSource> TileJob<'_, K> {
         let Some(last) = find_last_tile_step(self.layout.steps()) else {
             return Ok(Vec::new(alloc));
         };
-        match find_step_function(self.job, last.stage) {
+        match find_tile_step_function(self.job, last.stage) {
             Some(function) => self.compute_function_values(alloc, last, function, scratch),
             None => Ok(Vec::new(alloc)),
         }

@@ -4,12 +4,12 @@
 ghost use Rattle.std.specs.Prelude.{◌≡◌, ◌≤◌, ◌+◌, length, IfSome, IfNone};
 ghost use Rattle.tile_eval.specs.Rows.{EachPlace, at};
 
-use tile_sources::{PlaneBuffers, borrow_tile_number_range};
+use tile_sources::{PlaneBuffers, borrow_tile_source_range};
 
 /// What a step reads of scratch memory: the numbers before the range that it writes, and those from the range's end on. Also the
 /// converted planes.
 #[derive(Clone, Copy)]
-pub struct StepScratchView<'a> {
+pub struct TileScratchView<'a> {
     pub(crate) before: &'a [i32],
     pub(crate) behind: &'a [i32],
     pub(crate) end: usize,
@@ -17,18 +17,18 @@ pub struct StepScratchView<'a> {
     ghost ordered: { length before.now ≤ end },
 }
 
-impl<'a> StepScratchView<'a> {
+impl<'a> TileScratchView<'a> {
     ghost use Rattle.std.specs.Prelude.{ℤ};
     ghost use Rattle.one_tile.specs.Prepared.{IsLent, IsNumberAt};
 
     /// All of scratch memory, for a step that writes none of it, and these planes.
-    pub(crate) fn from_numbers(numbers: &'a [i32], planes: &'a PlaneBuffers) -> StepScratchView<'a>
+    pub(crate) fn from_numbers(numbers: &'a [i32], planes: &'a PlaneBuffers) -> TileScratchView<'a>
         ensures before { result.before.now ≡ numbers.now }
         ensures behind { length result.behind.now ≡ 0 }
         ensures end { result.end ≡ length numbers.now }
         ensures planes { result.planes.now ≡ planes.now }
     {
-        StepScratchView {
+        TileScratchView {
             before: numbers,
             behind: &[],
             end: numbers.len(),
@@ -44,8 +44,8 @@ impl<'a> StepScratchView<'a> {
         ensures none { IfNone result (¬ (IsLent self.now start len)) }
     {
         match start.checked_sub(self.end) {
-            Some(behind) => borrow_tile_number_range(self.behind, behind, len),
-            None => borrow_tile_number_range(self.before, start, len),
+            Some(behind) => borrow_tile_source_range(self.behind, behind, len),
+            None => borrow_tile_source_range(self.before, start, len),
         }
     }
 }

@@ -17,7 +17,7 @@ ghost use Rattle.one_tile.specs.Runs.{NeedsGiven, IsSomeLayout};
 ghost use Rattle.tile_sources.specs.Wide.{AreWide};
 ghost use Rattle.one_tile.specs.inside.Steps.{IsFunctionAt, AreComputed, HasStepsRoom, IsPreparedBeside};
 
-use crate::scratch_view::StepScratchView;
+use crate::scratch_view::TileScratchView;
 use crate::tile_inputs::TileInputs;
 use crate::tile_job::TileJob;
 use job::{Body, Function, Job};
@@ -26,7 +26,7 @@ use scratch::Scratch;
 use tile_sources::{PlaneBuffers, TileSource};
 
 /// The function of this number.
-pub(crate) fn find_step_function(job: &Job, number: usize) -> Option<&Function>
+pub(crate) fn find_tile_step_function(job: &Job, number: usize) -> Option<&Function>
     ensures some { IfSome result (λ function. IsFunctionAt (pipeline_in job.now) number
         (map case_view function.now.cases.items) (option_map formula_view function.now.otherwise)) }
     ensures none { IfNone result (is_function_stage (pipeline_in job.now) number ≡ false) }
@@ -40,7 +40,7 @@ pub(crate) fn find_step_function(job: &Job, number: usize) -> Option<&Function>
 impl<K: TileSource> TileJob<'_, K> {
     // Writes the values of a function over its box into the box's range, which starts at `start`. The memory before and after the
     // range is borrowed meanwhile.
-    fn compute_box(
+    fn compute_box_values(
         &self,
         planes: &PlaneBuffers,
         step: &TileStep,
@@ -67,7 +67,7 @@ impl<K: TileSource> TileJob<'_, K> {
     {
         let end = start + step.area.points() as usize;
         let (before, part, behind) = scratch.parts(start..end);
-        let boxes = StepScratchView {
+        let boxes = TileScratchView {
             before,
             behind,
             end,
@@ -101,8 +101,8 @@ impl<K: TileSource> TileJob<'_, K> {
     {
         let step = self.layout.steps()[place];
         let (start, _) = self.layout.ranges()[place];
-        if let Some(function) = find_step_function(self.job, step.stage) {
-            self.compute_box(planes, &step, function, start, scratch, temps);
+        if let Some(function) = find_tile_step_function(self.job, step.stage) {
+            self.compute_box_values(planes, &step, function, start, scratch, temps);
         }
     }
 

@@ -8,7 +8,7 @@ ghost use Rattle.overlap_tiles.specs.Views.{step_view};
 ghost use Rattle.one_tile.specs.Prepared.{IsInputAt, input_at};
 ghost use Rattle.tile_sources.specs.Wide.{AreWide};
 
-use crate::scratch_view::StepScratchView;
+use crate::scratch_view::TileScratchView;
 use crate::tile_job::TileJob;
 use domains::{Area, Index};
 use job::{Body, Function};
@@ -22,19 +22,19 @@ use tile_sources::{
 #[derive(Drop)]
 pub struct TileInputs<'a, 'b, K: TileSource> {
     pub tile: TileJob<'a, K>,
-    pub boxes: StepScratchView<'b>,
+    pub boxes: TileScratchView<'b>,
     ghost wide: { AreWide (pipeline_in tile.job.now).picture boxes.planes.now },
 }
 
 // The area of the step at a place.
-fn find_step_area(steps: &[TileStep], place: usize) -> Option<Area>
+fn find_tile_step_area(steps: &[TileStep], place: usize) -> Option<Area>
     ensures { result ≡ option_map (λ s. s.1) (slice_get (map step_view steps.now) place) }
 {
     Some(steps.get(place)?.area)
 }
 
 // Where the range at a place starts.
-fn find_step_range_start(ranges: &[(usize, usize)], place: usize) -> Option<usize>
+fn find_tile_step_range_start(ranges: &[(usize, usize)], place: usize) -> Option<usize>
     ensures { result ≡ option_map (λ r. r.0) (slice_get ranges.now place) }
 {
     Some(ranges.get(place)?.0)
@@ -55,7 +55,7 @@ impl<K: TileSource> TileInputs<'_, '_, K> {
     ghost use Rattle.one_tile.specs.inside.Steps.{IsFunctionAt};
 
     // The box of an inlined function, if it is borrowed.
-    fn view_box(&self, stage: usize) -> Option<BufferView<'_>>
+    fn view_inlined_box(&self, stage: usize) -> Option<BufferView<'_>>
         ensures some { IfSome result (λ view. (r c : ℤ)
             → IsBoxed (pipeline_in self.now.tile.job.now) self.now.tile.layout.now
             (K.given self.now.tile.known.now) self.now.boxes stage r c
@@ -68,8 +68,8 @@ impl<K: TileSource> TileInputs<'_, '_, K> {
     {
         let layout = self.tile.layout;
         let place = layout.find_step_place(stage)?;
-        let area = find_step_area(layout.steps(), place)?;
-        let start = find_step_range_start(layout.ranges(), place)?;
+        let area = find_tile_step_area(layout.steps(), place)?;
+        let start = find_tile_step_range_start(layout.ranges(), place)?;
         let numbers = self.boxes.borrow_range(start, area.points() as usize)?;
         Some(BufferView::new(area, numbers))
     }
@@ -135,7 +135,7 @@ impl<K: TileSource> RowSource for TileInputs<'_, '_, K> {
         match found.body() {
             Body::Plane(plane) => self.copy_plane_row(*plane, row, first, out),
             Body::Function(_) if self.tile.layout.inlined(stage) => {
-                if let Some(view) = self.view_box(stage) {
+                if let Some(view) = self.view_inlined_box(stage) {
                     view.read_row(row, first, out);
                 }
             }
@@ -151,7 +151,7 @@ impl<K: TileSource> RowSource for TileInputs<'_, '_, K> {
         let found = self.tile.job.stage(stage)?;
         match found.body() {
             Body::Function(_) if self.tile.layout.inlined(stage) => {
-                match self.view_box(stage) {
+                match self.view_inlined_box(stage) {
                     Some(view) => Some(view.slice_row(row, first, count)),
                     None => None,
                 }
@@ -182,7 +182,7 @@ impl<K: TileSource> RowSource for TileInputs<'_, '_, K> {
                 out,
             ),
             Body::Function(_) if self.tile.layout.inlined(stage) => {
-                if let Some(view) = self.view_box(stage) {
+                if let Some(view) = self.view_inlined_box(stage) {
                     view.gather_row(row, col, points, out);
                 }
             }
@@ -200,7 +200,9 @@ impl<K: TileSource> RowSource for TileInputs<'_, '_, K> {
         };
         match found.body() {
             Body::Plane(plane) => read_sample_for_tile(self.tile.job.picture(), *plane, row, col),
-            Body::Function(_) if self.tile.layout.inlined(stage) => match self.view_box(stage) {
+            Body::Function(_) if self.tile.layout.inlined(stage) => match self.view_inlined_box(
+                stage,
+            ) {
                 Some(view) => view.read_sample(row, col),
                 None => 0,
             },

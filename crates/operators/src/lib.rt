@@ -1,5 +1,7 @@
 //! The operators of expressions, by arity, with their values at operands; tests of points, and kernels. The crate has neither
 //! stages nor the syntax of operators.
+//!
+//! Words: copy kernel, kernel factors, unary op, binary op.
 #![tactic(auto)]
 
 mod kernel;

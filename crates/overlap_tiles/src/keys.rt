@@ -12,7 +12,7 @@ use job::Job;
 use std::alloc::{AllocError, Global};
 
 /// The keys of these tiles. The job's input is hashed at most once.
-pub(crate) fn list_needed_keys(
+pub(crate) fn list_keys_of_tile_needs(
     alloc: Global,
     job: &Job,
     needs: &[NeededTile],

@@ -16,12 +16,13 @@ ghost use Rattle.overlap_tiles.specs.inside.Made.{find_last_readers, ranges_by};
 ghost use Rattle.overlap_tiles.specs.inside.Placed.{ArePlaces};
 
 use crate::fault::PlanFault;
-use crate::lives::{find_last_readers, record_last_reads_of_stage};
-use crate::needs::{NeededTile, list_needed_tiles};
-use crate::places::{index_steps_by_stage, look_up_step_place};
-use crate::ranges::{assign_ranges, find_scratch_size};
+use crate::lives::{find_last_readers, record_stage_as_last_reader};
+use crate::needs::{NeededTile, list_tile_needs};
+use crate::places::{list_step_places_by_stage, look_up_step_place};
+use crate::ranges::{assign_scratch_ranges, find_size_of_scratch_ranges};
 use crate::steps::{
-    TileStep, append_target_step, count_area_points, list_inner_steps, sum_points_within_scratch,
+    TileStep, append_target_to_tile_plan, count_area_points_of_tile_plan,
+    list_inner_steps_of_tile_plan, sum_points_within_scratch_limit,
 };
 use domains::Area;
 use grouping::Schedule;
@@ -65,7 +66,7 @@ impl<'a> Model for Layout<'a> {
 }
 
 // The area of a tile of a function or accumulator.
-fn find_tile_area(job: &Job, stage: usize, row: u32, col: u32) -> Option<Area>
+fn find_target_area_of_tile_plan(job: &Job, stage: usize, row: u32, col: u32) -> Option<Area>
     ensures some { IfSome result (IsTileAt (pipeline_in job.now) stage row col) }
     ensures within { IfSome result IsArea }
     ensures none { IfNone result (¬ (HasTileAt (pipeline_in job.now) stage row col)) }
@@ -74,7 +75,7 @@ fn find_tile_area(job: &Job, stage: usize, row: u32, col: u32) -> Option<Area>
 }
 
 // The ranges of the steps before the target.
-fn assign_inner_ranges(
+fn assign_inner_scratch_ranges(
     alloc: Global,
     job: &Job,
     inner: &[TileStep],
@@ -91,8 +92,8 @@ fn assign_inner_ranges(
         return Ok(Vec::new(alloc));
     }
     let mut lasts = find_last_readers(alloc, job, inner)?;
-    record_last_reads_of_stage(&mut lasts, job, target.stage, inner.len());
-    assign_ranges(alloc, inner, &lasts)
+    record_stage_as_last_reader(&mut lasts, job, target.stage, inner.len());
+    assign_scratch_ranges(alloc, inner, &lasts)
 }
 
 impl<'a> Layout<'a> {
@@ -115,7 +116,7 @@ impl<'a> Layout<'a> {
         ensures fault { IfErr result
             (IsPlanFault (pipeline_in job.now) schedule.now.inlining stage row col) }
     {
-        let Some(area) = find_tile_area(job, stage, row, col) else {
+        let Some(area) = find_target_area_of_tile_plan(job, stage, row, col) else {
             return Err(PlanFault::NoSuchTile);
         };
         let target = TileStep { stage, area };
@@ -140,20 +141,20 @@ impl<'a> Layout<'a> {
         ensures fault { IfErr result (IsTargetFault
             (target_over (pipeline_in job.now) schedule.now.inlining target.stage target.area)) }
     {
-        let steps = list_inner_steps(alloc, schedule, found)?;
-        let Some(inner) = sum_points_within_scratch(&steps) else {
+        let steps = list_inner_steps_of_tile_plan(alloc, schedule, found)?;
+        let Some(inner) = sum_points_within_scratch_limit(&steps) else {
             return Err(PlanFault::ScratchTooBig);
         };
-        let needs = list_needed_tiles(alloc, job, schedule, found)?;
-        let places = index_steps_by_stage(alloc, job, &steps)?;
-        let ranges = assign_inner_ranges(alloc, job, &steps, target)?;
-        let scratch = find_scratch_size(&ranges);
-        let all = append_target_step(steps, target)?;
+        let needs = list_tile_needs(alloc, job, schedule, found)?;
+        let places = list_step_places_by_stage(alloc, job, &steps)?;
+        let ranges = assign_inner_scratch_ranges(alloc, job, &steps, target)?;
+        let scratch = find_size_of_scratch_ranges(&ranges);
+        let all = append_target_to_tile_plan(steps, target)?;
         Ok(Layout {
             schedule,
             needs,
             steps: all,
-            points: inner + count_area_points(&target.area),
+            points: inner + count_area_points_of_tile_plan(&target.area),
             ranges,
             scratch,
             places,

@@ -1,5 +1,8 @@
 //! Layouts and plans of tiles: which stored tiles a tile reads, which boxes are computed for it in which order, and where
 //! each lies in scratch memory.
+//!
+//! Words: tile plan, plan fault, layout, tile need, step place, last reader, scratch range, work key, work stage, scratch
+//! limit, first gap, stage area.
 #![tactic(auto)]
 
 mod fault;
@@ -21,4 +24,4 @@ pub use needs::NeededTile;
 pub use plan::TilePlan;
 pub use room::{find_key_over_scratch_limit, is_tile_over_scratch_limit};
 pub use steps::TileStep;
-pub use work::{list_wanted_keys, list_work_keys};
+pub use work::{list_work_keys, list_work_keys_of_results};

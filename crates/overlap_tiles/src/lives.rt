@@ -22,7 +22,7 @@ fn record_last_reader(lasts: &mut [usize], stage: usize, place: usize)
 }
 
 // Records that each of these reads is made at this place.
-fn record_last_reads(lasts: &mut [usize], reads: &[Read], place: usize)
+fn record_last_readers(lasts: &mut [usize], reads: &[Read], place: usize)
     ensures { lasts.new ≡ marked place lasts.old (map read_view reads.now) }
 {
     for read in reads {
@@ -31,7 +31,7 @@ fn record_last_reads(lasts: &mut [usize], reads: &[Read], place: usize)
 }
 
 /// Records what a stage reads whose step is at this place, after all steps that were recorded before.
-pub(crate) fn record_last_reads_of_stage(
+pub(crate) fn record_stage_as_last_reader(
     lasts: &mut Vec<usize>,
     job: &Job,
     stage: usize,
@@ -40,7 +40,7 @@ pub(crate) fn record_last_reads_of_stage(
     ensures { lasts.new.items ≡ marked place lasts.old.items (reads_at (pipeline_in job.now) stage) }
 {
     if let Some(reads) = job.reads(stage) {
-        record_last_reads(lasts, reads, place);
+        record_last_readers(lasts, reads, place);
     }
 }
 
@@ -55,7 +55,7 @@ pub(crate) fn find_last_readers(
 {
     let mut lasts = vec![in alloc; 0; job.stages().len()]?;
     for (place, step) in steps.iter().enumerate() {
-        record_last_reads_of_stage(&mut lasts, job, step.stage, place);
+        record_stage_as_last_reader(&mut lasts, job, step.stage, place);
     }
     Ok(lasts)
 }

@@ -31,7 +31,7 @@ fn find_stage_area(boxes: &[(usize, Area)], stage: usize) -> Option<Area>
         .map(|found| found.1)
 }
 
-fn push_stage_tiles_as_needed(
+fn push_tiles_as_tile_needs(
     needs: &mut Vec<NeededTile>,
     stage: usize,
     tiles: &[(u32, u32)],
@@ -47,7 +47,7 @@ fn push_stage_tiles_as_needed(
 }
 
 // Adds the tiles of a stored stage that meet its box.
-fn push_needed_tiles_of_stage(
+fn push_tile_needs_of_stage(
     needs: &mut Vec<NeededTile>,
     alloc: Global,
     job: &Job,
@@ -63,14 +63,14 @@ fn push_needed_tiles_of_stage(
         return Ok(());
     }
     if let (Some(grid), Some(area)) = (job.grid(stage), find_stage_area(boxes, stage)) {
-        push_stage_tiles_as_needed(needs, stage, &grid.cover(alloc, &area)?)?;
+        push_tiles_as_tile_needs(needs, stage, &grid.cover(alloc, &area)?)?;
     }
     Ok(())
 }
 
 /// The tiles of stored stages that meet their boxes, stage by stage.
 #[tactic(auto, using(tile_boxes::proofs::Lists::flat_map_range_more))]
-pub(crate) fn list_needed_tiles(
+pub(crate) fn list_tile_needs(
     alloc: Global,
     job: &Job,
     schedule: &Schedule,
@@ -82,7 +82,7 @@ pub(crate) fn list_needed_tiles(
 {
     let mut needs = Vec::new(alloc);
     for stage in 0..job.stages().len() {
-        push_needed_tiles_of_stage(&mut needs, alloc, job, schedule, boxes, stage)?;
+        push_tile_needs_of_stage(&mut needs, alloc, job, schedule, boxes, stage)?;
     }
     Ok(needs)
 }

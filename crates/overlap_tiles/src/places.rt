@@ -12,7 +12,7 @@ use job::Job;
 use std::alloc::{AllocError, Global};
 
 // Records that the stage has this place.
-fn record_last_reading_step(places: &mut Vec<Option<usize>>, stage: usize, place: usize)
+fn record_step_place(places: &mut Vec<Option<usize>>, stage: usize, place: usize)
     ensures { places.new.items ≡ slice_set places.old.items stage (Some place) }
 {
     if stage < places.len() {
@@ -31,7 +31,7 @@ pub(crate) fn look_up_step_place(places: &[Option<usize>], stage: usize) -> Opti
 }
 
 /// A table by the numbers of stages: the place of each among these steps, which exclude the target.
-pub(crate) fn index_steps_by_stage(
+pub(crate) fn list_step_places_by_stage(
     alloc: Global,
     job: &Job,
     steps: &[TileStep],
@@ -42,7 +42,7 @@ pub(crate) fn index_steps_by_stage(
 {
     let mut places = vec![in alloc; None; job.stages().len()]?;
     for (place, step) in steps.iter().enumerate() {
-        record_last_reading_step(&mut places, step.stage, place);
+        record_step_place(&mut places, step.stage, place);
     }
     Ok(places)
 }

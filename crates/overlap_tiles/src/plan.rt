@@ -9,7 +9,7 @@ ghost use Rattle.overlap_tiles.specs.Plans.{IsTileLayout, IsTilePlan, IsPlanFaul
 ghost use Rattle.overlap_tiles.specs.Views.{step_view};
 
 use crate::fault::PlanFault;
-use crate::keys::list_needed_keys;
+use crate::keys::list_keys_of_tile_needs;
 use crate::layout::Layout;
 use crate::steps::TileStep;
 use grouping::Schedule;
@@ -58,7 +58,7 @@ impl<'a> TilePlan<'a> {
             (IsPlanFault (pipeline_in job.now) schedule.now.inlining stage row col) }
     {
         let layout = Layout::new(alloc, job, schedule, stage, row, col)?;
-        let needs = list_needed_keys(alloc, job, layout.needs())?;
+        let needs = list_keys_of_tile_needs(alloc, job, layout.needs())?;
         Ok(TilePlan { layout, needs })
     }
 

@@ -10,7 +10,7 @@ ghost use Rattle.overlap_tiles.specs.inside.Made.{find_first_gap, with_held, sti
 ghost use Rattle.overlap_tiles.specs.inside.Made.{ranges_by, size_of};
 ghost use Rattle.overlap_tiles.specs.declared.ranges.HeldRange.{HeldRange as Range};
 
-use crate::steps::{TileStep, count_area_points};
+use crate::steps::{TileStep, count_area_points_of_tile_plan};
 use std::alloc::{AllocError, Global};
 
 /// A range of scratch memory, by its start and its length, and the place of the last step that reads it.
@@ -38,7 +38,7 @@ fn find_first_gap(held: &[HeldRange], len: usize) -> usize
 }
 
 // The number of held ranges that come before one with this start.
-fn find_range_position(held: &[HeldRange], start: usize) -> usize
+fn find_scratch_range_position(held: &[HeldRange], start: usize) -> usize
     ensures within { result ≤ length held.now }
     ensures put { (new : Range) → new.start ≡ start
         → insert held.now result new ≡ with_held new held.now }
@@ -52,23 +52,23 @@ fn find_range_position(held: &[HeldRange], start: usize) -> usize
 }
 
 // Adds a held range.
-fn insert_held_range(held: &mut Vec<HeldRange>, range: HeldRange) -> Result<(), AllocError>
+fn insert_held_scratch_range(held: &mut Vec<HeldRange>, range: HeldRange) -> Result<(), AllocError>
     ensures { OnOk result (held.new.items ≡ with_held range held.old.items) }
 {
-    let at = find_range_position(held, range.start);
+    let at = find_scratch_range_position(held, range.start);
     held.insert(at, range)?;
     Ok(())
 }
 
 // Frees the ranges that are not read at this place or later.
-fn free_unread_ranges(held: &mut Vec<HeldRange>, place: usize)
+fn free_unread_scratch_ranges(held: &mut Vec<HeldRange>, place: usize)
     ensures { held.new.items ≡ still_held place held.old.items }
 {
     held.retain(|range| place <= range.last);
 }
 
 // The start of the range of the step at this place, by its number of points and its last reader.
-fn assign_range(
+fn assign_scratch_range(
     held: &mut Vec<HeldRange>,
     place: usize,
     len: usize,
@@ -80,9 +80,9 @@ fn assign_range(
         ≡ (held_by place held.old.items (len, last)).start) }
     ensures held { OnOk result (held.new.items ≡ held_after place held.old.items (len, last)) }
 {
-    free_unread_ranges(held, place);
+    free_unread_scratch_ranges(held, place);
     let start = find_first_gap(held, len);
-    insert_held_range(held, HeldRange { start, len, last })?;
+    insert_held_scratch_range(held, HeldRange { start, len, last })?;
     Ok(start)
 }
 
@@ -95,7 +95,7 @@ fn find_last_reader(lasts: &[usize], stage: usize) -> usize
 
 /// A range for each step: its start and its length. A table has for each stage the place of its last reader. In the order of the
 /// steps each range starts at the least place where it meets no range that is still to be read.
-pub(crate) fn assign_ranges(
+pub(crate) fn assign_scratch_ranges(
     alloc: Global,
     steps: &[TileStep],
     lasts: &[usize],
@@ -108,16 +108,16 @@ pub(crate) fn assign_ranges(
     let mut ranges = Vec::new(alloc);
     let mut held = Vec::new(alloc);
     for (place, step) in steps.iter().enumerate() {
-        let len = count_area_points(&step.area) as usize;
+        let len = count_area_points_of_tile_plan(&step.area) as usize;
         let last = find_last_reader(lasts, step.stage);
-        let start = assign_range(&mut held, place, len, last)?;
+        let start = assign_scratch_range(&mut held, place, len, last)?;
         ranges.push((start, len))?;
     }
     Ok(ranges)
 }
 
 /// The size of the least scratch memory that contains these ranges.
-pub(crate) fn find_scratch_size(ranges: &[(usize, usize)]) -> usize
+pub(crate) fn find_size_of_scratch_ranges(ranges: &[(usize, usize)]) -> usize
     requires { LieWithin most_scratch ranges.now }
     ensures { result ≡ size_of ranges.now }
 {

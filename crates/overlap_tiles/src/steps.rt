@@ -19,7 +19,7 @@ pub struct TileStep {
 }
 
 /// The steps of those boxes whose stages are inlined.
-pub(crate) fn list_inner_steps(
+pub(crate) fn list_inner_steps_of_tile_plan(
     alloc: Global,
     schedule: &Schedule,
     boxes: &[(usize, Area)],
@@ -38,7 +38,7 @@ pub(crate) fn list_inner_steps(
 }
 
 /// These steps, and the target as the last.
-pub(crate) fn append_target_step(
+pub(crate) fn append_target_to_tile_plan(
     steps: Vec<TileStep>,
     target: TileStep,
 ) -> Result<Vec<TileStep>, AllocError>
@@ -51,7 +51,7 @@ pub(crate) fn append_target_step(
 
 // The points of an area are few enough that those of many areas can be added.
 #[tactic(auto, using(crate::proofs::PointsAreFew::few_points))]
-pub(crate) fn count_area_points(area: &Area) -> u64
+pub(crate) fn count_area_points_of_tile_plan(area: &Area) -> u64
     ensures number { result ≡ point_count area.now }
     ensures few { result < 2 ^ 43 }
 {
@@ -59,14 +59,14 @@ pub(crate) fn count_area_points(area: &Area) -> u64
 }
 
 /// The points of the steps' areas together; none if they are more than scratch memory may have.
-pub(crate) fn sum_points_within_scratch(steps: &[TileStep]) -> Option<u64>
+pub(crate) fn sum_points_within_scratch_limit(steps: &[TileStep]) -> Option<u64>
     ensures number { IfSome result (λ n. n ≡ points_in (map step_view steps.now)) }
     ensures few { IfSome result (λ n. n ≤ most_scratch) }
     ensures many { IfNone result (most_scratch < points_in (map step_view steps.now)) }
 {
     let mut total = 0;
     for step in steps {
-        total += count_area_points(&step.area);
+        total += count_area_points_of_tile_plan(&step.area);
         if total > MOST_SCRATCH {
             return None;
         }

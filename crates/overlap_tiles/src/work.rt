@@ -28,7 +28,7 @@ pub fn list_work_keys(alloc: Global, job: &Job, schedule: &Schedule) -> Result<V
         ≡ work_keys (program_id_in job.now) (pipeline_in job.now) schedule.now.inlining) }
 {
     let stages = list_work_stages(alloc, job, schedule)?;
-    list_keys_of_stages(alloc, job, &stages)
+    list_work_keys_of_stages(alloc, job, &stages)
 }
 
 /// The keys of the tiles that the answer of a job consists of: those of its outputs and accumulators. They rise. The job's input
@@ -37,13 +37,13 @@ pub fn list_work_keys(alloc: Global, job: &Job, schedule: &Schedule) -> Result<V
 /// # Errors
 ///
 /// Fails only where memory is refused.
-pub fn list_wanted_keys(alloc: Global, job: &Job) -> Result<Vec<Key>, AllocError>
+pub fn list_work_keys_of_results(alloc: Global, job: &Job) -> Result<Vec<Key>, AllocError>
     ensures list { IfOk result (λ keys. keys.items
         ≡ wanted_keys (program_id_in job.now) (pipeline_in job.now)) }
     ensures rising { IfOk result (λ keys. AllPairs IsKeyBefore keys.items) }
 {
-    let stages = list_result_stages(alloc, job)?;
-    let keys = list_keys_of_stages(alloc, job, &stages)?;
+    let stages = list_result_work_stages(alloc, job)?;
+    let keys = list_work_keys_of_stages(alloc, job, &stages)?;
     Ok(keys)
 }
 
@@ -76,7 +76,7 @@ fn list_work_stages(alloc: Global, job: &Job, schedule: &Schedule) -> Result<Vec
 
 // The stages whose tiles belong to the answer, rising.
 #[tactic(auto, using(tile_boxes::proofs::Lists::passes_more, tile_boxes::proofs::Lists::fails_more))]
-fn list_result_stages(alloc: Global, job: &Job) -> Result<Vec<usize>, AllocError>
+fn list_result_work_stages(alloc: Global, job: &Job) -> Result<Vec<usize>, AllocError>
     ensures { IfOk result (λ results. results.items
         ≡ filter (is_result (pipeline_in job.now))
         (range_with_len 0 (length (pipeline_in job.now).stages))) }
@@ -91,7 +91,11 @@ fn list_result_stages(alloc: Global, job: &Job) -> Result<Vec<usize>, AllocError
 }
 
 // The keys of the tiles of these stages, stage by stage and row by row.
-fn list_keys_of_stages(alloc: Global, job: &Job, stages: &[usize]) -> Result<Vec<Key>, AllocError>
+fn list_work_keys_of_stages(
+    alloc: Global,
+    job: &Job,
+    stages: &[usize],
+) -> Result<Vec<Key>, AllocError>
     ensures { IfOk result (λ keys. keys.items
         ≡ map (key_of (program_id_in job.now) (pipeline_in job.now))
         (flat_map (tiles (pipeline_in job.now)) stages.now)) }
@@ -105,13 +109,13 @@ fn list_keys_of_stages(alloc: Global, job: &Job, stages: &[usize]) -> Result<Vec
         col: 0,
     };
     for stage in stages {
-        push_stage_keys(&mut keys, job, &named, *stage)?;
+        push_work_keys_of_stage(&mut keys, job, &named, *stage)?;
     }
     Ok(keys)
 }
 
 // Adds the keys of the tiles of a stage. The key that is passed has the identities of the program and of its input.
-fn push_stage_keys(
+fn push_work_keys_of_stage(
     keys: &mut Vec<Key>,
     job: &Job,
     named: &Key,
@@ -130,27 +134,32 @@ fn push_stage_keys(
             row: 0,
             col: 0,
         };
-        push_grid_keys(keys, &first, &grid)?;
+        push_work_keys_of_grid(keys, &first, &grid)?;
     }
     Ok(())
 }
 
 // Adds the keys of the tiles of a grid, row by row.
 #[tactic(auto, using(tile_boxes::proofs::Lists::flat_map_range_more))]
-fn push_grid_keys(keys: &mut Vec<Key>, first: &Key, grid: &Grid) -> Result<(), AllocError>
+fn push_work_keys_of_grid(keys: &mut Vec<Key>, first: &Key, grid: &Grid) -> Result<(), AllocError>
     ensures { OnOk result (keys.new.items
         ≡ keys.old.items ++ map (key_at first.now) (tiles_of grid.now)) }
 {
     let cols = grid.tile_cols();
     for row in 0..grid.tile_rows() {
-        push_row_keys(keys, first, row, cols)?;
+        push_work_keys_of_row(keys, first, row, cols)?;
     }
     Ok(())
 }
 
 // Adds the keys of the first tiles of a row.
 #[tactic(auto, using(tile_boxes::proofs::Lists::map_range_more))]
-fn push_row_keys(keys: &mut Vec<Key>, first: &Key, row: u32, cols: u32) -> Result<(), AllocError>
+fn push_work_keys_of_row(
+    keys: &mut Vec<Key>,
+    first: &Key,
+    row: u32,
+    cols: u32,
+) -> Result<(), AllocError>
     ensures { OnOk result (keys.new.items ≡ keys.old.items ++ row_keys first.now cols row) }
 {
     for col in 0..cols {

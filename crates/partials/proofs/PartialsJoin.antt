@@ -20,7 +20,7 @@ use Rattle.job.proofs.TotalLaws.{map_same, body_totals-agrees}
 use Rattle.overlap_tiles.specs.Plans.{Layout, IsTileLayout}
 use Rattle.tile_sources.specs.KnownTiles.{KnownTiles, AreTrue}
 use Rattle.one_tile.specs.Local.{read_from, local_value, IsAtHand, IsClosed}
-use Rattle.one_tile.specs.declared.scratch_view.StepScratchView.{StepScratchView}
+use Rattle.one_tile.specs.declared.scratch_view.TileScratchView.{TileScratchView}
 use Rattle.one_tile.specs.Prepared.{IsInputAt, IsPrepared, IsPreparedOn}
 use Rattle.one_tile.proofs.LayoutsPrepare.{layout_steps, layout_area}
 use Rattle.one_tile.proofs.ValuesAreLocal.{same_stage}
@@ -49,7 +49,7 @@ totals_over_is job area g s there = ap (λ (o : Option Stage). option_map_or (λ
 
 -- ---- where all that is read is at hand, in boxes of local values
 
-module _ (job : Pipeline) (l : Layout) (given : KnownTiles) (boxes : StepScratchView) (g : ℕ) (s : Stage)
+module _ (job : Pipeline) (l : Layout) (given : KnownTiles) (boxes : TileScratchView) (g : ℕ) (s : Stage)
     (there : slice_get job.stages g ≡ Some s) (area : Area) (prepared : IsPrepared job l given boxes g area) where
   within : IsSubarea area s.domain
   within r c inside = let p = prepared r c inside in subst (λ (t : Stage). HoldsPoint t.domain r c)
@@ -72,7 +72,7 @@ module _ (job : Pipeline) (l : Layout) (given : KnownTiles) (g i j : ℕ) (own :
   pub step_area : IsJob job → IsArea step.1
   step_area good = subst (λ (s : ℕ × Area). IsArea s.1) (sym step_is) (layout_area job l.inlining given l g i j own good)
 
-module _ (job : Pipeline) (l : Layout) (given : KnownTiles) (boxes : StepScratchView) (g i j : ℕ) (own : IsTileLayout job l.inlining g i j l)
+module _ (job : Pipeline) (l : Layout) (given : KnownTiles) (boxes : TileScratchView) (g i j : ℕ) (own : IsTileLayout job l.inlining g i j l)
     (step : ℕ × Area) (last : IsLastStep l.steps step) where
   pub step_prepared : ((k m n : ℕ) → IsTileLayout job l.inlining k m n l → IsPreparedOn job l given boxes k m n)
       → IsPrepared job l given boxes step.0 step.1
@@ -113,9 +113,9 @@ module _ (job : Pipeline) (grid : Grid) (tiles : List (ℕ × ℕ)) (is : IsGrid
         is
         moved)
 
-pub partials_join : (job : Pipeline) (g : ℕ) (s : Stage) (tiles : List (ℕ × ℕ)) → IsJob job → slice_get job.stages g ≡ Some s
+pub partials_join_to_answer_in_any_order : (job : Pipeline) (g : ℕ) (s : Stage) (tiles : List (ℕ × ℕ)) → IsJob job → slice_get job.stages g ≡ Some s
     → IsPermutation (tiles_of (grid_of job s)) tiles → joined_over job g (grid_of job s) tiles ≡ totals job g
-partials_join job g s tiles is there moved =
+partials_join_to_answer_in_any_order job g s tiles is there moved =
     ap (λ (o : Option Stage). option_map_or (λ t. body_joined job g grid tiles t.body) o []) there
     ∙ by_body s.body refl
     ∙ sym (totals_is job g s there)

@@ -23,7 +23,7 @@ use tile_sources::TileSource;
 
 // Joins to each bin what an accumulator accumulates in it over the last step's area. All buffers are grown before the first value
 // is computed.
-fn accumulate_step_values<K: TileSource>(
+fn accumulate_step_partial<K: TileSource>(
     alloc: Global,
     tile: &TileJob<'_, K>,
     step: &TileStep,
@@ -56,7 +56,7 @@ fn accumulate_step_values<K: TileSource>(
 /// # Errors
 ///
 /// Fails only where memory is refused; then the bins are unchanged.
-pub fn accumulate_tile_values<K: TileSource>(
+pub fn accumulate_tile_partial<K: TileSource>(
     alloc: Global,
     tile: &TileJob<'_, K>,
     accumulator: &Accumulator,
@@ -79,11 +79,11 @@ pub fn accumulate_tile_values<K: TileSource>(
     let Some(step) = tile.layout.steps().last() else {
         unreachable!()
     };
-    accumulate_step_values(alloc, tile, step, accumulator, scratch, rows, bins)
+    accumulate_step_partial(alloc, tile, step, accumulator, scratch, rows, bins)
 }
 
 // What an accumulator accumulates over the last step's area.
-fn compute_accumulator_step_totals<K: TileSource>(
+fn compute_accumulator_step_partial<K: TileSource>(
     alloc: Global,
     tile: &TileJob<'_, K>,
     step: &TileStep,
@@ -101,7 +101,7 @@ fn compute_accumulator_step_totals<K: TileSource>(
 {
     let mut bins = create_start_bins(alloc, accumulator.fold(), accumulator.bins())?;
     let mut rows = AccumulatorBuffers::new(alloc);
-    accumulate_step_values(
+    accumulate_step_partial(
         alloc,
         tile,
         step,
@@ -114,7 +114,7 @@ fn compute_accumulator_step_totals<K: TileSource>(
 }
 
 // What the last step's stage accumulates over its area; nothing if it is no accumulator.
-fn compute_step_totals<K: TileSource>(
+fn compute_step_partial<K: TileSource>(
     alloc: Global,
     tile: &TileJob<'_, K>,
     step: &TileStep,
@@ -131,7 +131,7 @@ fn compute_step_totals<K: TileSource>(
         return Ok(Vec::new(alloc));
     };
     match found.body() {
-        Body::Accumulator(accumulator) => compute_accumulator_step_totals(
+        Body::Accumulator(accumulator) => compute_accumulator_step_partial(
             alloc,
             tile,
             step,
@@ -147,7 +147,7 @@ fn compute_step_totals<K: TileSource>(
 /// # Errors
 ///
 /// Fails only where memory is refused.
-pub(crate) fn compute_tile_totals<K: TileSource>(
+pub(crate) fn compute_tile_partial<K: TileSource>(
     alloc: Global,
     tile: &TileJob<'_, K>,
     scratch: &mut TileScratch,
@@ -162,7 +162,7 @@ pub(crate) fn compute_tile_totals<K: TileSource>(
     let Some(step) = tile.layout.steps().last() else {
         return Ok(Vec::new(alloc));
     };
-    compute_step_totals(alloc, tile, step, scratch)
+    compute_step_partial(alloc, tile, step, scratch)
 }
 
 /// What an accumulator accumulates in its bins over a tile, rising, by the tile's plan and from whatever is supplied. If all that
@@ -199,6 +199,6 @@ pub fn partial<K: TileSource>(
         layout: plan.layout(),
         known,
     };
-    let bins = compute_tile_totals(alloc, &tile, scratch)?;
+    let bins = compute_tile_partial(alloc, &tile, scratch)?;
     Ok(bins)
 }

@@ -19,7 +19,7 @@ use crate::sheet::{OutputPlane, OutputSheet};
 use domains::Area;
 use job::{Job, Output};
 use netpbm::{PackedPlane, Picture};
-use row_kernels::offset_coordinate;
+use row_kernels::find_coordinate_at_place;
 use std::alloc::{AllocError, Global};
 use tile_eval::find_span_number;
 use tile_run::{TileSource, borrow_supplied_row_part};
@@ -80,7 +80,7 @@ impl<K: TileSource> SuppliedJob<'_, K> {
         ensures image { IfOk result IsImage }
     {
         let planes = self.assemble_planes(alloc, output.stages(), output.max() as u16)?;
-        Ok(build_output_picture(self.job, output, planes))
+        Ok(build_picture_from_output_planes(self.job, output, planes))
     }
 
     // The planes of functions.
@@ -196,7 +196,7 @@ impl<K: TileSource> SuppliedJob<'_, K> {
     {
         let mut done = 0;
         while done < count {
-            let from = offset_coordinate(first, done);
+            let from = find_coordinate_at_place(first, done);
             let part = borrow_supplied_row_part(
                 self.known,
                 self.job,
@@ -213,7 +213,11 @@ impl<K: TileSource> SuppliedJob<'_, K> {
 }
 
 /// The picture of an output, with these planes.
-pub fn build_output_picture(job: &Job, output: &Output, planes: Vec<PackedPlane>) -> Picture
+pub fn build_picture_from_output_planes(
+    job: &Job,
+    output: &Output,
+    planes: Vec<PackedPlane>,
+) -> Picture
     requires output { IsOutput (pipeline_in job.now) (output_view output.now) }
     requires image { IsImage (picture_with (pipeline_in job.now) (output_view output.now)
         (made_samples planes.items)) }
@@ -222,8 +226,8 @@ pub fn build_output_picture(job: &Job, output: &Output, planes: Vec<PackedPlane>
     ensures image { IsImage result }
 {
     let first = output.stages()[0];
-    let rows = count_output_plane_rows(job, first);
-    let cols = count_output_plane_columns(job, first);
+    let rows = count_rows_of_output_plane(job, first);
+    let cols = count_columns_of_output_plane(job, first);
     match Picture::from_packed_planes(rows, cols, output.max() as u16, planes) {
         Ok(picture) => picture,
         Err(_) => unreachable!(),
@@ -242,7 +246,7 @@ fn push_clamped_samples<S: OutputSheet>(sheet: &mut S, values: &[i32]) -> Result
     while !rest.is_empty() {
         let (piece, behind) = rest.split_at(rest.len().min(PIECE));
         let cuts = &mut room[..piece.len()];
-        clamp_output_values(cuts, piece, max);
+        write_clamped_samples(cuts, piece, max);
         sheet.add_samples(cuts)?;
         rest = behind;
     }
@@ -250,24 +254,24 @@ fn push_clamped_samples<S: OutputSheet>(sheet: &mut S, values: &[i32]) -> Result
 }
 
 // Each value, clamped to 0 and the greatest sample.
-fn clamp_output_values(cuts: &mut [u16], values: &[i32], max: u16)
+fn write_clamped_samples(cuts: &mut [u16], values: &[i32], max: u16)
     requires { length cuts.old ≡ length values.now }
     ensures { cuts.new ≡ map (sample_of max) values.now }
 {
     for k in 0..values.len() {
-        cuts[k] = clamp_output_value(values[k], max);
+        cuts[k] = compute_clamped_sample(values[k], max);
     }
 }
 
 // The value clamped to 0 and the greatest sample.
-fn clamp_output_value(value: i32, max: u16) -> u16
+fn compute_clamped_sample(value: i32, max: u16) -> u16
     ensures { result ≡ sample_of max value }
 {
     value.max(0).min(i32::from(max)) as u16
 }
 
 // The number of rows of the domain of a stage.
-fn count_output_plane_rows(job: &Job, stage: usize) -> u32
+fn count_rows_of_output_plane(job: &Job, stage: usize) -> u32
     ensures { result ≡ height_of (pipeline_in job.now) stage }
 {
     match job.domain(stage) {
@@ -277,7 +281,7 @@ fn count_output_plane_rows(job: &Job, stage: usize) -> u32
 }
 
 // The number of columns of the domain of a stage.
-fn count_output_plane_columns(job: &Job, stage: usize) -> u32
+fn count_columns_of_output_plane(job: &Job, stage: usize) -> u32
     ensures { result ≡ width_of (pipeline_in job.now) stage }
 {
     match job.domain(stage) {

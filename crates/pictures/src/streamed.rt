@@ -15,13 +15,13 @@ ghost use Rattle.pictures.specs.inside.Strips.{IsStripOf};
 use crate::parting::is_one_thread_enough_for_rows;
 use crate::picture::SuppliedJob;
 use crate::sheet::{OutputPlane, OutputSheet};
-use crate::strip::{PlaneStrip, append_strips_to_plane};
+use crate::strip::{PlaneStrip, append_plane_strips};
 use domains::{Area, Grid};
 use netpbm::PackedPlane;
 use rayon::prelude::*;
 use std::alloc::{AllocError, Global};
 use std::thread::Threads;
-use tile_run::{StageRun, SuppliedTileRow, TileScratch, estimate_tile_rows_per_thread};
+use tile_run::{StageRun, StoredTileRow, TileScratch, estimate_tile_rows_per_thread};
 
 /// An output of a job. Each thread has one row of its tiles in memory at a time.
 #[derive(Clone, Copy)]
@@ -30,7 +30,7 @@ pub struct StreamedOutput<'a> {
 }
 
 /// The points of a row of tiles.
-pub fn compute_output_tile_row_area(grid: &Grid, row: u32) -> Area
+pub fn compute_output_plane_tile_row_area(grid: &Grid, row: u32) -> Area
     requires parted { IsGrid grid.now }
     requires row { row < tile_rows grid.now }
     ensures { result ≡ row_area grid.now row }
@@ -107,7 +107,7 @@ impl StreamedOutput<'_> {
             max,
             self.run.grid.area.points() as usize,
         )?;
-        append_strips_to_plane(&mut plane, &strips)?;
+        append_plane_strips(&mut plane, &strips)?;
         Ok(plane)
     }
 
@@ -155,7 +155,7 @@ impl StreamedOutput<'_> {
         requires row { row < tile_rows self.now.run.grid }
         ensures { IfOk result (IsStripOf self.now max row) }
     {
-        let area = compute_output_tile_row_area(&self.run.grid, row);
+        let area = compute_output_plane_tile_row_area(&self.run.grid, row);
         let mut strip = PlaneStrip::with_capacity(alloc, max, area.points() as usize)?;
         self.compute_tile_row_into_sheet(alloc, &mut strip, scratch, row)?;
         Ok(strip)
@@ -179,9 +179,9 @@ impl StreamedOutput<'_> {
             ++ samples_over (pipeline_in self.now.run.job.now) (S.greatest_of sheet.old)
             self.now.run.stage (row_area self.now.run.grid row)) }
     {
-        let area = compute_output_tile_row_area(&self.run.grid, row);
+        let area = compute_output_plane_tile_row_area(&self.run.grid, row);
         let tiles = self.run.compute_tile_row(alloc, row, scratch)?;
-        let lent = SuppliedTileRow {
+        let lent = StoredTileRow {
             stage: self.run.stage,
             row,
             tiles: &tiles,

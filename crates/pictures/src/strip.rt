@@ -53,7 +53,7 @@ impl OutputSheet for PlaneStrip {
 /// # Errors
 ///
 /// Fails only where memory is refused.
-pub(crate) fn append_strips_to_plane(
+pub(crate) fn append_plane_strips(
     plane: &mut PackedPlane,
     strips: &[PlaneStrip],
 ) -> Result<(), AllocError>

@@ -17,7 +17,7 @@ use pipe_tokens::Name;
 use pipe_tree::{Case, Test};
 use std::alloc::{AllocError, Global};
 
-fn clamp_case_span_above(span: &Span, bound: i128) -> Option<Span>
+fn clamp_case_box_span_above(span: &Span, bound: i128) -> Option<Span>
     ensures { IsCut (λ v. v ≤ℤ bound) span.now result }
 {
     if i128::from(span.hi()) <= bound {
@@ -29,7 +29,7 @@ fn clamp_case_span_above(span: &Span, bound: i128) -> Option<Span>
     Span::new(span.lo(), bound as i32)
 }
 
-fn clamp_case_span_below(span: &Span, bound: i128) -> Option<Span>
+fn clamp_case_box_span_below(span: &Span, bound: i128) -> Option<Span>
     ensures { IsCut (λ v. bound ≤ℤ v) span.now result }
 {
     if bound <= i128::from(span.lo()) {
@@ -41,30 +41,33 @@ fn clamp_case_span_below(span: &Span, bound: i128) -> Option<Span>
     Span::new(bound as i32, span.hi())
 }
 
-fn clamp_case_span_by_relation(span: &Span, relation: Relation, bound: i128) -> Option<Span>
+fn clamp_case_box_span_by_relation(span: &Span, relation: Relation, bound: i128) -> Option<Span>
     ensures { IsCut (λ v. Meets relation v bound) span.now result }
 {
     match relation {
-        Relation::AtMost => clamp_case_span_above(span, bound),
-        Relation::AtLeast => clamp_case_span_below(span, bound),
-        Relation::Equals => clamp_case_span_below(&clamp_case_span_above(span, bound)?, bound),
+        Relation::AtMost => clamp_case_box_span_above(span, bound),
+        Relation::AtLeast => clamp_case_box_span_below(span, bound),
+        Relation::Equals => clamp_case_box_span_below(
+            &clamp_case_box_span_above(span, bound)?,
+            bound,
+        ),
     }
 }
 
-fn clamp_case_area_by_test(params: &Params, row: &Name, area: &Area, test: &Test) -> Option<Area>
+fn clamp_case_box_by_test(params: &Params, row: &Name, area: &Area, test: &Test) -> Option<Area>
     ensures { IsCutArea (BoundHolds params.now row.now test.now) area.now result }
 {
     match test {
         Test::Compare(name, relation, bound) => {
             let bound = affine_value(params, bound);
             if is_same_name(name, row) {
-                let rows = clamp_case_span_by_relation(&area.rows, *relation, bound)?;
+                let rows = clamp_case_box_span_by_relation(&area.rows, *relation, bound)?;
                 Some(Area {
                     rows,
                     cols: area.cols,
                 })
             } else {
-                let cols = clamp_case_span_by_relation(&area.cols, *relation, bound)?;
+                let cols = clamp_case_box_span_by_relation(&area.cols, *relation, bound)?;
                 Some(Area {
                     rows: area.rows,
                     cols,
@@ -82,7 +85,7 @@ fn case_box(params: &Params, row: &Name, domain: &Area, tests: &[Test]) -> Optio
 {
     let mut left = *domain;
     for test in tests {
-        left = clamp_case_area_by_test(params, row, &left, test)?;
+        left = clamp_case_box_by_test(params, row, &left, test)?;
     }
     let _ = left.points();
     Some(left)

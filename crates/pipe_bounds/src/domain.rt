@@ -34,7 +34,7 @@ pub(crate) struct StageDomain {
     pub(crate) bins: Option<Span>,
 }
 
-fn check_interval(first: i128, last: i128) -> Result<Span, IntervalFault>
+fn build_interval_within_limits(first: i128, last: i128) -> Result<Span, IntervalFault>
     ensures { IsInterval first last result }
 {
     if last < first {
@@ -53,13 +53,13 @@ fn affine_interval(params: &Params, span: &AffineSpan) -> Result<Span, IntervalF
     ensures { IsInterval (affine_value params.now span.now.first)
         (affine_value params.now span.now.last) result }
 {
-    check_interval(
+    build_interval_within_limits(
         affine_value(params, &span.first),
         affine_value(params, &span.last),
     )
 }
 
-fn check_extent(side: i128) -> Result<Span, IntervalFault>
+fn build_interval_of_extent(side: i128) -> Result<Span, IntervalFault>
     ensures { IsExtent side result }
 {
     if side < 1 {
@@ -68,17 +68,20 @@ fn check_extent(side: i128) -> Result<Span, IntervalFault>
     if MAX_SIZE < side {
         return Err(IntervalFault::TooWide);
     }
-    check_interval(0, side - 1)
+    build_interval_within_limits(0, side - 1)
 }
 
-fn affine_extent(params: &Params, side: &Affine) -> Result<Span, IntervalFault>
+fn affine_interval_of_extent(params: &Params, side: &Affine) -> Result<Span, IntervalFault>
     ensures { IsExtent (affine_value params.now side.now) result }
 {
-    check_extent(affine_value(params, side))
+    build_interval_of_extent(affine_value(params, side))
 }
 
 // The bins of an accumulator, or the span of a table.
-fn affine_bins(params: &Params, span: &AffineSpan) -> Result<Span, IntervalFault>
+fn affine_interval_of_limited_length(
+    params: &Params,
+    span: &AffineSpan,
+) -> Result<Span, IntervalFault>
     ensures { IsBins (affine_value params.now span.now.first)
         (affine_value params.now span.now.last) result }
 {
@@ -90,16 +93,16 @@ fn affine_bins(params: &Params, span: &AffineSpan) -> Result<Span, IntervalFault
     }
 }
 
-fn image_domain(params: &Params, image: &Image) -> Result<Area, IntervalFault>
+fn compute_stage_domain_of_image(params: &Params, image: &Image) -> Result<Area, IntervalFault>
     ensures { IsArea (IsExtent (affine_value params.now image.now.rows))
         (IsExtent (affine_value params.now image.now.columns)) result }
 {
-    let rows = affine_extent(params, &image.rows)?;
-    let cols = affine_extent(params, &image.columns)?;
+    let rows = affine_interval_of_extent(params, &image.rows)?;
+    let cols = affine_interval_of_extent(params, &image.columns)?;
     Ok(Area { rows, cols })
 }
 
-fn func_domain(params: &Params, func: &Func) -> Result<Area, IntervalFault>
+fn compute_stage_domain_of_func(params: &Params, func: &Func) -> Result<Area, IntervalFault>
     ensures { IsArea (IsSpanOf params.now func.now.row.span)
         (IsSpanOf params.now func.now.column.span) result }
 {
@@ -108,10 +111,13 @@ fn func_domain(params: &Params, func: &Func) -> Result<Area, IntervalFault>
     Ok(Area { rows, cols })
 }
 
-fn accum_domain(params: &Params, accum: &Accum) -> Result<StageDomain, IntervalFault>
+fn compute_stage_domain_of_accum(
+    params: &Params,
+    accum: &Accum,
+) -> Result<StageDomain, IntervalFault>
     ensures { IsPlaced params.now (accumulator (accumulator_of accum.now)) result }
 {
-    let bins = affine_bins(params, &accum.bins)?;
+    let bins = affine_interval_of_limited_length(params, &accum.bins)?;
     let rows = affine_interval(params, &accum.row.span)?;
     let cols = affine_interval(params, &accum.column.span)?;
     Ok(StageDomain {
@@ -120,30 +126,37 @@ fn accum_domain(params: &Params, accum: &Accum) -> Result<StageDomain, IntervalF
     })
 }
 
-fn domain_without_bins(domain: Area) -> StageDomain
+fn build_stage_domain_without_bins(domain: Area) -> StageDomain
     ensures { result ≡ record { domain = domain; bins = None } }
 {
     StageDomain { domain, bins: None }
 }
 
 /// The domain, and the bins if any, of the stages that an item declares.
-pub(crate) fn item_domain(params: &Params, item: &Item) -> Result<StageDomain, IntervalFault>
+pub(crate) fn compute_stage_domain_of_item(
+    params: &Params,
+    item: &Item,
+) -> Result<StageDomain, IntervalFault>
     ensures { IsPlaced params.now (declaration item.now) result }
 {
     match item {
-        Item::Image(image) => Ok(domain_without_bins(image_domain(params, image)?)),
-        Item::Func(func) => Ok(domain_without_bins(func_domain(params, func)?)),
-        Item::Accum(accum) => accum_domain(params, accum),
+        Item::Image(image) => Ok(build_stage_domain_without_bins(compute_stage_domain_of_image(
+            params, image,
+        )?)),
+        Item::Func(func) => Ok(build_stage_domain_without_bins(compute_stage_domain_of_func(
+            params, func,
+        )?)),
+        Item::Accum(accum) => compute_stage_domain_of_accum(params, accum),
         Item::Param(_) | Item::Table(_) | Item::Output(_) => Err(IntervalFault::Empty),
     }
 }
 
 /// The span of the table that an item declares.
-pub(crate) fn table_span(params: &Params, item: &Item) -> Result<Span, IntervalFault>
+pub(crate) fn compute_table_bounds(params: &Params, item: &Item) -> Result<Span, IntervalFault>
     ensures { IsItemSpan params.now (declaration item.now) result }
 {
     match item {
-        Item::Table(table) => affine_bins(params, &table.span),
+        Item::Table(table) => affine_interval_of_limited_length(params, &table.span),
         Item::Param(_) | Item::Image(_) | Item::Func(_) | Item::Accum(_) | Item::Output(_) => Err(
             IntervalFault::Empty,
         ),

@@ -7,7 +7,7 @@ ghost use Rattle.pipe_bounds.specs.StageBounds.{HasBoxes, IsBoundsOf, AreBoundsO
 ghost use Rattle.pipe_bounds.specs.inside.Taken.{AreDeclared, IsAnswer, IsPlace, TellsDomain, stage_domain_fault};
 
 use crate::boxes::case_boxes;
-use crate::domain::{IntervalFault, StageDomain, item_domain};
+use crate::domain::{IntervalFault, StageDomain, compute_stage_domain_of_item};
 use crate::fault::BoundFault;
 use crate::params::Params;
 use crate::stage_bounds::StageBounds;
@@ -74,7 +74,7 @@ pub(crate) fn collect_stage_bounds(
     let mut found = Vec::new(alloc);
     for (stage, declared) in stages.iter().enumerate() {
         let item = &items[declared.item];
-        match item_domain(params, item) {
+        match compute_stage_domain_of_item(params, item) {
             Ok(place) => {
                 let bounds = build_stage_bounds(alloc, params, item, &place)?;
                 found.push(bounds).map_err(AllocError::from)?;

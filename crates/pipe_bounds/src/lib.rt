@@ -1,5 +1,8 @@
 //! Whether a program stays in bounds: once the parameters have values, each stage has its domain, and each read stays within what
 //! it reads.
+//!
+//! Words: bound, params, affine value, term value, interval, stage domain, case box, footprint, domain index, table span
+//! fault.
 #![tactic(auto)]
 
 mod affine;

@@ -13,7 +13,7 @@ ghost use Rattle.pipe_bounds.specs.inside.Taken.{AnswersCases, AnswersReads, Are
 use crate::fault::BoundFault;
 use crate::params::Params;
 use crate::stage_bounds::StageBounds;
-use crate::taken::{access_footprint, find_domain_departure};
+use crate::taken::{compute_access_footprint, find_footprint_departure};
 use domains::Area;
 use pipe_checks::{Access, Symbol, collect_expr_accesses, push_expr_accesses};
 use pipe_tokens::Name;
@@ -47,8 +47,8 @@ impl BoundsChecker<'_> {
             (TellsRead (domains_in self.now.found.now) (HoldsPoint area.now) access.now
             self.now.stage case read) result }
     {
-        let taken = access_footprint(access, area);
-        match find_domain_departure(&taken, self.found[access.stage()].domain()) {
+        let taken = compute_access_footprint(access, area);
+        match find_footprint_departure(&taken, self.found[access.stage()].domain()) {
             Some(departure) => Err(BoundFault::OutOfBounds {
                 stage: self.stage,
                 case,

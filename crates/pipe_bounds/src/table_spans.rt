@@ -6,7 +6,7 @@ ghost use Rattle.pipe_tree.specs.Tree.{declarations};
 ghost use Rattle.pipe_bounds.specs.Tables.{AreSpansOf};
 ghost use Rattle.pipe_bounds.specs.inside.Taken.{AreDeclared, AreTables, IsAnswer, TellsTable, table_span_fault};
 
-use crate::domain::{IntervalFault, table_span};
+use crate::domain::{IntervalFault, compute_table_bounds};
 use crate::fault::BoundFault;
 use crate::params::Params;
 use domains::Span;
@@ -24,7 +24,7 @@ fn table_span_fault(fault: IntervalFault, table: usize) -> BoundFault
 }
 
 /// The span of each table, or the first fault of one.
-pub(crate) fn collect_table_spans(
+pub(crate) fn collect_table_bounds(
     alloc: Global,
     params: &Params,
     items: &[Item],
@@ -37,7 +37,7 @@ pub(crate) fn collect_table_spans(
 {
     let mut spans = Vec::new(alloc);
     for (table, declared) in tables.iter().enumerate() {
-        match table_span(params, &items[declared.item]) {
+        match compute_table_bounds(params, &items[declared.item]) {
             Ok(span) => spans.push(span).map_err(AllocError::from)?,
             Err(fault) => return Err(table_span_fault(fault, table)),
         }

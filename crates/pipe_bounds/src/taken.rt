@@ -25,7 +25,7 @@ pub(crate) struct Departure {
 }
 
 // The numbers that an index takes over a span.
-fn read_index_image(index: &pipe_tree::Index, span: &Span) -> Span
+fn compute_index_footprint(index: &pipe_tree::Index, span: &Span) -> Span
     requires index { IsIndex (scale_of index.now) }
     requires near { InDomainRange span.now }
     ensures image { IsImage (scale_of index.now) span.now result }
@@ -37,7 +37,7 @@ fn read_index_image(index: &pipe_tree::Index, span: &Span) -> Span
 }
 
 // The numbers that a kernel side of this length takes around those of a span.
-fn extend_span_by_stencil(span: &Span, side: usize) -> Span
+fn compute_stencil_footprint(span: &Span, side: usize) -> Span
     requires near { InDomainRange span.now }
     requires side { side ≤ 15 }
     ensures widened { IsWidened (side / 2) span.now result }
@@ -53,7 +53,7 @@ fn extend_span_by_stencil(span: &Span, side: usize) -> Span
 }
 
 /// The rows and columns that a read takes over the points of an area.
-pub(crate) fn access_footprint(access: &Access, area: &Area) -> Area
+pub(crate) fn compute_access_footprint(access: &Access, area: &Area) -> Area
     requires sound { (count : ℕ) × IsSound count access.now }
     requires near { InDomainRanges area.now }
     ensures taken { IsTaken access.now area.now result }
@@ -61,18 +61,18 @@ pub(crate) fn access_footprint(access: &Access, area: &Area) -> Area
 {
     match access {
         Access::Read(_, row, column) => Area {
-            rows: read_index_image(row, &area.rows),
-            cols: read_index_image(column, &area.cols),
+            rows: compute_index_footprint(row, &area.rows),
+            cols: compute_index_footprint(column, &area.cols),
         },
         Access::Stencil(_, rows, columns) => Area {
-            rows: extend_span_by_stencil(&area.rows, *rows),
-            cols: extend_span_by_stencil(&area.cols, *columns),
+            rows: compute_stencil_footprint(&area.rows, *rows),
+            cols: compute_stencil_footprint(&area.cols, *columns),
         },
     }
 }
 
 /// The first axis along which the taken indices leave the domain.
-pub(crate) fn find_domain_departure(taken: &Area, domain: &Area) -> Option<Departure>
+pub(crate) fn find_footprint_departure(taken: &Area, domain: &Area) -> Option<Departure>
     ensures { IsDeparting taken.now domain.now result }
 {
     if !taken.rows.inside(&domain.rows) {

@@ -18,13 +18,13 @@ use crate::finding::collect_stage_bounds;
 use crate::params::Params;
 use crate::reader::BoundsChecker;
 use crate::stage_bounds::StageBounds;
-use crate::table_spans::collect_table_spans;
+use crate::table_spans::collect_table_bounds;
 use domains::Span;
 use pipe_checks::{Checked, Symbol};
 use pipe_tree::Item;
 use std::alloc::Global;
 
-fn check_params_set(params: &Params) -> Result<(), BoundFault>
+fn check_all_params_have_values(params: &Params) -> Result<(), BoundFault>
     ensures { AreSet params.now result }
 {
     for (number, setting) in params.settings().iter().enumerate() {
@@ -35,7 +35,7 @@ fn check_params_set(params: &Params) -> Result<(), BoundFault>
     Ok(())
 }
 
-fn check_all_stage_reads(
+fn check_bounds_of_all_stage_reads(
     alloc: Global,
     params: &Params,
     items: &[Item],
@@ -90,12 +90,12 @@ pub fn find_program_bounds(
     ensures fault { IfErr result (IsBoundFault params.now (content (tree_in checked.now))) }
     ensures unset { (n : ℕ) → IsFirstUnset params.now n → result ≡ Err (ParamUnset n) }
 {
-    check_params_set(params)?;
+    check_all_params_have_values(params)?;
     let items = checked.tree().items();
-    let tables = collect_table_spans(alloc, params, items, checked.tables())?;
+    let tables = collect_table_bounds(alloc, params, items, checked.tables())?;
     let stages = checked.stages();
     let found = collect_stage_bounds(alloc, params, items, stages)?;
-    check_all_stage_reads(alloc, params, items, stages, &found)?;
+    check_bounds_of_all_stage_reads(alloc, params, items, stages, &found)?;
     Ok(ProgramBounds {
         stages: found,
         tables,

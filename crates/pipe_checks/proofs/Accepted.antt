@@ -19,14 +19,14 @@ use Rattle.pipe_tree.specs.declared.tree.Test.TheVariants.{Compare, Remainder}
 use Rattle.pipe_tree.specs.Tree as tree
 use Rattle.pipe_tree.specs.Tree.{Node, Branch, Declaration}
 use Rattle.pipe_checks.specs.declared.symbol.Symbol.{Symbol}
-use Rattle.pipe_checks.specs.declared.symbol.NameKind.{NameKind}
-use Rattle.pipe_checks.specs.declared.symbol.NameKind.TheVariants.{Param, Table, Plane, Func, Accum}
+use Rattle.pipe_checks.specs.declared.symbol.SymbolKind.{SymbolKind}
+use Rattle.pipe_checks.specs.declared.symbol.SymbolKind.TheVariants.{Param, Table, Plane, Func, Accum}
 use Rattle.pipe_checks.specs.declared.fault.Violation.{Violation}
 use Rattle.pipe_checks.specs.declared.fault.Violation.TheVariants.{Kind, BadKernel, BadLiteral}
 use Rattle.pipe_checks.specs.declared.uses.ItemVariables.{ItemVariables}
 use Rattle.pipe_checks.specs.declared.uses.NameRole.TheVariants as role
-use Rattle.pipe_checks.specs.declared.uses.ExpectedRole.{ExpectedRole}
-use Rattle.pipe_checks.specs.declared.uses.ExpectedRole.TheVariants as expected
+use Rattle.pipe_checks.specs.declared.uses.ExpectedNameRole.{ExpectedNameRole}
+use Rattle.pipe_checks.specs.declared.uses.ExpectedNameRole.TheVariants as expected
 use Rattle.pipe_checks.specs.Names.{declared_at}
 use Rattle.pipe_checks.specs.Accesses.{width_of}
 use Rattle.pipe_checks.specs.Twice.{item_variables}
@@ -39,21 +39,21 @@ use Rattle.pipe_checks.specs.Uses.{branch_places, branches_places, otherwise_pla
 
 -- ---- what is known
 
-abbrev pub IsReadableKind : NameKind → Type 0
+abbrev pub IsReadableKind : SymbolKind → Type 0
 IsReadableKind Param = ⊥
 IsReadableKind Table = ⊥
 IsReadableKind Plane = Unit {0}
 IsReadableKind Func = Unit {0}
 IsReadableKind Accum = ⊥
 
-abbrev pub IsFuncKind : NameKind → Type 0
+abbrev pub IsFuncKind : SymbolKind → Type 0
 IsFuncKind Param = ⊥
 IsFuncKind Table = ⊥
 IsFuncKind Plane = ⊥
 IsFuncKind Func = Unit {0}
 IsFuncKind Accum = ⊥
 
-abbrev pub IsTableKind : NameKind → Type 0
+abbrev pub IsTableKind : SymbolKind → Type 0
 IsTableKind Param = ⊥
 IsTableKind Table = Unit {0}
 IsTableKind Plane = ⊥
@@ -61,7 +61,7 @@ IsTableKind Func = ⊥
 IsTableKind Accum = ⊥
 
 -- the name is declared, for something of this kind
-pub record IsNameOf (IsKind : NameKind → Type 0) (names : List Symbol) (x : List ℕ) : Type 0 where
+pub record IsNameOf (IsKind : SymbolKind → Type 0) (names : List Symbol) (x : List ℕ) : Type 0 where
   pub declared : Symbol
   pub found : declared_at names x ≡ Some declared
   pub kind : IsKind declared.kind
@@ -182,7 +182,7 @@ kernel_ok k h =
 -- ---- names
 
 -- what a place allows that takes no variable
-by_kind : (w : ExpectedRole) (IsKind : NameKind → Type 0) → ((k : NameKind) → allows w (role_of k) ≡ true → IsKind k)
+by_kind : (w : ExpectedNameRole) (IsKind : SymbolKind → Type 0) → ((k : SymbolKind) → allows w (role_of k) ≡ true → IsKind k)
     → allows w role.Row ≡ false → allows w role.Column ≡ false → (names : List Symbol) (locals : ItemVariables) (x : List ℕ)
     → is_none (wrong_name w (role_at names locals x)) ≡ true → IsNameOf IsKind names x
 by_kind w IsKind kinds no_row no_column names locals x = by (is_variable_named locals.row x) (is_variable_named locals.column x) (declared_at names x) refl
@@ -199,21 +199,21 @@ by_kind w IsKind kinds no_row no_column names locals x = by (is_variable_named l
     by false false None found h = absurd (false≢true h)
     by false false (Some d) found h = declared_by d found h
 
-readable_kind : (k : NameKind) → allows expected.Readable (role_of k) ≡ true → IsReadableKind k
+readable_kind : (k : SymbolKind) → allows expected.Readable (role_of k) ≡ true → IsReadableKind k
 readable_kind Param h = absurd (false≢true h)
 readable_kind Table h = absurd (false≢true h)
 readable_kind Plane h = tt
 readable_kind Func h = tt
 readable_kind Accum h = absurd (false≢true h)
 
-func_kind : (k : NameKind) → allows expected.Func (role_of k) ≡ true → IsFuncKind k
+func_kind : (k : SymbolKind) → allows expected.Func (role_of k) ≡ true → IsFuncKind k
 func_kind Param h = absurd (false≢true h)
 func_kind Table h = absurd (false≢true h)
 func_kind Plane h = absurd (false≢true h)
 func_kind Func h = tt
 func_kind Accum h = absurd (false≢true h)
 
-table_kind : (k : NameKind) → allows expected.Table (role_of k) ≡ true → IsTableKind k
+table_kind : (k : SymbolKind) → allows expected.Table (role_of k) ≡ true → IsTableKind k
 table_kind Param h = absurd (false≢true h)
 table_kind Table h = tt
 table_kind Plane h = absurd (false≢true h)
@@ -230,7 +230,7 @@ module _ (names : List Symbol) (locals : ItemVariables) where
   table_name : (x : List ℕ) → is_served names locals (name x expected.Table) ≡ true → IsNameOf IsTableKind names x
   table_name = by_kind expected.Table IsTableKind table_kind refl refl names locals
 
-  index_ok : (i : Index) (w : ExpectedRole) → are_served names locals (index_places i w) ≡ true → IsSoundIndex i
+  index_ok : (i : Index) (w : ExpectedNameRole) → are_served names locals (index_places i w) ≡ true → IsSoundIndex i
   unfolding index_places
   index_ok i w h =
       let mul = first_of names locals (ranged i.mul 1 16) (name i.name w ∷ shift i.add ∷ ranged i.div 1 16 ∷ []) h in

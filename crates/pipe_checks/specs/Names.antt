@@ -4,8 +4,8 @@ use Rattle.std.specs.Str.{bytes_eq}
 use Rattle.pipe_tree.specs.declared.tree.Names.{Names}
 use Rattle.pipe_tree.specs.declared.tree.Names.TheVariants.{One, Three}
 use Rattle.pipe_tree.specs.Tree.{Declaration, param, image, table, function, accumulator, output}
-use Rattle.pipe_checks.specs.declared.symbol.NameKind.{NameKind}
-use Rattle.pipe_checks.specs.declared.symbol.NameKind.TheVariants.{Param, Table, Plane, Func, Accum}
+use Rattle.pipe_checks.specs.declared.symbol.SymbolKind.{SymbolKind}
+use Rattle.pipe_checks.specs.declared.symbol.SymbolKind.TheVariants.{Param, Table, Plane, Func, Accum}
 use Rattle.pipe_checks.specs.declared.symbol.Symbol.{Symbol}
 
 -- the planes that item n declares
@@ -32,14 +32,14 @@ names_from n (d ∷ ds) = item_names n d ++ names_from (n + 1) ds
 abbrev pub declared_names : List Declaration → List Symbol
 declared_names ds = names_from 0 ds
 
-abbrev pub is_param : NameKind → Bool
+abbrev pub is_param : SymbolKind → Bool
 is_param Param = true
 is_param Table = false
 is_param Plane = false
 is_param Func = false
 is_param Accum = false
 
-abbrev pub is_table : NameKind → Bool
+abbrev pub is_table : SymbolKind → Bool
 is_table Param = false
 is_table Table = true
 is_table Plane = false
@@ -47,7 +47,7 @@ is_table Func = false
 is_table Accum = false
 
 -- a declared thing that has a number at each point, or for each bin
-abbrev pub is_stage : NameKind → Bool
+abbrev pub is_stage : SymbolKind → Bool
 is_stage Param = false
 is_stage Table = false
 is_stage Plane = true

@@ -14,15 +14,15 @@ use Rattle.pipe_tree.specs.declared.tree.Names.{Names}
 use Rattle.pipe_tree.specs.declared.tree.Names.TheVariants.{One, Three}
 use Rattle.pipe_tree.specs.Tree.{Node, number, variable, read, lookup, unary, binary, ternary, literal, select, stencil, Branch}
 use Rattle.pipe_tree.specs.Tree.{Function, Accumulator, Declaration, param, image, table, function, accumulator, output}
-use Rattle.pipe_checks.specs.declared.symbol.NameKind.{NameKind}
-use Rattle.pipe_checks.specs.declared.symbol.NameKind.TheVariants as kind
+use Rattle.pipe_checks.specs.declared.symbol.SymbolKind.{SymbolKind}
+use Rattle.pipe_checks.specs.declared.symbol.SymbolKind.TheVariants as kind
 use Rattle.pipe_checks.specs.declared.symbol.Symbol.{Symbol}
 use Rattle.pipe_checks.specs.declared.fault.Violation.{Violation}
 use Rattle.pipe_checks.specs.declared.fault.Violation.TheVariants.{Unknown, Kind, BadKernel, BadLiteral}
 use Rattle.pipe_checks.specs.declared.uses.NameRole.{NameRole}
 use Rattle.pipe_checks.specs.declared.uses.NameRole.TheVariants as role
-use Rattle.pipe_checks.specs.declared.uses.ExpectedRole.{ExpectedRole}
-use Rattle.pipe_checks.specs.declared.uses.ExpectedRole.TheVariants as expected
+use Rattle.pipe_checks.specs.declared.uses.ExpectedNameRole.{ExpectedNameRole}
+use Rattle.pipe_checks.specs.declared.uses.ExpectedNameRole.TheVariants as expected
 use Rattle.pipe_checks.specs.declared.uses.ItemVariables.{ItemVariables}
 use Rattle.pipe_checks.specs.Names.{declared_at}
 use Rattle.pipe_checks.specs.Accesses.{width_of}
@@ -32,7 +32,7 @@ use Rattle.pipe_checks.specs.Accesses.{width_of}
 -- a place of an item, and what it requires
 pub data Place : Type 0 where
   -- a name of one of these roles
-  name : (x : List ℕ) (roles : ExpectedRole) → Place
+  name : (x : List ℕ) (roles : ExpectedNameRole) → Place
   -- a number in this range
   ranged : (n least most : ℕ) → Place
   -- the remainder of a test: a number below its modulus
@@ -58,7 +58,7 @@ abbrev pub span_places : AffineSpan → List Place
 span_places s = affine_places s.first ++ affine_places s.last
 
 -- `m * x + k` over d: the factor, the variable, the addend, the divisor
-unfoldable pub index_places : Index → ExpectedRole → List Place
+unfoldable pub index_places : Index → ExpectedNameRole → List Place
 index_places i roles = ranged i.mul 1 16 ∷ name i.name roles ∷ shift i.add ∷ ranged i.div 1 16 ∷ []
 
 -- the range of the number after an operator
@@ -137,7 +137,7 @@ abbrev pub is_variable_named : Option (List ℕ) → List ℕ → Bool
 is_variable_named None x = false
 is_variable_named (Some y) x = bytes_eq y x
 
-abbrev pub role_of : NameKind → NameRole
+abbrev pub role_of : SymbolKind → NameRole
 role_of kind.Param = role.Param
 role_of kind.Table = role.Table
 role_of kind.Plane = role.Plane
@@ -155,7 +155,7 @@ role_at names locals x =
     else (if is_variable_named locals.column x then Some role.Column else declared_role (declared_at names x))
 
 -- which names are of these roles
-abbrev pub allows : ExpectedRole → NameRole → Bool
+abbrev pub allows : ExpectedNameRole → NameRole → Bool
 allows expected.Param role.Param = true
 allows expected.Table role.Table = true
 allows expected.Readable role.Plane = true
@@ -172,7 +172,7 @@ allows w s = false
 
 -- ---- the fault of a place, if any
 
-abbrev pub wrong_name : ExpectedRole → Option NameRole → Option Violation
+abbrev pub wrong_name : ExpectedNameRole → Option NameRole → Option Violation
 wrong_name roles None = Some Unknown
 wrong_name roles (Some r) = if allows roles r then None else Some Kind
 

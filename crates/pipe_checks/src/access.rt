@@ -52,7 +52,7 @@ fn push_read_access(
 }
 
 /// The length of the first row of a kernel.
-pub(crate) fn stencil_kernel_width(rows: &[StencilRow]) -> usize
+pub(crate) fn measure_kernel_side_of_first_row(rows: &[StencilRow]) -> usize
     ensures { result ≡ width_of rows.now }
 {
     match rows {
@@ -75,7 +75,7 @@ fn push_stencil_access(
             found.push(Access::Stencil(
                 stage,
                 kernel.rows().len(),
-                stencil_kernel_width(kernel.rows()),
+                measure_kernel_side_of_first_row(kernel.rows()),
             ))?;
             Ok(())
         }

@@ -20,8 +20,8 @@ use crate::fault::{CheckFault, Cycle, Violation};
 use crate::graph::{StageLinks, build_read_graph};
 use crate::ranks::compute_read_graph_ranks;
 use crate::symbol::{Symbol, filter_param_symbols, filter_stage_symbols, filter_table_symbols};
-use crate::table::{DeclaredNames, NameTable, declare_all_names};
-use crate::twice::{find_item_with_ambiguous_name, item_variables};
+use crate::table::{DeclaredNames, SymbolTable, declare_all_symbols};
+use crate::twice::{find_item_with_name_declared_twice, item_variables};
 use crate::uses::check_item_places;
 use pipe_tree::{Item, Tree};
 use std::alloc::Global;
@@ -118,7 +118,7 @@ fn to_check_fault(violation: Violation, item: usize) -> CheckFault
 }
 
 #[tactic(auto, using(crate::proofs::Judging::result_served, crate::proofs::Judging::result_unserved))]
-fn check_item(names: &NameTable, item: &Item) -> Result<(), Violation>
+fn check_item(names: &SymbolTable, item: &Item) -> Result<(), Violation>
     ensures good { OnOk result (is_good names.now (declaration item.now) ≡ true) }
     ensures wrong { IfErr result (IsFirstUnserved names.now (item_variables (declaration item.now))
         (places_of (declaration item.now))) }
@@ -126,7 +126,7 @@ fn check_item(names: &NameTable, item: &Item) -> Result<(), Violation>
     check_item_places(names, &item_variables(item), item)
 }
 
-fn check_all_items(declared: &NameTable, items: &[Item]) -> Result<(), CheckFault>
+fn check_all_items(declared: &SymbolTable, items: &[Item]) -> Result<(), CheckFault>
     ensures { IsJudged declared.now (declarations items.now) result }
 {
     for (number, item) in items.iter().enumerate() {
@@ -139,19 +139,19 @@ fn check_all_items(declared: &NameTable, items: &[Item]) -> Result<(), CheckFaul
 
 // Checks that each name denotes one thing, and then that each place has what it requires.
 #[tactic(auto, using(crate::proofs::Faulting::judged_named, crate::proofs::Faulting::judged_fault))]
-fn check_all_names(declared: &DeclaredNames, items: &[Item]) -> Result<(), CheckFault>
+fn check_names_and_item_places(declared: &DeclaredNames, items: &[Item]) -> Result<(), CheckFault>
     requires { IsTableOf (declared_names (declarations items.now)) declared.now }
     ensures ok { OnOk result (IsNamed (declarations items.now)) }
     ensures same { OnOk result (declared.now.table ≡ declared_names (declarations items.now)) }
     ensures err { IfErr result (IsFault (declarations items.now)) }
 {
-    match find_item_with_ambiguous_name(declared, items) {
+    match find_item_with_name_declared_twice(declared, items) {
         Some(item) => Err(CheckFault::Twice(item)),
         None => check_all_items(&declared.table, items),
     }
 }
 
-fn is_result_item(item: &Item) -> bool
+fn is_declared_result(item: &Item) -> bool
     ensures { result ≡ is_result (declaration item.now) }
 {
     match item {
@@ -160,11 +160,11 @@ fn is_result_item(item: &Item) -> bool
     }
 }
 
-fn has_result_item(items: &[Item]) -> bool
+fn has_declared_result(items: &[Item]) -> bool
     ensures { result ≡ list_any is_result (declarations items.now) }
 {
     for item in items {
-        if is_result_item(item) {
+        if is_declared_result(item) {
             return true;
         }
     }
@@ -197,9 +197,9 @@ fn check_program_items(alloc: Global, items: &[Item]) -> Result<CheckedLists, Ch
     ensures ok { IfOk result (IsFound (declarations items.now)) }
     ensures err { IfErr result (IsFault (declarations items.now)) }
 {
-    let declared = declare_all_names(alloc, items)?;
-    check_all_names(&declared, items)?;
-    if !has_result_item(items) {
+    let declared = declare_all_symbols(alloc, items)?;
+    check_names_and_item_places(&declared, items)?;
+    if !has_declared_result(items) {
         return Err(CheckFault::NoResult);
     }
     let names = declared.table.symbols();

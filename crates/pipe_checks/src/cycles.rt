@@ -6,14 +6,14 @@ ghost use Rattle.std.specs.Prelude.{IfNone, IfOk, length, slice_get, Contains};
 ghost use Rattle.pipe_checks.specs.Graph.{links_at, Way, IsAcyclic, IsShortestFrom, IsShortestCycle};
 ghost use Rattle.pipe_checks.specs.inside.Search.{SomeAt, LeadsOn, AreDistances, IsStepAt, IsStepFrom, IsWayBack};
 
-use crate::graph::{StageLinks, get_stage_rank_or_distance};
+use crate::graph::{StageLinks, get_graph_rank_or_distance};
 use std::alloc::{AllocError, Global};
 
 // Whether a stage is known to be at this distance.
 fn is_stage_at_cycle_distance(far: &[Option<usize>], stage: usize, steps: usize) -> bool
     ensures { IsTrue result ↔ (slice_get far.now stage ≡ Some (Some steps)) }
 {
-    match get_stage_rank_or_distance(far, stage) {
+    match get_graph_rank_or_distance(far, stage) {
         Some(Some(distance)) => distance == steps,
         Some(None) | None => false,
     }
@@ -45,7 +45,7 @@ fn can_extend_cycle_distances(graph: &[StageLinks], far: &[Option<usize>], steps
 }
 
 // The distance of a stage, where the distances up to `steps` are known.
-fn next_cycle_distance(
+fn compute_next_cycle_distance(
     graph: &[StageLinks],
     far: &[Option<usize>],
     steps: usize,
@@ -75,7 +75,7 @@ fn extend_cycle_distances(
 {
     let mut next = Vec::new(alloc);
     for stage in 0..graph.len() {
-        next.push(next_cycle_distance(graph, far, steps, stage))?;
+        next.push(compute_next_cycle_distance(graph, far, steps, stage))?;
     }
     Ok(next)
 }
@@ -123,7 +123,7 @@ fn find_least_cycle_distance(links: &StageLinks, far: &[Option<usize>]) -> Optio
 {
     let mut least: Option<usize> = None;
     for stage in links.reads() {
-        if let Some(Some(distance)) = get_stage_rank_or_distance(far, *stage) {
+        if let Some(Some(distance)) = get_graph_rank_or_distance(far, *stage) {
             least = match least {
                 Some(least) => Some(least.min(distance)),
                 None => Some(distance),

@@ -44,7 +44,7 @@ impl StageLinks {
 }
 
 /// What is known of a stage, where the list has one of this number.
-pub(crate) fn get_stage_rank_or_distance(
+pub(crate) fn get_graph_rank_or_distance(
     list: &[Option<usize>],
     stage: usize,
 ) -> Option<Option<usize>>
@@ -104,7 +104,7 @@ pub(crate) fn collect_item_accesses(
     Ok(found)
 }
 
-fn collect_accessed_stages(alloc: Global, accesses: &[Access]) -> Result<Vec<usize>, AllocError>
+fn collect_stages_of_accesses(alloc: Global, accesses: &[Access]) -> Result<Vec<usize>, AllocError>
     ensures { IfOk result (λ v. v.items ≡ map stage_read accesses.now) }
 {
     accesses.iter().map(|access| access.stage()).collect(alloc)
@@ -119,7 +119,10 @@ fn build_stage_links(
     ensures { IfOk result (λ l. l ≡ links_of (declarations items.now) stages.now stage.now) }
 {
     let reads = match items.get(stage.item) {
-        Some(item) => collect_accessed_stages(alloc, &collect_item_accesses(alloc, stages, item)?)?,
+        Some(item) => collect_stages_of_accesses(
+            alloc,
+            &collect_item_accesses(alloc, stages, item)?,
+        )?,
         None => Vec::new(alloc),
     };
     Ok(StageLinks {

@@ -5,11 +5,11 @@ ghost use Rattle.std.specs.Prelude.{◌≡◌, ℕ, ◌<◌, ◌+◌, Option, So
 ghost use Rattle.pipe_checks.specs.Graph.{links_at, IsRanking, IsAcyclic};
 ghost use Rattle.pipe_checks.specs.inside.Search.{rank_over, known_rank, SomeUnranked, IsBounded};
 
-use crate::graph::{StageLinks, get_stage_rank_or_distance};
+use crate::graph::{StageLinks, get_graph_rank_or_distance};
 use std::alloc::{AllocError, Global};
 
 // The rank of a stage whose reads all have ranks.
-fn find_rank_above_reads(ranks: &[Option<usize>], links: &StageLinks) -> Option<usize>
+fn find_graph_rank_above_reads(ranks: &[Option<usize>], links: &StageLinks) -> Option<usize>
     requires { (t r : ℕ) → slice_get ranks.now t ≡ Some (Some r) → r < usize.MAX }
     ensures rank { IfSome result (λ r. r ≡ rank_over (known_rank ranks.now) links.now) }
     ensures ranked { OnSome result (¬ (SomeUnranked ranks.now links.now.reads)) }
@@ -17,7 +17,7 @@ fn find_rank_above_reads(ranks: &[Option<usize>], links: &StageLinks) -> Option<
 {
     let mut greatest = 0;
     for stage in links.reads() {
-        match get_stage_rank_or_distance(ranks, *stage) {
+        match get_graph_rank_or_distance(ranks, *stage) {
             Some(Some(rank)) => greatest = greatest.max(rank),
             Some(None) => return None,
             None => {}
@@ -27,7 +27,10 @@ fn find_rank_above_reads(ranks: &[Option<usize>], links: &StageLinks) -> Option<
 }
 
 // A stage without a rank that can have one, and its rank.
-fn find_rankable_stage(graph: &[StageLinks], ranks: &[Option<usize>]) -> Option<(usize, usize)>
+fn find_stage_with_next_graph_rank(
+    graph: &[StageLinks],
+    ranks: &[Option<usize>],
+) -> Option<(usize, usize)>
     requires each { length ranks.now ≡ length graph.now }
     requires bounded { IsBounded ranks.now (length graph.now) }
     ensures unknown { IfSome result (λ f. slice_get ranks.now f.0 ≡ Some None) }
@@ -41,7 +44,7 @@ fn find_rankable_stage(graph: &[StageLinks], ranks: &[Option<usize>]) -> Option<
 {
     for (stage, links) in graph.iter().enumerate() {
         if ranks[stage].is_none() {
-            if let Some(rank) = find_rank_above_reads(ranks, links) {
+            if let Some(rank) = find_graph_rank_above_reads(ranks, links) {
                 return Some((stage, rank));
             }
         }
@@ -49,7 +52,7 @@ fn find_rankable_stage(graph: &[StageLinks], ranks: &[Option<usize>]) -> Option<
     None
 }
 
-fn init_unknown_ranks(alloc: Global, count: usize) -> Result<Vec<Option<usize>>, AllocError>
+fn init_unknown_graph_ranks(alloc: Global, count: usize) -> Result<Vec<Option<usize>>, AllocError>
     ensures { IfOk result (λ v. v.items ≡ replicate count None) }
 {
     let mut all = Vec::new(alloc);
@@ -59,7 +62,7 @@ fn init_unknown_ranks(alloc: Global, count: usize) -> Result<Vec<Option<usize>>,
     Ok(all)
 }
 
-fn unwrap_all_ranks(
+fn unwrap_graph_ranks_if_all_known(
     alloc: Global,
     ranks: &[Option<usize>],
 ) -> Result<Option<Vec<usize>>, AllocError>
@@ -84,9 +87,9 @@ pub(crate) fn compute_read_graph_ranks(
     ensures some { IfOk result (λ o. IfSome o (λ v. IsRanking graph.now v.items)) }
     ensures none { IfOk result (λ o. IfNone o (¬ (IsAcyclic graph.now))) }
 {
-    let mut ranks = init_unknown_ranks(alloc, graph.len())?;
-    while let Some((stage, rank)) = find_rankable_stage(graph, &ranks) {
+    let mut ranks = init_unknown_graph_ranks(alloc, graph.len())?;
+    while let Some((stage, rank)) = find_stage_with_next_graph_rank(graph, &ranks) {
         ranks[stage] = Some(rank);
     }
-    unwrap_all_ranks(alloc, &ranks)
+    unwrap_graph_ranks_if_all_known(alloc, &ranks)
 }

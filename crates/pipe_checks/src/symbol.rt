@@ -14,7 +14,7 @@ use std::alloc::{AllocError, Global};
 
 /// What a declared name denotes.
 #[derive(Clone, Copy, Debug, PartialEq, Eq)]
-pub enum NameKind {
+pub enum SymbolKind {
     Param,
     Table,
     Plane,
@@ -22,14 +22,14 @@ pub enum NameKind {
     Accum,
 }
 
-impl NameKind {
+impl SymbolKind {
     /// Whether the name denotes a plane of the picture.
     pub fn is_plane(self) -> bool
         ensures { result ≡ is_plane self }
     {
         match self {
-            NameKind::Plane => true,
-            NameKind::Param | NameKind::Table | NameKind::Func | NameKind::Accum => false,
+            SymbolKind::Plane => true,
+            SymbolKind::Param | SymbolKind::Table | SymbolKind::Func | SymbolKind::Accum => false,
         }
     }
 
@@ -37,8 +37,8 @@ impl NameKind {
         ensures { result ≡ is_param self }
     {
         match self {
-            NameKind::Param => true,
-            NameKind::Table | NameKind::Plane | NameKind::Func | NameKind::Accum => false,
+            SymbolKind::Param => true,
+            SymbolKind::Table | SymbolKind::Plane | SymbolKind::Func | SymbolKind::Accum => false,
         }
     }
 
@@ -46,8 +46,8 @@ impl NameKind {
         ensures { result ≡ is_table self }
     {
         match self {
-            NameKind::Table => true,
-            NameKind::Param | NameKind::Plane | NameKind::Func | NameKind::Accum => false,
+            SymbolKind::Table => true,
+            SymbolKind::Param | SymbolKind::Plane | SymbolKind::Func | SymbolKind::Accum => false,
         }
     }
 
@@ -55,8 +55,8 @@ impl NameKind {
         ensures { result ≡ is_stage self }
     {
         match self {
-            NameKind::Plane | NameKind::Func | NameKind::Accum => true,
-            NameKind::Param | NameKind::Table => false,
+            SymbolKind::Plane | SymbolKind::Func | SymbolKind::Accum => true,
+            SymbolKind::Param | SymbolKind::Table => false,
         }
     }
 }
@@ -65,7 +65,7 @@ impl NameKind {
 #[derive(Clone, Copy, Debug)]
 pub struct Symbol {
     pub name: Name,
-    pub kind: NameKind,
+    pub kind: SymbolKind,
     pub item: usize,
 }
 
@@ -79,7 +79,7 @@ pub fn is_same_name(left: &Name, right: &Name) -> bool
 fn push_declared_symbol(
     names: &mut Vec<Symbol>,
     name: &Name,
-    kind: NameKind,
+    kind: SymbolKind,
     item: usize,
 ) -> Result<(), AllocError>
     ensures { OnOk result (names.new.items
@@ -101,11 +101,11 @@ fn push_plane_symbols(
     ensures { OnOk result (names.new.items ≡ names.old.items ++ names_of item planes.now) }
 {
     match planes {
-        Names::One(name) => push_declared_symbol(names, name, NameKind::Plane, item),
+        Names::One(name) => push_declared_symbol(names, name, SymbolKind::Plane, item),
         Names::Three(red, green, blue) => {
-            push_declared_symbol(names, red, NameKind::Plane, item)?;
-            push_declared_symbol(names, green, NameKind::Plane, item)?;
-            push_declared_symbol(names, blue, NameKind::Plane, item)
+            push_declared_symbol(names, red, SymbolKind::Plane, item)?;
+            push_declared_symbol(names, green, SymbolKind::Plane, item)?;
+            push_declared_symbol(names, blue, SymbolKind::Plane, item)
         }
     }
 }
@@ -115,11 +115,11 @@ fn push_item_symbols(names: &mut Vec<Symbol>, item: &Item, number: usize) -> Res
         (names.new.items ≡ names.old.items ++ item_names number (declaration item.now)) }
 {
     match item {
-        Item::Param(param) => push_declared_symbol(names, &param.name, NameKind::Param, number),
-        Item::Table(table) => push_declared_symbol(names, &table.name, NameKind::Table, number),
+        Item::Param(param) => push_declared_symbol(names, &param.name, SymbolKind::Param, number),
+        Item::Table(table) => push_declared_symbol(names, &table.name, SymbolKind::Table, number),
         Item::Image(image) => push_plane_symbols(names, &image.names, number),
-        Item::Func(func) => push_declared_symbol(names, &func.name, NameKind::Func, number),
-        Item::Accum(accum) => push_declared_symbol(names, &accum.name, NameKind::Accum, number),
+        Item::Func(func) => push_declared_symbol(names, &func.name, SymbolKind::Func, number),
+        Item::Accum(accum) => push_declared_symbol(names, &accum.name, SymbolKind::Accum, number),
         Item::Output(_) => Ok(()),
     }
 }

@@ -15,11 +15,11 @@ use std::marker::Model;
 
 /// Names, and what each was declared as when it was first seen. Contracts see the list of the declarations.
 #[derive(Drop)]
-pub(crate) struct NameTable {
+pub(crate) struct SymbolTable {
     symbols: IndexMap<Name, Symbol>,
 }
 
-impl Model for NameTable {
+impl Model for SymbolTable {
     ghost use Rattle.std.specs.Prelude.{◌≡◌, List, map};
     ghost use Rattle.indexmap.specs.IndexMap.{values};
     ghost use Rattle.pipe_checks.specs.declared.symbol.Symbol.{Symbol};
@@ -32,12 +32,12 @@ impl Model for NameTable {
     ghost invariant = { λ t. t.symbols.entries ≡ map named (values t.symbols) };
 }
 
-impl NameTable {
+impl SymbolTable {
     /// No names.
     pub(crate) fn new(alloc: Global) -> Self
         ensures { result ≡ [] }
     {
-        NameTable {
+        SymbolTable {
             symbols: IndexMap::new(alloc),
         }
     }
@@ -80,11 +80,11 @@ impl NameTable {
 /// The names of a program in a table, and the first item that declares a name again.
 #[derive(Drop)]
 pub(crate) struct DeclaredNames {
-    pub table: NameTable,
+    pub table: SymbolTable,
     pub again: Option<usize>,
 }
 
-fn first_redeclaring_item(again: Option<usize>, item: usize) -> usize
+fn choose_first_redeclaring_item(again: Option<usize>, item: usize) -> usize
     ensures { result ≡ earlier again item }
 {
     match again {
@@ -93,23 +93,26 @@ fn first_redeclaring_item(again: Option<usize>, item: usize) -> usize
     }
 }
 
-fn build_name_table(alloc: Global, names: &[Symbol]) -> Result<DeclaredNames, AllocError>
+fn build_symbol_table(alloc: Global, names: &[Symbol]) -> Result<DeclaredNames, AllocError>
     ensures { IfOk result (IsTableOf names.now) }
 {
-    let mut table = NameTable::new(alloc);
+    let mut table = SymbolTable::new(alloc);
     let mut again = None;
     for symbol in names {
         if table.declare(*symbol)? {
-            again = Some(first_redeclaring_item(again, symbol.item));
+            again = Some(choose_first_redeclaring_item(again, symbol.item));
         }
     }
     Ok(DeclaredNames { table, again })
 }
 
 /// The names that the items declare, each found in the table or added at its end.
-pub(crate) fn declare_all_names(alloc: Global, items: &[Item]) -> Result<DeclaredNames, AllocError>
+pub(crate) fn declare_all_symbols(
+    alloc: Global,
+    items: &[Item],
+) -> Result<DeclaredNames, AllocError>
     ensures { IfOk result (IsTableOf (declared_names (declarations items.now))) }
 {
     let names = declared_names(alloc, items)?;
-    build_name_table(alloc, &names)
+    build_symbol_table(alloc, &names)
 }

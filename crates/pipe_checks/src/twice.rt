@@ -9,7 +9,7 @@ ghost use Rattle.pipe_checks.specs.inside.Tables.{is_redeclaring_item, IsTableOf
 ghost use Rattle.pipe_checks.specs.Twice.{item_variables, is_declared_variable, are_same_variables, has_reused_variable};
 
 use crate::symbol::is_same_name;
-use crate::table::{DeclaredNames, NameTable};
+use crate::table::{DeclaredNames, SymbolTable};
 use crate::uses::ItemVariables;
 use pipe_tokens::Name;
 use pipe_tree::Item;
@@ -44,7 +44,7 @@ fn is_redeclaring_item(first: Option<usize>, item: usize) -> bool
 }
 
 // Whether a variable of an item is a declared name.
-fn is_declared_variable(names: &NameTable, variable: &Option<Name>) -> bool
+fn is_declared_variable(names: &SymbolTable, variable: &Option<Name>) -> bool
     ensures { result ≡ is_declared_variable names.now variable.now }
 {
     match variable {
@@ -63,7 +63,7 @@ fn are_same_variables(row: &Option<Name>, column: &Option<Name>) -> bool
 }
 
 // Whether a variable equals the other variable of its item or a declared name.
-fn has_reused_variable(names: &NameTable, locals: &ItemVariables) -> bool
+fn has_reused_variable(names: &SymbolTable, locals: &ItemVariables) -> bool
     ensures { result ≡ has_reused_variable names.now locals.now }
 {
     are_same_variables(&locals.row, &locals.column)
@@ -72,7 +72,7 @@ fn has_reused_variable(names: &NameTable, locals: &ItemVariables) -> bool
 }
 
 /// The first item with a name that denotes two things.
-pub(crate) fn find_item_with_ambiguous_name(
+pub(crate) fn find_item_with_name_declared_twice(
     declared: &DeclaredNames,
     items: &[Item],
 ) -> Option<usize>

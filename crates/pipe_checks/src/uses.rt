@@ -12,10 +12,10 @@ ghost use Rattle.pipe_checks.specs.Uses.{tests_places, branch_places, branches_p
 ghost use Rattle.pipe_checks.specs.Uses.{accumulator_places, output_places, places_of};
 ghost use Rattle.pipe_checks.specs.inside.Judging.{verdict, judged};
 
-use crate::access::stencil_kernel_width;
+use crate::access::measure_kernel_side_of_first_row;
 use crate::fault::Violation;
-use crate::symbol::{NameKind, is_same_name};
-use crate::table::NameTable;
+use crate::symbol::{SymbolKind, is_same_name};
+use crate::table::SymbolTable;
 use operators::LiteralOp;
 use pipe_tokens::Name;
 use pipe_tree::{
@@ -55,7 +55,7 @@ pub(crate) enum NameRole {
 
 /// What a place requires.
 #[derive(Clone, Copy, Debug, PartialEq, Eq)]
-pub(crate) enum ExpectedRole {
+pub(crate) enum ExpectedNameRole {
     /// A parameter.
     Param,
     /// A table.
@@ -74,22 +74,22 @@ pub(crate) enum ExpectedRole {
     Variable,
 }
 
-impl ExpectedRole {
+impl ExpectedNameRole {
     fn is_met_by(self, role: NameRole) -> bool
         ensures { result ≡ allows self role }
     {
         match self {
-            ExpectedRole::Param => matches!(role, NameRole::Param),
-            ExpectedRole::Table => matches!(role, NameRole::Table),
-            ExpectedRole::Readable => matches!(role, NameRole::Plane | NameRole::Func),
-            ExpectedRole::Func => matches!(role, NameRole::Func),
-            ExpectedRole::Number => matches!(
+            ExpectedNameRole::Param => matches!(role, NameRole::Param),
+            ExpectedNameRole::Table => matches!(role, NameRole::Table),
+            ExpectedNameRole::Readable => matches!(role, NameRole::Plane | NameRole::Func),
+            ExpectedNameRole::Func => matches!(role, NameRole::Func),
+            ExpectedNameRole::Number => matches!(
                 role,
                 NameRole::Row | NameRole::Column | NameRole::Param
             ),
-            ExpectedRole::Row => matches!(role, NameRole::Row),
-            ExpectedRole::Column => matches!(role, NameRole::Column),
-            ExpectedRole::Variable => matches!(role, NameRole::Row | NameRole::Column),
+            ExpectedNameRole::Row => matches!(role, NameRole::Row),
+            ExpectedNameRole::Column => matches!(role, NameRole::Column),
+            ExpectedNameRole::Variable => matches!(role, NameRole::Row | NameRole::Column),
         }
     }
 }
@@ -110,15 +110,15 @@ fn is_variable_named(variable: &Option<Name>, name: &Name) -> bool
     }
 }
 
-fn to_name_role(kind: NameKind) -> NameRole
+fn to_name_role(kind: SymbolKind) -> NameRole
     ensures { result ≡ role_of kind }
 {
     match kind {
-        NameKind::Param => NameRole::Param,
-        NameKind::Table => NameRole::Table,
-        NameKind::Plane => NameRole::Plane,
-        NameKind::Func => NameRole::Func,
-        NameKind::Accum => NameRole::Accum,
+        SymbolKind::Param => NameRole::Param,
+        SymbolKind::Table => NameRole::Table,
+        SymbolKind::Plane => NameRole::Plane,
+        SymbolKind::Func => NameRole::Func,
+        SymbolKind::Accum => NameRole::Accum,
     }
 }
 
@@ -159,7 +159,7 @@ pub(crate) fn is_stencil_kernel_side(length: usize) -> bool
     length % 2 == 1 && length <= MAX_SIDE
 }
 
-fn has_kernel_rows_of_width(rows: &[StencilRow], width: usize) -> bool
+fn is_kernel_side_of_each_row(rows: &[StencilRow], width: usize) -> bool
     ensures { result ≡ list_all (λ row. length row == width) rows.now }
 {
     rows.iter().all(|row| row.entries().len() == width)
@@ -169,10 +169,10 @@ fn check_stencil_kernel(kernel: &Kernel) -> Result<(), Violation>
     ensures { result ≡ verdict (wrong_kernel kernel.now) }
 {
     let rows = kernel.rows();
-    let width = stencil_kernel_width(rows);
+    let width = measure_kernel_side_of_first_row(rows);
     if is_stencil_kernel_side(rows.len())
         && is_stencil_kernel_side(width)
-        && has_kernel_rows_of_width(rows, width)
+        && is_kernel_side_of_each_row(rows, width)
     {
         Ok(())
     } else {
@@ -189,7 +189,7 @@ fn check_operator_literal(op: LiteralOp, number: u32) -> Result<(), Violation>
     }
 }
 
-fn find_name_role(names: &NameTable, locals: &ItemVariables, name: &Name) -> Option<NameRole>
+fn find_name_role(names: &SymbolTable, locals: &ItemVariables, name: &Name) -> Option<NameRole>
     ensures { result ≡ role_at names.now locals.now name.now }
 {
     if is_variable_named(&locals.row, name) {
@@ -205,10 +205,10 @@ fn find_name_role(names: &NameTable, locals: &ItemVariables, name: &Name) -> Opt
 }
 
 fn check_name_role(
-    names: &NameTable,
+    names: &SymbolTable,
     locals: &ItemVariables,
     name: &Name,
-    expected: ExpectedRole,
+    expected: ExpectedNameRole,
 ) -> Result<(), Violation>
     ensures { result ≡ verdict (wrong_name expected (role_at names.now locals.now name.now)) }
 {
@@ -225,20 +225,20 @@ fn check_name_role(
 }
 
 fn check_affine_name(
-    names: &NameTable,
+    names: &SymbolTable,
     locals: &ItemVariables,
     name: &Option<Name>,
 ) -> Result<(), Violation>
     ensures { result ≡ judged names.now locals.now (factor_places name.now) }
 {
     match name {
-        Some(name) => check_name_role(names, locals, name, ExpectedRole::Param),
+        Some(name) => check_name_role(names, locals, name, ExpectedNameRole::Param),
         None => Ok(()),
     }
 }
 
 fn check_affine_sum(
-    names: &NameTable,
+    names: &SymbolTable,
     locals: &ItemVariables,
     affine: &Affine,
 ) -> Result<(), Violation>
@@ -251,7 +251,7 @@ fn check_affine_sum(
 }
 
 fn check_affine_span(
-    names: &NameTable,
+    names: &SymbolTable,
     locals: &ItemVariables,
     span: &AffineSpan,
 ) -> Result<(), Violation>
@@ -263,10 +263,10 @@ fn check_affine_span(
 
 #[tactic(auto, using(crate::proofs::Judging::judged_append, crate::proofs::Judging::judged_one), unfolding(crate::specs::Uses::index_places))]
 fn check_read_index(
-    names: &NameTable,
+    names: &SymbolTable,
     locals: &ItemVariables,
     index: &Index,
-    expected: ExpectedRole,
+    expected: ExpectedNameRole,
 ) -> Result<(), Violation>
     ensures { result ≡ judged names.now locals.now (index_places index.now expected) }
 {
@@ -277,7 +277,7 @@ fn check_read_index(
 }
 
 fn check_read_expr(
-    names: &NameTable,
+    names: &SymbolTable,
     locals: &ItemVariables,
     name: &Name,
     row: &Index,
@@ -285,13 +285,13 @@ fn check_read_expr(
 ) -> Result<(), Violation>
     ensures { result ≡ judged names.now locals.now (read_places name.now row.now column.now) }
 {
-    check_name_role(names, locals, name, ExpectedRole::Readable)?;
-    check_read_index(names, locals, row, ExpectedRole::Row)?;
-    check_read_index(names, locals, column, ExpectedRole::Column)
+    check_name_role(names, locals, name, ExpectedNameRole::Readable)?;
+    check_read_index(names, locals, row, ExpectedNameRole::Row)?;
+    check_read_index(names, locals, column, ExpectedNameRole::Column)
 }
 
 fn check_stencil_expr(
-    names: &NameTable,
+    names: &SymbolTable,
     locals: &ItemVariables,
     name: &Name,
     divisor: u32,
@@ -299,20 +299,20 @@ fn check_stencil_expr(
 ) -> Result<(), Violation>
     ensures { result ≡ judged names.now locals.now (stencil_places name.now divisor kernel.now) }
 {
-    check_name_role(names, locals, name, ExpectedRole::Readable)?;
+    check_name_role(names, locals, name, ExpectedNameRole::Readable)?;
     check_literal_range(divisor, 1, MAX_NUMBER)?;
     check_stencil_kernel(kernel)
 }
 
-fn check_expr(names: &NameTable, locals: &ItemVariables, expr: &Expr) -> Result<(), Violation>
+fn check_expr(names: &SymbolTable, locals: &ItemVariables, expr: &Expr) -> Result<(), Violation>
     ensures { result ≡ judged names.now locals.now (expr_places (view expr.now)) }
 {
     match expr {
         Expr::Number(number) => check_literal_range(*number, 0, MAX_NUMBER),
-        Expr::Name(name) => check_name_role(names, locals, name, ExpectedRole::Number),
+        Expr::Name(name) => check_name_role(names, locals, name, ExpectedNameRole::Number),
         Expr::Read(name, row, column) => check_read_expr(names, locals, name, row, column),
         Expr::Lookup(name, index) => {
-            check_name_role(names, locals, name, ExpectedRole::Table)?;
+            check_name_role(names, locals, name, ExpectedNameRole::Table)?;
             check_expr(names, locals, index)
         }
         Expr::Unary(_, operand) => check_expr(names, locals, operand),
@@ -343,7 +343,7 @@ fn check_expr(names: &NameTable, locals: &ItemVariables, expr: &Expr) -> Result<
 
 #[tactic(auto, using(crate::proofs::Judging::judged_append, crate::proofs::Judging::judged_one), unfolding(crate::specs::Uses::test_places))]
 fn check_condition_test(
-    names: &NameTable,
+    names: &SymbolTable,
     locals: &ItemVariables,
     test: &Test,
 ) -> Result<(), Violation>
@@ -351,11 +351,11 @@ fn check_condition_test(
 {
     match test {
         Test::Compare(name, _, bound) => {
-            check_name_role(names, locals, name, ExpectedRole::Variable)?;
+            check_name_role(names, locals, name, ExpectedNameRole::Variable)?;
             check_affine_sum(names, locals, bound)
         }
         Test::Remainder(name, modulus, remainder) => {
-            check_name_role(names, locals, name, ExpectedRole::Variable)?;
+            check_name_role(names, locals, name, ExpectedNameRole::Variable)?;
             check_literal_range(*modulus, 1, MAX_NUMBER)?;
             check_test_remainder(*remainder, *modulus)
         }
@@ -363,7 +363,7 @@ fn check_condition_test(
 }
 
 fn check_condition_tests(
-    names: &NameTable,
+    names: &SymbolTable,
     locals: &ItemVariables,
     tests: &[Test],
 ) -> Result<(), Violation>
@@ -375,14 +375,14 @@ fn check_condition_tests(
     Ok(())
 }
 
-fn check_case(names: &NameTable, locals: &ItemVariables, case: &Case) -> Result<(), Violation>
+fn check_case(names: &SymbolTable, locals: &ItemVariables, case: &Case) -> Result<(), Violation>
     ensures { result ≡ judged names.now locals.now (branch_places (branch case.now)) }
 {
     check_condition_tests(names, locals, case.condition.tests())?;
     check_expr(names, locals, &case.value)
 }
 
-fn check_cases(names: &NameTable, locals: &ItemVariables, cases: &[Case]) -> Result<(), Violation>
+fn check_cases(names: &SymbolTable, locals: &ItemVariables, cases: &[Case]) -> Result<(), Violation>
     ensures { result ≡ judged names.now locals.now (branches_places (branches cases.now)) }
 {
     for case in cases {
@@ -392,7 +392,7 @@ fn check_cases(names: &NameTable, locals: &ItemVariables, cases: &[Case]) -> Res
 }
 
 fn check_otherwise_expr(
-    names: &NameTable,
+    names: &SymbolTable,
     locals: &ItemVariables,
     otherwise: &Option<Expr>,
 ) -> Result<(), Violation>
@@ -405,7 +405,11 @@ fn check_otherwise_expr(
     }
 }
 
-fn check_func_item(names: &NameTable, locals: &ItemVariables, func: &Func) -> Result<(), Violation>
+fn check_func_item(
+    names: &SymbolTable,
+    locals: &ItemVariables,
+    func: &Func,
+) -> Result<(), Violation>
     ensures { result ≡ judged names.now locals.now (function_places (function_of func.now)) }
 {
     check_affine_span(names, locals, &func.row.span)?;
@@ -415,7 +419,7 @@ fn check_func_item(names: &NameTable, locals: &ItemVariables, func: &Func) -> Re
 }
 
 fn check_accum_item(
-    names: &NameTable,
+    names: &SymbolTable,
     locals: &ItemVariables,
     accum: &Accum,
 ) -> Result<(), Violation>
@@ -429,25 +433,25 @@ fn check_accum_item(
 }
 
 fn check_output_names(
-    names: &NameTable,
+    names: &SymbolTable,
     locals: &ItemVariables,
     outputs: &Names,
 ) -> Result<(), Violation>
     ensures { result ≡ judged names.now locals.now (output_places outputs.now) }
 {
     match outputs {
-        Names::One(name) => check_name_role(names, locals, name, ExpectedRole::Func),
+        Names::One(name) => check_name_role(names, locals, name, ExpectedNameRole::Func),
         Names::Three(red, green, blue) => {
-            check_name_role(names, locals, red, ExpectedRole::Func)?;
-            check_name_role(names, locals, green, ExpectedRole::Func)?;
-            check_name_role(names, locals, blue, ExpectedRole::Func)
+            check_name_role(names, locals, red, ExpectedNameRole::Func)?;
+            check_name_role(names, locals, green, ExpectedNameRole::Func)?;
+            check_name_role(names, locals, blue, ExpectedNameRole::Func)
         }
     }
 }
 
 /// The first place of the item that does not have what it requires, as a fault.
 pub(crate) fn check_item_places(
-    names: &NameTable,
+    names: &SymbolTable,
     locals: &ItemVariables,
     item: &Item,
 ) -> Result<(), Violation>

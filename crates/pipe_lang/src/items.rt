@@ -12,7 +12,7 @@ ghost use Rattle.pipe_tree.specs.Reading as reading;
 ghost use Rattle.pipe_tree.specs.Reading.{program_of};
 ghost use Rattle.pipe_term_parser.specs.Answers.{at, Reads};
 
-use pipe_term_parser::{ParseError, Parser};
+use pipe_term_parser::{ParseError, TermParser};
 use pipe_tokens::{Keyword, Punct, Token};
 use pipe_tree::{
     Accum, Case, Cases, Condition, Expr, Func, Image, Item, ItemStart, MAX_LEVELS, Names, Output,
@@ -21,7 +21,7 @@ use pipe_tree::{
 use std::alloc::Global;
 
 #[tactic(auto, unfolding(pipe_tree::specs::Reading::a_param))]
-fn parse_param_item(parser: &mut Parser<'_>) -> Result<Param, ParseError>
+fn parse_param_item(parser: &mut TermParser<'_>) -> Result<Param, ParseError>
     ensures exact { Reads (λ p. (p, at parser.new)) result (reading.a_param (at parser.old)) }
     ensures shorter { length parser.new.rest.now ≤ length parser.old.rest.now }
     ensures passes { OnOk result (length parser.new.rest.now < length parser.old.rest.now) }
@@ -33,7 +33,7 @@ fn parse_param_item(parser: &mut Parser<'_>) -> Result<Param, ParseError>
 }
 
 #[tactic(auto, unfolding(pipe_tree::specs::Reading::a_table))]
-fn parse_table_item(parser: &mut Parser<'_>) -> Result<Table, ParseError>
+fn parse_table_item(parser: &mut TermParser<'_>) -> Result<Table, ParseError>
     ensures exact { Reads (λ t. (t, at parser.new)) result (reading.a_table (at parser.old)) }
     ensures shorter { length parser.new.rest.now ≤ length parser.old.rest.now }
     ensures passes { OnOk result (length parser.new.rest.now < length parser.old.rest.now) }
@@ -46,7 +46,7 @@ fn parse_table_item(parser: &mut Parser<'_>) -> Result<Table, ParseError>
 
 // One name, or three.
 #[tactic(auto, unfolding(pipe_tree::specs::Reading::names))]
-fn parse_names(parser: &mut Parser<'_>, role: Role) -> Result<Names, ParseError>
+fn parse_names(parser: &mut TermParser<'_>, role: Role) -> Result<Names, ParseError>
     ensures exact { Reads (λ ns. (ns, at parser.new)) result (reading.names role (at parser.old)) }
     ensures shorter { length parser.new.rest.now ≤ length parser.old.rest.now }
 {
@@ -62,7 +62,7 @@ fn parse_names(parser: &mut Parser<'_>, role: Role) -> Result<Names, ParseError>
 }
 
 #[tactic(auto, unfolding(pipe_tree::specs::Reading::an_image))]
-fn parse_image_item(parser: &mut Parser<'_>) -> Result<Image, ParseError>
+fn parse_image_item(parser: &mut TermParser<'_>) -> Result<Image, ParseError>
     ensures exact { Reads (λ i. (i, at parser.new)) result (reading.an_image (at parser.old)) }
     ensures shorter { length parser.new.rest.now ≤ length parser.old.rest.now }
 {
@@ -83,7 +83,7 @@ fn parse_image_item(parser: &mut Parser<'_>) -> Result<Image, ParseError>
 
 // The variables of rows and columns.
 #[tactic(auto, unfolding(pipe_tree::specs::Reading::variables))]
-fn parse_variable_pair(parser: &mut Parser<'_>) -> Result<(Variable, Variable), ParseError>
+fn parse_variable_pair(parser: &mut TermParser<'_>) -> Result<(Variable, Variable), ParseError>
     ensures exact { Reads (λ vs. (vs, at parser.new)) result (reading.variables (at parser.old)) }
     ensures shorter { length parser.new.rest.now ≤ length parser.old.rest.now }
 {
@@ -96,7 +96,7 @@ fn parse_variable_pair(parser: &mut Parser<'_>) -> Result<(Variable, Variable), 
 }
 
 #[tactic(auto, unfolding(pipe_tree::specs::Reading::a_test))]
-fn parse_test(parser: &mut Parser<'_>) -> Result<Test, ParseError>
+fn parse_test(parser: &mut TermParser<'_>) -> Result<Test, ParseError>
     ensures exact { Reads (λ t. (t, at parser.new)) result (reading.a_test (at parser.old)) }
     ensures shorter { length parser.new.rest.now ≤ length parser.old.rest.now }
 {
@@ -113,7 +113,7 @@ fn parse_test(parser: &mut Parser<'_>) -> Result<Test, ParseError>
 }
 
 #[tactic(auto, using(crate::proofs::ItemUnrolled::condition_unroll), unfolding(pipe_tree::specs::Reading::condition))]
-fn parse_condition(parser: &mut Parser<'_>) -> Result<Condition, ParseError>
+fn parse_condition(parser: &mut TermParser<'_>) -> Result<Condition, ParseError>
     ensures exact { Reads (λ c. (c, at parser.new)) result (reading.condition (at parser.old)) }
     ensures shorter { length parser.new.rest.now ≤ length parser.old.rest.now }
 {
@@ -130,7 +130,7 @@ fn parse_condition(parser: &mut Parser<'_>) -> Result<Condition, ParseError>
 
 // `: VALUE;`
 #[tactic(auto, unfolding(pipe_tree::specs::Reading::value))]
-fn parse_case_value(parser: &mut Parser<'_>) -> Result<Expr, ParseError>
+fn parse_case_value(parser: &mut TermParser<'_>) -> Result<Expr, ParseError>
     ensures exact { Reads (λ e. (view e, at parser.new)) result
         (reading.value most_levels (at parser.old)) }
     ensures shorter { length parser.new.rest.now ≤ length parser.old.rest.now }
@@ -141,7 +141,7 @@ fn parse_case_value(parser: &mut Parser<'_>) -> Result<Expr, ParseError>
 }
 
 #[tactic(auto, using(crate::proofs::ItemUnrolled::next_case), unfolding(pipe_tree::specs::Reading::cases_at))]
-fn parse_cases(parser: &mut Parser<'_>) -> Result<Cases, ParseError>
+fn parse_cases(parser: &mut TermParser<'_>) -> Result<Cases, ParseError>
     ensures exact { Reads (λ cs. (branches (cases_of cs), at parser.new)) result
         (reading.cases_at most_levels (at parser.old)) }
     ensures shorter { length parser.new.rest.now ≤ length parser.old.rest.now }
@@ -157,7 +157,7 @@ fn parse_cases(parser: &mut Parser<'_>) -> Result<Cases, ParseError>
 }
 
 #[tactic(auto, unfolding(pipe_tree::specs::Reading::otherwise))]
-fn parse_else_value(parser: &mut Parser<'_>) -> Result<Option<Expr>, ParseError>
+fn parse_else_value(parser: &mut TermParser<'_>) -> Result<Option<Expr>, ParseError>
     ensures exact { Reads (λ e. (option_map view e, at parser.new)) result
         (reading.otherwise most_levels (at parser.old)) }
     ensures shorter { length parser.new.rest.now ≤ length parser.old.rest.now }
@@ -170,7 +170,7 @@ fn parse_else_value(parser: &mut Parser<'_>) -> Result<Option<Expr>, ParseError>
 }
 
 #[tactic(auto, unfolding(pipe_tree::specs::Reading::a_function))]
-fn parse_func_item(parser: &mut Parser<'_>) -> Result<Func, ParseError>
+fn parse_func_item(parser: &mut TermParser<'_>) -> Result<Func, ParseError>
     ensures exact { Reads (λ f. (function_of f, at parser.new)) result
         (reading.a_function most_levels (at parser.old)) }
     ensures shorter { length parser.new.rest.now ≤ length parser.old.rest.now }
@@ -193,7 +193,7 @@ fn parse_func_item(parser: &mut Parser<'_>) -> Result<Func, ParseError>
 }
 
 #[tactic(auto, unfolding(pipe_tree::specs::Reading::an_accumulator))]
-fn parse_accum_item(parser: &mut Parser<'_>) -> Result<Accum, ParseError>
+fn parse_accum_item(parser: &mut TermParser<'_>) -> Result<Accum, ParseError>
     ensures exact { Reads (λ a. (accumulator_of a, at parser.new)) result
         (reading.an_accumulator most_levels (at parser.old)) }
     ensures shorter { length parser.new.rest.now ≤ length parser.old.rest.now }
@@ -204,7 +204,7 @@ fn parse_accum_item(parser: &mut Parser<'_>) -> Result<Accum, ParseError>
     let bins = parser.parse_affine_span()?;
     parser.expect_keyword(Keyword::Over, Role::Plain)?;
     let (row, column) = parse_variable_pair(parser)?;
-    let fold = parser.parse_fold()?;
+    let fold = parser.parse_reduction_op()?;
     let value = parser.parse_expression(MAX_LEVELS)?;
     parser.expect_keyword(Keyword::At, Role::Plain)?;
     let bin = parser.parse_expression(MAX_LEVELS)?;
@@ -221,7 +221,7 @@ fn parse_accum_item(parser: &mut Parser<'_>) -> Result<Accum, ParseError>
 }
 
 #[tactic(auto, unfolding(pipe_tree::specs::Reading::an_output))]
-fn parse_output_item(parser: &mut Parser<'_>) -> Result<Output, ParseError>
+fn parse_output_item(parser: &mut TermParser<'_>) -> Result<Output, ParseError>
     ensures exact { Reads (λ o. (o, at parser.new)) result (reading.an_output (at parser.old)) }
     ensures shorter { length parser.new.rest.now ≤ length parser.old.rest.now }
     ensures passes { OnOk result (length parser.new.rest.now < length parser.old.rest.now) }
@@ -250,7 +250,7 @@ fn classify_item_start(token: Option<Token>) -> ItemStart
 
 // The item ahead, which is not an image.
 #[tactic(auto, unfolding(pipe_tree::specs::Reading::item))]
-fn parse_item(parser: &mut Parser<'_>) -> Result<Item, ParseError>
+fn parse_item(parser: &mut TermParser<'_>) -> Result<Item, ParseError>
     ensures exact { Reads (λ i. (declaration i, at parser.new)) result
         (reading.item most_levels (at parser.old)) }
     ensures shorter { length parser.new.rest.now ≤ length parser.old.rest.now }
@@ -262,13 +262,16 @@ fn parse_item(parser: &mut Parser<'_>) -> Result<Item, ParseError>
         ItemStart::Func => Ok(Item::Func(parse_func_item(parser)?)),
         ItemStart::Accum => Ok(Item::Accum(parse_accum_item(parser)?)),
         ItemStart::Output => Ok(Item::Output(parse_output_item(parser)?)),
-        ItemStart::Nothing => Err(parser.report_unexpected_token()),
+        ItemStart::Nothing => Err(parser.build_unexpected_token_error()),
     }
 }
 
 // Adds the items up to an image, a second output or the end after those that were read.
 #[tactic(auto, using(crate::proofs::ItemUnrolled::next_item), unfolding(pipe_tree::specs::Reading::others))]
-fn parse_items_up_to_image(parser: &mut Parser<'_>, items: &mut Vec<Item>) -> Result<(), ParseError>
+fn parse_items_up_to_image(
+    parser: &mut TermParser<'_>,
+    items: &mut Vec<Item>,
+) -> Result<(), ParseError>
     ensures exact { Reads (λ _. (declarations items.new.items, at parser.new)) result
         (reading.others most_levels (declarations items.old.items) (at parser.old)) }
     ensures shorter { length parser.new.rest.now ≤ length parser.old.rest.now }
@@ -282,7 +285,7 @@ fn parse_items_up_to_image(parser: &mut Parser<'_>, items: &mut Vec<Item>) -> Re
 
 // Exactly one image is among the items.
 #[tactic(auto, unfolding(pipe_tree::specs::Reading::program_at))]
-fn parse_all_items(parser: &mut Parser<'_>) -> Result<Vec<Item>, ParseError>
+fn parse_all_items(parser: &mut TermParser<'_>) -> Result<Vec<Item>, ParseError>
     ensures exact { Reads (λ items. (declarations items.items, at parser.new)) result
         (reading.whole most_levels (at parser.old)) }
     ensures shorter { length parser.new.rest.now ≤ length parser.old.rest.now }
@@ -293,7 +296,7 @@ fn parse_all_items(parser: &mut Parser<'_>) -> Result<Vec<Item>, ParseError>
     items.push(Item::Image(image))?;
     parse_items_up_to_image(parser, &mut items)?;
     match parser.peek_token() {
-        Some(_) => Err(parser.report_unexpected_token()),
+        Some(_) => Err(parser.build_unexpected_token_error()),
         None => Ok(items),
     }
 }
@@ -320,5 +323,5 @@ fn can_begin_next_item(token: Option<Token>, items: &[Item]) -> bool
 pub(crate) fn parse_program(alloc: Global, tokens: &[Token]) -> Result<Vec<Item>, ParseError>
     ensures { Reads (λ items. declarations items.items) result (program_of tokens.now) }
 {
-    parse_all_items(&mut Parser::new(alloc, tokens))
+    parse_all_items(&mut TermParser::new(alloc, tokens))
 }

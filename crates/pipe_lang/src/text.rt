@@ -39,7 +39,7 @@ pub fn parse(alloc: Global, text: &[u8]) -> Result<Tree, ParseFault>
         Err(ParseError::Memory) => Err(ParseFault::Memory),
         Err(ParseError::Fault(halt)) => {
             let offset = find_fault_offset(&lexed.starts, halt.remaining, text.len());
-            Err(build_parse_fault(halt.kind, offset))
+            Err(attach_fault_offset(halt.kind, offset))
         }
     }
 }
@@ -52,7 +52,7 @@ fn find_fault_offset(starts: &[usize], remaining: usize, end: usize) -> usize
     starts.get(passed).copied().unwrap_or(end)
 }
 
-fn build_parse_fault(kind: ParseFaultKind, offset: usize) -> ParseFault
+fn attach_fault_offset(kind: ParseFaultKind, offset: usize) -> ParseFault
     ensures { result ≡ fault_of kind offset }
 {
     match kind {

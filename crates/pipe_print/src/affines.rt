@@ -48,7 +48,7 @@ impl Printer {
         self.print_punct(Punct::CloseSquare)
     }
 
-    pub fn print_variable(&mut self, variable: &Variable) -> Result<(), AllocError>
+    pub fn print_variable_with_span(&mut self, variable: &Variable) -> Result<(), AllocError>
         ensures { OnOk result (self.new ≡ self.old ++ variable_tokens variable.now) }
     {
         self.print_name(&variable.name)?;

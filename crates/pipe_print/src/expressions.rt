@@ -6,7 +6,7 @@ ghost use Rattle.pipe_tree.specs.Tree.{view, unary, binary};
 ghost use Rattle.pipe_print.specs.Canonical.{mark as mark_tokens, ◌⌢◌, grouped_if, relation_mark, expression_tokens};
 
 use crate::forms::{
-    BinaryForm, UnaryForm, choose_printed_binary_form, choose_printed_literal_punct,
+    BinaryForm, UnaryForm, choose_printed_binary_form, choose_printed_literal_operator_punct,
     choose_printed_relation_punct, choose_printed_ternary_keyword, choose_printed_unary_form,
 };
 use crate::place::ExpressionPlace;
@@ -101,7 +101,7 @@ impl Printer {
             }
             Expr::Literal(op, a, number) => {
                 self.print_expression(a, ExpressionPlace::Product)?;
-                self.print_punct(choose_printed_literal_punct(*op))?;
+                self.print_punct(choose_printed_literal_operator_punct(*op))?;
                 self.print_number(*number)
             }
             Expr::Select(a, relation, b, then, otherwise) => {

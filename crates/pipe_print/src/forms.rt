@@ -56,7 +56,7 @@ pub(crate) fn choose_printed_ternary_keyword(op: TernaryOp) -> Keyword
     }
 }
 
-pub(crate) fn choose_printed_literal_punct(op: LiteralOp) -> Punct
+pub(crate) fn choose_printed_literal_operator_punct(op: LiteralOp) -> Punct
     ensures { result ≡ literal_mark op }
 {
     match op {

@@ -91,7 +91,7 @@ impl Printer {
 impl ListEntry for StencilRow {
     ghost tokens = { row_tokens };
 
-    fn print_entry(&self, printer: &mut Printer) -> Result<(), AllocError> {
+    fn print_list_entry(&self, printer: &mut Printer) -> Result<(), AllocError> {
         printer.print_bracketed_entries(self.entries())
     }
 }
@@ -100,7 +100,7 @@ impl ListEntry for StencilRow {
 impl ListEntry for i32 {
     ghost tokens = { entry_tokens };
 
-    fn print_entry(&self, printer: &mut Printer) -> Result<(), AllocError> {
+    fn print_list_entry(&self, printer: &mut Printer) -> Result<(), AllocError> {
         if *self < 0 {
             printer.print_punct(Punct::Minus)?;
         }

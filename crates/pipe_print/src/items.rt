@@ -19,7 +19,7 @@ use pipe_tree::{
 };
 use std::alloc::AllocError;
 
-fn choose_printed_fold_keyword(fold: ReductionOp) -> Keyword
+fn choose_printed_reduction_keyword(fold: ReductionOp) -> Keyword
     ensures { result ≡ fold_word fold }
 {
     match fold {
@@ -81,9 +81,9 @@ impl Printer {
         ensures { OnOk result (self.new ≡ self.old ++ variables_tokens row.now column.now) }
     {
         self.print_punct(Punct::OpenRound)?;
-        self.print_variable(row)?;
+        self.print_variable_with_span(row)?;
         self.print_punct(Punct::Comma)?;
-        self.print_variable(column)?;
+        self.print_variable_with_span(column)?;
         self.print_punct(Punct::CloseRound)
     }
 
@@ -142,7 +142,7 @@ impl Printer {
     fn print_accum_update(&mut self, accum: &Accum) -> Result<(), AllocError>
         ensures { OnOk result (self.new ≡ self.old ++ update_tokens (accumulator_of accum.now)) }
     {
-        self.print_keyword(choose_printed_fold_keyword(accum.fold))?;
+        self.print_keyword(choose_printed_reduction_keyword(accum.fold))?;
         self.print_expression(&accum.value, ExpressionPlace::Sum)?;
         self.print_keyword(Keyword::At)?;
         self.print_expression(&accum.bin, ExpressionPlace::Sum)?;
@@ -189,7 +189,7 @@ impl Printer {
 impl ListEntry for Test {
     ghost tokens = { test_tokens };
 
-    fn print_entry(&self, printer: &mut Printer) -> Result<(), AllocError> {
+    fn print_list_entry(&self, printer: &mut Printer) -> Result<(), AllocError> {
         match self {
             Test::Compare(name, relation, bound) => {
                 printer.print_name(name)?;

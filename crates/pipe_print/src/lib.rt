@@ -1,5 +1,7 @@
 //! Texts of programs in their canonical form: of all texts of a tree this one has the fewest tokens, no blank that could be
 //! omitted and no parenthesis that the grammar does not need.
+//!
+//! Words: print, printed, printer, canonical text, parentheses, list entry.
 #![tactic(auto)]
 
 mod affines;

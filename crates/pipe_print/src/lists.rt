@@ -13,7 +13,7 @@ use std::alloc::AllocError;
 pub(crate) trait ListEntry {
     ghost tokens: { Self → List TokenType };
 
-    fn print_entry(&self, printer: &mut Printer) -> Result<(), AllocError>
+    fn print_list_entry(&self, printer: &mut Printer) -> Result<(), AllocError>
         ensures { OnOk result (printer.new ≡ printer.old ++ tokens self.now) };
 }
 
@@ -30,10 +30,10 @@ impl Printer {
         let [first, others @ ..] = entries else {
             return Ok(());
         };
-        first.print_entry(self)?;
+        first.print_list_entry(self)?;
         for entry in others {
             self.print_token(*separator)?;
-            entry.print_entry(self)?;
+            entry.print_list_entry(self)?;
         }
         Ok(())
     }

@@ -4,10 +4,10 @@ use Rattle.pipe_tree.specs.declared.fault.Halt.{Halt}
 use Rattle.pipe_tree.specs.Reading.{At}
 use Rattle.pipe_term_parser.specs.declared.parse_error.ParseError.{ParseError}
 use Rattle.pipe_term_parser.specs.declared.parse_error.ParseError.TheVariants as errors
-use Rattle.pipe_term_parser.specs.declared.parser.Parser.{Parser}
+use Rattle.pipe_term_parser.specs.declared.parser.TermParser.{TermParser}
 
 -- where a parser is
-abbrev pub at : Parser → At
+abbrev pub at : TermParser → At
 at p = record { counts = p.counts; rest = p.rest.now }
 
 -- The result of a function, seen by view, is the answer of its reader, unless memory ran out.

@@ -5,13 +5,13 @@ ghost use Rattle.std.specs.Prelude.{◌≡◌, ◌<◌, ◌≤◌, length, OnOk}
 ghost use Rattle.pipe_tree.specs.Reading as reading;
 ghost use Rattle.pipe_term_parser.specs.Answers.{at, Reads};
 
-use crate::lookahead::{is_number_token, parse_sign_token};
+use crate::lookahead::{interpret_token_ahead_as_sign, is_number_token_ahead};
 use crate::parse_error::ParseError;
-use crate::parser::Parser;
+use crate::parser::TermParser;
 use pipe_tokens::{Keyword, Name, Punct};
 use pipe_tree::{Affine, AffineSpan, AffineTerm, Role, Variable};
 
-impl Parser<'_> {
+impl TermParser<'_> {
     // A minus, if there is one.
     pub(crate) fn parse_optional_minus(&mut self) -> Result<bool, ParseError>
         ensures exact { Reads (λ b. (b, at self.new)) result (reading.minus (at self.old)) }
@@ -30,7 +30,7 @@ impl Parser<'_> {
         ensures exact { Reads (λ f. (f, at self.new)) result (reading.scaled_name (at self.old)) }
         ensures shorter { length self.new.rest.now ≤ length self.old.rest.now }
     {
-        if !is_number_token(self.peek_token()) {
+        if !is_number_token_ahead(self.peek_token()) {
             return Ok((1, Some(self.parse_name(Role::Plain)?)));
         }
         let factor = self.parse_number(Role::Plain)?;
@@ -69,7 +69,7 @@ impl Parser<'_> {
         let mut terms = Vec::new(self.alloc);
         let negative = self.parse_optional_minus()?;
         self.parse_affine_term(&mut terms, negative)?;
-        while parse_sign_token(self.peek_token()).is_some() {
+        while interpret_token_ahead_as_sign(self.peek_token()).is_some() {
             let negative = self.parse_sign(Role::Plain)?;
             self.parse_affine_term(&mut terms, negative)?;
         }

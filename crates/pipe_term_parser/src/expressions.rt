@@ -7,14 +7,17 @@ ghost use Rattle.pipe_tree.specs.Reading as reading;
 ghost use Rattle.pipe_tree.specs.Reading.{halt_of, unary_at, product_at, expression_at};
 ghost use Rattle.pipe_term_parser.specs.Answers.{at, Reads};
 
-use crate::lookahead::{classify_unary_start, parse_product_op_token, parse_sign_token};
+use crate::lookahead::{
+    classify_unary_by_token_ahead, interpret_token_ahead_as_product_op,
+    interpret_token_ahead_as_sign,
+};
 use crate::parse_error::ParseError;
-use crate::parser::Parser;
+use crate::parser::TermParser;
 use operators::{BinaryOp, UnaryOp};
 use pipe_tokens::{Keyword, Name, Punct};
 use pipe_tree::{CallOp, Expr, Opening, ParseFaultKind, ProductOp, Role, UnaryStart};
 
-impl Parser<'_> {
+impl TermParser<'_> {
     // The levels that are left after the token ahead, which opens one.
     fn open_expression_level(&self, levels: u32) -> Result<u32, ParseError>
         ensures ok { IfOk result (λ rest. levels ≡ suc rest) }
@@ -22,7 +25,7 @@ impl Parser<'_> {
             (λ e. (levels ≡ 0) × (e ≡ ParseError.Fault (halt_of ParseFaultKind.TooDeep self.now.rest.now))) }
     {
         if levels == 0 {
-            return Err(self.report_parse_fault(ParseFaultKind::TooDeep));
+            return Err(self.build_parse_error(ParseFaultKind::TooDeep));
         }
         Ok(levels - 1)
     }
@@ -35,7 +38,7 @@ impl Parser<'_> {
         ensures shorter { length self.new.rest.now ≤ length self.old.rest.now }
     {
         let mut left = self.parse_product(levels)?;
-        while parse_sign_token(self.peek_token()).is_some() {
+        while interpret_token_ahead_as_sign(self.peek_token()).is_some() {
             let sum = Box::new(self.alloc, left)?;
             let op = if self.parse_sign(Role::Node)? {
                 BinaryOp::Sub
@@ -67,7 +70,7 @@ impl Parser<'_> {
         ensures shorter { length self.new.rest.now ≤ length self.old.rest.now }
     {
         let mut left = self.parse_unary(levels)?;
-        while parse_product_op_token(self.peek_token()).is_some() {
+        while interpret_token_ahead_as_product_op(self.peek_token()).is_some() {
             let product = Box::new(self.alloc, left)?;
             left = match self.parse_product_op()? {
                 ProductOp::Times => {
@@ -90,7 +93,7 @@ impl Parser<'_> {
         ensures exact { Reads (λ e. (view e, at self.new)) result (unary_at levels (at self.old)) }
         ensures shorter { length self.new.rest.now ≤ length self.old.rest.now }
     {
-        match classify_unary_start(self.peek_token()) {
+        match classify_unary_by_token_ahead(self.peek_token()) {
             UnaryStart::Number => Ok(Expr::Number(self.parse_number(Role::Node)?)),
             UnaryStart::Name => self.parse_named_expression(levels),
             UnaryStart::Stencil => self.parse_stencil(),
@@ -98,7 +101,7 @@ impl Parser<'_> {
                 let levels = self.open_expression_level(levels)?;
                 self.parse_opened_level(opening, levels)
             }
-            UnaryStart::Nothing => Err(self.report_unexpected_token()),
+            UnaryStart::Nothing => Err(self.build_unexpected_token_error()),
         }
     }
 
@@ -153,7 +156,7 @@ impl Parser<'_> {
                 Ok(self.expect_closing_punct(inner, Punct::CloseRound)?)
             }
             Opening::Call => {
-                let call = self.parse_call_op()?;
+                let call = self.parse_called_operator()?;
                 self.expect_punct(Punct::OpenRound, Role::Plain)?;
                 let called = self.parse_call_arguments(call, levels)?;
                 Ok(self.expect_closing_punct(called, Punct::CloseRound)?)

@@ -8,14 +8,14 @@ ghost use Rattle.pipe_tree.specs.Reading as reading;
 ghost use Rattle.pipe_term_parser.specs.Answers.{at, Reads};
 ghost use Rattle.pipe_term_parser.specs.declared.parser.TheConstants.{MAX_NUMBER};
 
-use crate::lookahead::{is_number_token, parse_sign_token};
+use crate::lookahead::{interpret_token_ahead_as_sign, is_number_token_ahead};
 use crate::parse_error::ParseError;
-use crate::parser::{MAX_NUMBER, Parser};
+use crate::parser::{MAX_NUMBER, TermParser};
 use pipe_tokens::{Keyword, Name, Punct};
 use pipe_tree::{Expr, Index, Kernel, Role, StencilRow};
 
 // A number with its sign.
-fn apply_sign_to_number(negative: bool, number: u32) -> i32
+fn apply_sign_to_literal(negative: bool, number: u32) -> i32
     requires { number ≤ MAX_NUMBER }
     ensures { result ≡ grammar.signed negative number }
 {
@@ -26,14 +26,14 @@ fn apply_sign_to_number(negative: bool, number: u32) -> i32
     }
 }
 
-impl Parser<'_> {
+impl TermParser<'_> {
     // `MUL * NAME`, or a name alone.
     #[tactic(auto, unfolding(pipe_tree::specs::Reading::scaled))]
     fn parse_index_product(&mut self) -> Result<(u32, Name), ParseError>
         ensures exact { Reads (λ f. (f, at self.new)) result (reading.scaled (at self.old)) }
         ensures shorter { length self.new.rest.now ≤ length self.old.rest.now }
     {
-        if !is_number_token(self.peek_token()) {
+        if !is_number_token_ahead(self.peek_token()) {
             return Ok((1, self.parse_name(Role::Plain)?));
         }
         let mul = self.parse_number(Role::Plain)?;
@@ -47,12 +47,12 @@ impl Parser<'_> {
         ensures exact { Reads (λ k. (k, at self.new)) result (reading.addend (at self.old)) }
         ensures shorter { length self.new.rest.now ≤ length self.old.rest.now }
     {
-        if parse_sign_token(self.peek_token()).is_none() {
+        if interpret_token_ahead_as_sign(self.peek_token()).is_none() {
             return Ok(0);
         }
         let negative = self.parse_sign(Role::Plain)?;
         let number = self.parse_number(Role::Plain)?;
-        Ok(apply_sign_to_number(negative, number))
+        Ok(apply_sign_to_literal(negative, number))
     }
 
     #[tactic(auto, unfolding(pipe_tree::specs::Reading::divisor))]
@@ -182,6 +182,6 @@ impl Parser<'_> {
     {
         let negative = self.parse_optional_minus()?;
         let number = self.parse_number(Role::Plain)?;
-        Ok(apply_sign_to_number(negative, number))
+        Ok(apply_sign_to_literal(negative, number))
     }
 }

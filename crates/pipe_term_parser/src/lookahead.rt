@@ -9,7 +9,7 @@ use operators::{LiteralOp, ReductionOp, Relation};
 use pipe_tokens::{Keyword, Punct, Token};
 use pipe_tree::{CallOp, Opening, ProductOp, UnaryStart};
 
-pub(crate) fn is_punct_token(token: Option<Token>, mark: Punct) -> bool
+pub(crate) fn is_punct_token_ahead(token: Option<Token>, mark: Punct) -> bool
     ensures { result ≡ is_mark_at mark token }
 {
     match token {
@@ -18,7 +18,7 @@ pub(crate) fn is_punct_token(token: Option<Token>, mark: Punct) -> bool
     }
 }
 
-pub(crate) fn is_keyword_token(token: Option<Token>, word: Keyword) -> bool
+pub(crate) fn is_keyword_token_ahead(token: Option<Token>, word: Keyword) -> bool
     ensures { result ≡ is_word_at word token }
 {
     match token {
@@ -28,14 +28,14 @@ pub(crate) fn is_keyword_token(token: Option<Token>, word: Keyword) -> bool
 }
 
 // Whether a number is ahead, even one that is too big.
-pub(crate) fn is_number_token(token: Option<Token>) -> bool
+pub(crate) fn is_number_token_ahead(token: Option<Token>) -> bool
     ensures { result ≡ is_number_at token }
 {
     matches!(token, Some(Token::Int(_) | Token::TooBig))
 }
 
 // Whether the sign ahead is a minus.
-pub(crate) fn parse_sign_token(token: Option<Token>) -> Option<bool>
+pub(crate) fn interpret_token_ahead_as_sign(token: Option<Token>) -> Option<bool>
     ensures { result ≡ sign_at token }
 {
     match token {
@@ -45,7 +45,7 @@ pub(crate) fn parse_sign_token(token: Option<Token>) -> Option<bool>
     }
 }
 
-pub(crate) fn parse_product_op_token(token: Option<Token>) -> Option<ProductOp>
+pub(crate) fn interpret_token_ahead_as_product_op(token: Option<Token>) -> Option<ProductOp>
     ensures { result ≡ factor_at token }
 {
     match token {
@@ -58,7 +58,7 @@ pub(crate) fn parse_product_op_token(token: Option<Token>) -> Option<ProductOp>
     }
 }
 
-pub(crate) fn parse_relation_token(token: Option<Token>) -> Option<Relation>
+pub(crate) fn interpret_token_ahead_as_relation(token: Option<Token>) -> Option<Relation>
     ensures { result ≡ relation_at token }
 {
     match token {
@@ -69,7 +69,7 @@ pub(crate) fn parse_relation_token(token: Option<Token>) -> Option<Relation>
     }
 }
 
-pub(crate) fn parse_fold_token(token: Option<Token>) -> Option<ReductionOp>
+pub(crate) fn interpret_token_ahead_as_reduction(token: Option<Token>) -> Option<ReductionOp>
     ensures { result ≡ fold_at token }
 {
     match token {
@@ -80,7 +80,7 @@ pub(crate) fn parse_fold_token(token: Option<Token>) -> Option<ReductionOp>
     }
 }
 
-pub(crate) fn classify_unary_start(token: Option<Token>) -> UnaryStart
+pub(crate) fn classify_unary_by_token_ahead(token: Option<Token>) -> UnaryStart
     ensures { result ≡ start_at token }
 {
     match token {

@@ -11,8 +11,9 @@ ghost use Rattle.pipe_tree.specs.Operators.{name_at};
 ghost use Rattle.pipe_tree.specs.Lookahead.{is_mark_at, is_word_at};
 
 use crate::lookahead::{
-    is_keyword_token, is_punct_token, parse_fold_token, parse_product_op_token,
-    parse_relation_token, parse_sign_token,
+    interpret_token_ahead_as_product_op, interpret_token_ahead_as_reduction,
+    interpret_token_ahead_as_relation, interpret_token_ahead_as_sign, is_keyword_token_ahead,
+    is_punct_token_ahead,
 };
 use crate::parse_error::ParseError;
 use operators::{ReductionOp, Relation};
@@ -25,18 +26,18 @@ pub const MAX_NUMBER: u32 = 2147483647;
 
 /// A position in a list of tokens: the tokens that remain, and what was counted so far.
 #[derive(Drop)]
-pub struct Parser<'a> {
+pub struct TermParser<'a> {
     pub alloc: Global,
     pub rest: &'a [Token],
     pub counts: TextCounts,
 }
 
-impl<'a> Parser<'a> {
+impl<'a> TermParser<'a> {
     /// A parser that is at the first of these tokens.
     pub fn new(alloc: Global, tokens: &'a [Token]) -> Self
         ensures { at result ≡ record { counts = none_yet; rest = tokens.now } }
     {
-        Parser {
+        TermParser {
             alloc,
             rest: tokens,
             counts: TextCounts {
@@ -50,7 +51,7 @@ impl<'a> Parser<'a> {
     }
 }
 
-impl Parser<'_> {
+impl TermParser<'_> {
     /// The token ahead, unless all were passed.
     pub fn peek_token(&self) -> Option<Token>
         ensures { result ≡ head self.now.rest.now }
@@ -71,17 +72,17 @@ impl Parser<'_> {
     pub fn is_punct_ahead(&self, mark: Punct) -> bool
         ensures { result ≡ is_mark_at mark (head self.now.rest.now) }
     {
-        is_punct_token(self.peek_token(), mark)
+        is_punct_token_ahead(self.peek_token(), mark)
     }
 
     /// Whether this keyword is ahead.
     pub fn is_keyword_ahead(&self, word: Keyword) -> bool
         ensures { result ≡ is_word_at word (head self.now.rest.now) }
     {
-        is_keyword_token(self.peek_token(), word)
+        is_keyword_token_ahead(self.peek_token(), word)
     }
 
-    pub(crate) fn report_parse_fault(&self, kind: ParseFaultKind) -> ParseError
+    pub(crate) fn build_parse_error(&self, kind: ParseFaultKind) -> ParseError
         ensures { result ≡ ParseError.Fault (halt_of kind self.now.rest.now) }
     {
         ParseError::Fault(Halt {
@@ -91,14 +92,14 @@ impl Parser<'_> {
     }
 
     /// The fault of the token ahead, or of the end, where the grammar does not allow it.
-    pub fn report_unexpected_token(&self) -> ParseError
+    pub fn build_unexpected_token_error(&self) -> ParseError
         ensures { result
             ≡ ParseError.Fault (halt_of (kind_at (head self.now.rest.now)) self.now.rest.now) }
     {
         match self.rest {
-            [Token::NotAscii, ..] => self.report_parse_fault(ParseFaultKind::NotAscii),
-            [Token::Bad, ..] => self.report_parse_fault(ParseFaultKind::BadToken),
-            _ => self.report_parse_fault(ParseFaultKind::Unexpected),
+            [Token::NotAscii, ..] => self.build_parse_error(ParseFaultKind::NotAscii),
+            [Token::Bad, ..] => self.build_parse_error(ParseFaultKind::BadToken),
+            _ => self.build_parse_error(ParseFaultKind::Unexpected),
         }
     }
 
@@ -108,8 +109,8 @@ impl Parser<'_> {
         ensures shorter { length self.new.rest.now ≤ length self.old.rest.now }
         ensures passes { OnOk result (self.new.rest.now ≡ tail self.old.rest.now) }
     {
-        let Some(counts) = self.counts.count_within_limits(role) else {
-            return Err(self.report_parse_fault(ParseFaultKind::TooMany));
+        let Some(counts) = self.counts.increment_within_limits(role) else {
+            return Err(self.build_parse_error(ParseFaultKind::TooMany));
         };
         self.counts = counts;
         if let [_, rest @ ..] = self.rest {
@@ -129,7 +130,7 @@ impl Parser<'_> {
         if self.is_punct_ahead(mark) {
             self.consume_token(role)
         } else {
-            Err(self.report_unexpected_token())
+            Err(self.build_unexpected_token_error())
         }
     }
 
@@ -146,7 +147,7 @@ impl Parser<'_> {
         ensures means { IfOk result (λ x. meaning ≡ Some x) }
     {
         let Some(meaning) = meaning else {
-            return Err(self.report_unexpected_token());
+            return Err(self.build_unexpected_token_error());
         };
         self.consume_token(role)?;
         Ok(meaning)
@@ -174,7 +175,7 @@ impl Parser<'_> {
         if self.is_keyword_ahead(word) {
             self.consume_token(role)
         } else {
-            Err(self.report_unexpected_token())
+            Err(self.build_unexpected_token_error())
         }
     }
 
@@ -198,10 +199,10 @@ impl Parser<'_> {
                 self.consume_token(role)?;
                 Ok(value)
             }
-            Some(Token::Int(_) | Token::TooBig) => Err(self.report_parse_fault(
+            Some(Token::Int(_) | Token::TooBig) => Err(self.build_parse_error(
                 ParseFaultKind::NumberTooBig,
             )),
-            _ => Err(self.report_unexpected_token()),
+            _ => Err(self.build_unexpected_token_error()),
         }
     }
 
@@ -212,7 +213,7 @@ impl Parser<'_> {
         ensures shorter { length self.new.rest.now ≤ length self.old.rest.now }
         ensures passes { OnOk result (length self.new.rest.now < length self.old.rest.now) }
     {
-        let negative = parse_sign_token(self.peek_token());
+        let negative = interpret_token_ahead_as_sign(self.peek_token());
         self.expect_token_meaning(negative, role)
     }
 
@@ -222,12 +223,12 @@ impl Parser<'_> {
         ensures shorter { length self.new.rest.now ≤ length self.old.rest.now }
         ensures passes { OnOk result (length self.new.rest.now < length self.old.rest.now) }
     {
-        let factor = parse_product_op_token(self.peek_token());
+        let factor = interpret_token_ahead_as_product_op(self.peek_token());
         self.expect_token_meaning(factor, Role::Node)
     }
 
     // Reads the keyword of an operator that is written as a call.
-    pub(crate) fn parse_call_op(&mut self) -> Result<CallOp, ParseError>
+    pub(crate) fn parse_called_operator(&mut self) -> Result<CallOp, ParseError>
         ensures exact { Reads (λ c. (c, at self.new)) result (reading.call (at self.old)) }
         ensures shorter { length self.new.rest.now ≤ length self.old.rest.now }
     {
@@ -240,16 +241,16 @@ impl Parser<'_> {
         ensures exact { Reads (λ r. (r, at self.new)) result (reading.relation (at self.old)) }
         ensures shorter { length self.new.rest.now ≤ length self.old.rest.now }
     {
-        let relation = parse_relation_token(self.peek_token());
+        let relation = interpret_token_ahead_as_relation(self.peek_token());
         self.expect_token_meaning(relation, Role::Plain)
     }
 
     /// Reads how an accumulator joins numbers.
-    pub fn parse_fold(&mut self) -> Result<ReductionOp, ParseError>
+    pub fn parse_reduction_op(&mut self) -> Result<ReductionOp, ParseError>
         ensures exact { Reads (λ f. (f, at self.new)) result (reading.fold (at self.old)) }
         ensures shorter { length self.new.rest.now ≤ length self.old.rest.now }
     {
-        let fold = parse_fold_token(self.peek_token());
+        let fold = interpret_token_ahead_as_reduction(self.peek_token());
         self.expect_token_meaning(fold, Role::Plain)
     }
 }

@@ -58,7 +58,7 @@ fn cut_into_tokens(alloc: Global, text: &[u8]) -> Result<TokenList, AllocError>
 }
 
 /// A text is cut in one way only.
-pub fn tokens_are_determined()
+pub fn texts_have_one_token_list()
     ensures tokens { (text : List ℕ) (tokens : List Token) (starts : List ℕ)
         → CutsInto 0 text tokens starts → tokens ≡ tokens_of text }
     ensures starts { (text : List ℕ) (tokens : List Token) (starts : List ℕ)

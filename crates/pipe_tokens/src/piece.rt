@@ -21,7 +21,7 @@ pub struct Piece {
     pub len: usize,
 }
 
-fn new_gap_piece(len: usize) -> Piece
+fn new_piece_without_token(len: usize) -> Piece
     ensures { result ≡ lexing.gap len }
 {
     Piece { token: None, len }
@@ -44,9 +44,9 @@ pub fn lex_longest_piece(text: &[u8]) -> Piece
 {
     let first = text[0];
     if is_white_byte(first) {
-        new_gap_piece(1)
+        new_piece_without_token(1)
     } else if first == b'#' {
-        new_gap_piece(count_comment_bytes(text))
+        new_piece_without_token(count_comment_bytes(text))
     } else if first.is_ascii_alphabetic() {
         lex_word(text)
     } else if first.is_ascii_digit() {
@@ -71,7 +71,7 @@ fn count_name_bytes(text: &[u8]) -> usize
     text.iter().take_while(|b| is_name_byte(**b)).count()
 }
 
-fn count_digit_bytes(text: &[u8]) -> usize
+fn count_token_digits(text: &[u8]) -> usize
     ensures len { result ≡ prefix_len is_ascii_digit text.now }
     ensures within { result ≤ length text.now }
 {
@@ -100,7 +100,7 @@ fn convert_word_to_token(bytes: &[u8]) -> Token
 fn lex_digits(text: &[u8]) -> Piece
     ensures { result ≡ lexing.digits_piece text.now }
 {
-    let len = count_digit_bytes(text);
+    let len = count_token_digits(text);
     if count_name_bytes(text) != len {
         return new_token_piece(Token::Bad, len);
     }

@@ -36,7 +36,7 @@ pub fn spelled_tokens_come_back()
 
 /// A text is no shorter than the spelling of its tokens. All of its tokens have a spelling, except numbers that are too big and
 /// the lexical fault at the end.
-pub fn spelling_is_shortest()
+pub fn spelled_tokens_are_shortest()
     ensures shortest { (text : List ℕ) → length (spelling (tokens_of text)) ≤ length text }
     ensures readable { (text : List ℕ) → AllByRecursion IsReadable (tokens_of text) }
 {}
@@ -61,12 +61,16 @@ fn push_token_bytes(alloc: Global, bytes: &mut Vec<u8>, token: &Token) -> Result
         Token::Keyword(word) => bytes.extend_from_slice(word.as_bytes()),
         Token::Punct(mark) => bytes.extend_from_slice(mark.as_bytes()),
         Token::Name(name) => bytes.extend_from_slice(name.as_bytes()),
-        Token::Int(value) => push_number_digits(alloc, bytes, *value),
+        Token::Int(value) => push_number_token_digits(alloc, bytes, *value),
         Token::TooBig | Token::Bad | Token::NotAscii => Ok(()),
     }
 }
 
-fn push_number_digits(alloc: Global, bytes: &mut Vec<u8>, value: u32) -> Result<(), AllocError>
+fn push_number_token_digits(
+    alloc: Global,
+    bytes: &mut Vec<u8>,
+    value: u32,
+) -> Result<(), AllocError>
     ensures { OnOk result (bytes.new.items ≡ bytes.old.items ++ decimal value) }
 {
     let digits = format!(in alloc; "{value}")?;

@@ -1,5 +1,7 @@
 //! The language of image pipelines: a program as a tree, the grammar of its text and its limits, and the faults of texts that
 //! have no tree. The parser is in the crates above.
+//!
+//! Words: tree, affine, cases, condition, kernel, stencil row, parse fault, text counts, call op.
 #![tactic(auto)]
 
 mod ahead;
@@ -17,4 +19,4 @@ pub use tree::{
     Accum, Affine, AffineSpan, AffineTerm, Case, Cases, Condition, Expr, Func, Image, Index, Item,
     Kernel, Names, Output, Param, StencilRow, Table, Test, Tree, Variable,
 };
-pub use uniqueness::{faults_are_determined, texts_have_one_tree};
+pub use uniqueness::{bytes_have_at_most_one_parse_fault, texts_have_one_tree};

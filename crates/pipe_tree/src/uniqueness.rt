@@ -13,7 +13,7 @@ pub fn texts_have_one_tree()
 {}
 
 /// No bytes have two faults, and no text has a fault. Memory may run out for any.
-pub fn faults_are_determined()
+pub fn bytes_have_at_most_one_parse_fault()
     ensures one { (bytes : List ℕ) (a b : ParseFault) → IsFault bytes a → IsFault bytes b
         → a ≢ ParseFault.Memory → b ≢ ParseFault.Memory → a ≡ b }
     ensures none { (bytes : List ℕ) (tree : List Declaration) (fault : ParseFault) → IsText bytes tree

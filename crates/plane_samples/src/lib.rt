@@ -1,4 +1,6 @@
 //! The samples of a plane as they lie in memory.
+//!
+//! Words: plane samples, load sample.
 #![tactic(auto)]
 
 mod samples;

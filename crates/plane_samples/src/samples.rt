@@ -48,28 +48,32 @@ impl PlaneSamples<'_> {
         ensures { result ≡ sample_in self.now place }
     {
         match self {
-            PlaneSamples::Words(words) => load_word_sample(words, place),
-            PlaneSamples::Bytes(spaced) => load_byte_sample(spaced.bytes, spaced.step, place),
-            PlaneSamples::Pairs(spaced) => load_pair_sample(spaced.bytes, spaced.step, place),
+            PlaneSamples::Words(words) => load_sample_from_words(words, place),
+            PlaneSamples::Bytes(spaced) => load_sample_from_bytes(spaced.bytes, spaced.step, place),
+            PlaneSamples::Pairs(spaced) => load_sample_from_byte_pairs(
+                spaced.bytes,
+                spaced.step,
+                place,
+            ),
         }
     }
 }
 
-fn load_word_sample(words: &[u16], place: usize) -> u16
+fn load_sample_from_words(words: &[u16], place: usize) -> u16
     requires { place < length words.now }
     ensures { result ≡ slice_index words.now place }
 {
     words[place]
 }
 
-fn load_byte_sample(bytes: &[u8], step: usize, place: usize) -> u16
+fn load_sample_from_bytes(bytes: &[u8], step: usize, place: usize) -> u16
     requires { place * step < length bytes.now }
     ensures { result ≡ slice_index bytes.now (place * step) }
 {
     u16::from(bytes[place * step])
 }
 
-fn load_pair_sample(bytes: &[u8], step: usize, place: usize) -> u16
+fn load_sample_from_byte_pairs(bytes: &[u8], step: usize, place: usize) -> u16
     requires { place * step + 1 < length bytes.now }
     ensures { result
         ≡ 256 * slice_index bytes.now (place * step) + slice_index bytes.now (place * step + 1) }

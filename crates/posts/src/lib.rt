@@ -1,4 +1,6 @@
 //! Mailboxes for updates, which threads share. Only parcels of true updates are put in, so only such parcels are taken out.
+//!
+//! Words: post, mailbox, parcel.
 #![tactic(auto)]
 
 mod line;

@@ -21,7 +21,7 @@ use domains::Area;
 use job::Accumulator;
 use operators::ReductionOp;
 use std::alloc::{AllocError, Global};
-use tile_eval::{RowSource, RowSpan, SourceRow, borrow_or_evaluate_row, find_row_constant};
+use tile_eval::{RowSource, RowSpan, SourceRow, borrow_or_evaluate_row, find_constant_along_row};
 
 // Accumulates a row of points in the bins.
 fn accumulate_row_in_bins<S: RowSource>(
@@ -50,12 +50,12 @@ fn accumulate_row_in_bins<S: RowSource>(
         let line = borrow_or_evaluate_row(source, points, value, values, temps);
         return accumulate_in_adjacent_bins(op, bins, place, line);
     }
-    if let Some(one) = find_row_constant(bin, points) {
+    if let Some(one) = find_constant_along_row(bin, points) {
         let line = borrow_or_evaluate_row(source, points, value, values, temps);
         return accumulate_in_one_bin(op, lo, bins, line, one);
     }
     let each = borrow_or_evaluate_row(source, points, bin, bins_of, temps);
-    match (op, find_row_constant(value, points)) {
+    match (op, find_constant_along_row(value, points)) {
         (ReductionOp::Sum, Some(number)) => add_number_to_point_bins(lo, bins, number, each),
         _ => {
             let line = borrow_or_evaluate_row(source, points, value, values, temps);

@@ -1,4 +1,6 @@
 //! What accumulators accumulate in their bins, without tiles: values, joins of bins, and totals of whole stages.
+//!
+//! Words: bin, totals, reduce, accumulator buffer, accumulator tile, true partial, join into, whole.
 #![tactic(auto)]
 
 mod bin_starts;

@@ -12,10 +12,10 @@ use crate::bins::find_bin_place;
 use domains::{LIMIT, Span};
 use job::{Axis, Formula};
 use operators::BinaryOp;
-use tile_eval::{RowSpan, find_row_constant};
+use tile_eval::{RowSpan, find_constant_along_row};
 
 // The number, if it is in the range of the numbers of spans.
-fn check_adjacent_bin_limits(number: i32) -> Option<i32>
+fn accept_bin_number_within_limits(number: i32) -> Option<i32>
     ensures number { IfSome result (λ it. it ≡ number) }
     ensures least { IfSome result (λ it. negsuc 1048575 ≤ℤ it) }
     ensures most { IfSome result (λ it. it ≤ℤ pos 1048576) }
@@ -44,11 +44,11 @@ fn find_first_adjacent_bin(formula: &Formula, points: &RowSpan) -> Option<i32>
         Formula::Coordinate(Axis::Column) => Some(points.col),
         Formula::Binary(BinaryOp::Add, a, b) => {
             let first = find_first_adjacent_bin(a, points)?;
-            check_adjacent_bin_limits(first.checked_add(find_row_constant(b, points)?)?)
+            accept_bin_number_within_limits(first.checked_add(find_constant_along_row(b, points)?)?)
         }
         Formula::Binary(BinaryOp::Sub, a, b) => {
             let first = find_first_adjacent_bin(a, points)?;
-            check_adjacent_bin_limits(first.checked_sub(find_row_constant(b, points)?)?)
+            accept_bin_number_within_limits(first.checked_sub(find_constant_along_row(b, points)?)?)
         }
         _ => None,
     }

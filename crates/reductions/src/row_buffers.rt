@@ -18,7 +18,7 @@ use std::alloc::{AllocError, Global};
 use tile_eval::{RowSource, compute_formula_capacity};
 
 // The capacity for the operands of both formulas at `n` points, if it can be counted.
-fn find_accumulator_operand_capacity(accumulator: &Accumulator, n: usize) -> Option<usize>
+fn find_accumulator_buffer_capacity(accumulator: &Accumulator, n: usize) -> Option<usize>
     ensures { IfSome result (HasRoomAlong accumulator.now n) }
 {
     let value = compute_formula_capacity(accumulator.value(), n)?;
@@ -27,7 +27,7 @@ fn find_accumulator_operand_capacity(accumulator: &Accumulator, n: usize) -> Opt
 }
 
 // Grows a row to at least `size` numbers.
-fn grow_accumulator_row(row: &mut Vec<i32>, size: usize) -> Result<(), AllocError>
+fn grow_accumulator_buffer(row: &mut Vec<i32>, size: usize) -> Result<(), AllocError>
     ensures { OnOk result (size ≤ vec_len row.new) }
 {
     if row.len() < size {
@@ -69,10 +69,10 @@ impl AccumulatorBuffers {
         ensures { OnOk result (HasRowsOver accumulator.now area.now self.new) }
     {
         let n = area.cols.len() as usize;
-        let room = find_accumulator_operand_capacity(accumulator, n).ok_or(AllocError)?;
-        grow_accumulator_row(&mut self.values, n)?;
-        grow_accumulator_row(&mut self.bins_of, n)?;
-        grow_accumulator_row(&mut self.temps, room)?;
+        let room = find_accumulator_buffer_capacity(accumulator, n).ok_or(AllocError)?;
+        grow_accumulator_buffer(&mut self.values, n)?;
+        grow_accumulator_buffer(&mut self.bins_of, n)?;
+        grow_accumulator_buffer(&mut self.temps, room)?;
         Ok(())
     }
 

@@ -3,12 +3,12 @@ use Rattle.std.specs.Prelude.{ℤ, pos, ◌^◌, unsigned_abs}
 use Rattle.domains.specs.Arithmetic.{wrapped, clamped, floor_div}
 use Rattle.row_kernels.specs.Added.{added}
 use Rattle.row_kernels.specs.declared.changes.Clamping.{Clamping as Bounds}
-use Rattle.row_kernels.specs.declared.changes.RoundedShift.{RoundedShift}
+use Rattle.row_kernels.specs.declared.changes.ShiftEpilogue.{ShiftEpilogue}
 use Rattle.row_kernels.specs.declared.finish.Epilogue.{Epilogue}
 use Rattle.row_kernels.specs.declared.finish.Epilogue.TheVariants.{Nothing, Absolute, Shift, Clamping, ShiftAndClamping}
 
 -- a number is added, and the sum divided by a power of two, rounded down
-abbrev pub shifted : RoundedShift → ℤ → ℤ
+abbrev pub shifted : ShiftEpilogue → ℤ → ℤ
 shifted s v = floor_div (added v s.add) (pos (2 ^ s.count.bits))
 
 abbrev pub cut : Bounds → ℤ → ℤ

@@ -22,7 +22,7 @@ pub struct BufferView<'a> {
 }
 
 // How far a number of a span lies after the first.
-pub(crate) fn offset_in_span(span: &Span, v: i32) -> usize
+pub(crate) fn count_span_steps_to_number(span: &Span, v: i32) -> usize
     requires { Holds span.now v }
     ensures number { result ≡ int_gap span.now.lo v }
     ensures below { result < len_of span.now }
@@ -32,7 +32,7 @@ pub(crate) fn offset_in_span(span: &Span, v: i32) -> usize
 }
 
 // `count` numbers from a place on.
-fn borrow_buffer_values(values: &[i32], place: usize, count: usize) -> &[i32]
+fn slice_buffer_view_values(values: &[i32], place: usize, count: usize) -> &[i32]
     requires { place + count ≤ length values.now }
     ensures count { length result.now ≡ count }
     ensures values { EachPlace count (λ k. at result.now k ≡ at values.now (place + k)) }
@@ -40,7 +40,7 @@ fn borrow_buffer_values(values: &[i32], place: usize, count: usize) -> &[i32]
     &values[place..place + count]
 }
 
-fn read_buffer_value(values: &[i32], place: usize) -> i32
+fn read_value_at_place(values: &[i32], place: usize) -> i32
     requires { place < length values.now }
     ensures { result ≡ at values.now place }
 {
@@ -83,7 +83,7 @@ impl<'a> BufferView<'a> {
         if count == 0 {
             return &[];
         }
-        borrow_buffer_values(self.values, self.locate_point(row, first), count)
+        slice_buffer_view_values(self.values, self.locate_point(row, first), count)
     }
 
     /// Writes the values along a row, at the columns that an index takes at the columns of some points.
@@ -107,7 +107,7 @@ impl<'a> BufferView<'a> {
         requires { HoldsPoint self.now.area row col }
         ensures { result ≡ at self.now.values.now (place_of self.now.area row col) }
     {
-        read_buffer_value(self.values, self.locate_point(row, col))
+        read_value_at_place(self.values, self.locate_point(row, col))
     }
 
     // The place of a point among the values.
@@ -116,6 +116,7 @@ impl<'a> BufferView<'a> {
         ensures { result ≡ place_of self.now.area row col }
     {
         let cols = &self.area.cols;
-        offset_in_span(&self.area.rows, row) * cols.len() as usize + offset_in_span(cols, col)
+        count_span_steps_to_number(&self.area.rows, row) * cols.len() as usize
+            + count_span_steps_to_number(cols, col)
     }
 }

@@ -111,23 +111,26 @@ impl NumberMap for RightShift {
 
 /// The sum with a number, divided by a power of two, rounded down.
 #[derive(Clone, Copy, Debug)]
-pub struct RoundedShift {
+pub struct ShiftEpilogue {
     pub(crate) add: i32,
     pub(crate) count: ShiftCount,
 }
 
-impl NumberMap for RoundedShift {
+impl NumberMap for ShiftEpilogue {
     ghost value = { λ s a. floor_div (added a s.add) (pos (2 ^ s.count.bits)) };
 
     #[inline]
     fn apply_to_number(&self, number: i32) -> i32 {
-        floor_shr(add_before_shift(number, self.add), self.count.bits)
+        floor_shr(
+            add_to_number_before_shift(number, self.add),
+            self.count.bits,
+        )
     }
 }
 
 // The sum of two numbers. (Nothing is added where the right one is 0, so that there is nothing to choose.)
 #[inline]
-fn add_before_shift(left: i32, right: i32) -> i32
+fn add_to_number_before_shift(left: i32, right: i32) -> i32
     ensures { result ≡ added left right }
 {
     wrapping_add(left, right)

@@ -32,7 +32,7 @@ trait RowUpdate: Copy {
     ghost value: { Self → ℤ → ℕ → ℤ };
 
     /// Computes it.
-    fn update_number(&self, number: i32, k: usize) -> i32
+    fn update_number_at_place(&self, number: i32, k: usize) -> i32
         requires { has self.now k }
         ensures { result ≡ value self.now number k };
 }
@@ -40,7 +40,7 @@ trait RowUpdate: Copy {
 impl<'a> ClampedDifference<'a> {
     // The addend at a place.
     #[inline]
-    fn compute_addend(&self, k: usize) -> i32
+    fn compute_addend_at_place(&self, k: usize) -> i32
         requires left { k < length self.now.left.now }
         requires right { k < length self.now.right.now }
         ensures { result ≡ difference_at self.now k }
@@ -57,8 +57,8 @@ impl<'a> RowUpdate for ClampedDifference<'a> {
     ghost value = { λ d n k. wrapped (n +ℤ difference_at d k) };
 
     #[inline]
-    fn update_number(&self, number: i32, k: usize) -> i32 {
-        wrapping_add(number, self.compute_addend(k))
+    fn update_number_at_place(&self, number: i32, k: usize) -> i32 {
+        wrapping_add(number, self.compute_addend_at_place(k))
     }
 }
 
@@ -72,8 +72,8 @@ impl<'a> RowUpdate for ReplacingDifference<'a> {
     ghost value = { λ s n k. difference_at s.0 k };
 
     #[inline]
-    fn update_number(&self, _number: i32, k: usize) -> i32 {
-        self.0.compute_addend(k)
+    fn update_number_at_place(&self, _number: i32, k: usize) -> i32 {
+        self.0.compute_addend_at_place(k)
     }
 }
 
@@ -87,23 +87,24 @@ impl<U: RowUpdate, V: RowUpdate> RowUpdate for UpdateSequence<U, V> {
     ghost value = { λ s n k. V.value s.1 (U.value s.0 n k) k };
 
     #[inline]
-    fn update_number(&self, number: i32, k: usize) -> i32 {
-        self.1.update_number(self.0.update_number(number, k), k)
+    fn update_number_at_place(&self, number: i32, k: usize) -> i32 {
+        self.1
+            .update_number_at_place(self.0.update_number_at_place(number, k), k)
     }
 }
 
 // Updates each number of a row.
-fn update_row<U: RowUpdate>(out: &mut [i32], make: U)
+fn apply_update_to_row<U: RowUpdate>(out: &mut [i32], make: U)
     requires { EachPlace (length out.old) (U.has make) }
     ensures { EachPlace (length out.old) (λ k. at out.new k ≡ U.value make (at out.old k) k) }
 {
     for k in 0..out.len() {
-        out[k] = make.update_number(out[k], k);
+        out[k] = make.update_number_at_place(out[k], k);
     }
 }
 
 // Writes an operand, updates it, and applies an epilogue.
-fn update_row_with_epilogue<U: RowUpdate>(
+fn update_operand_with_epilogue<U: RowUpdate>(
     out: &mut [i32],
     first: Operand,
     make: U,
@@ -115,7 +116,7 @@ fn update_row_with_epilogue<U: RowUpdate>(
         ≡ epilogue_value finish (U.value make (operand_at first.entry out.old k) k)) }
 {
     write_operand_to_row(out, first);
-    update_row(out, make);
+    apply_update_to_row(out, make);
     apply_epilogue_to_row(out, Operand::Written, finish);
 }
 
@@ -125,7 +126,7 @@ pub fn write_clamped_difference(out: &mut [i32], of: ClampedDifference, finish: 
     ensures { EachPlace (length out.old)
         (λ k. at out.new k ≡ epilogue_value finish (difference_at of.entry k)) }
 {
-    update_row_with_epilogue(out, Operand::Written, ReplacingDifference(of), finish);
+    update_operand_with_epilogue(out, Operand::Written, ReplacingDifference(of), finish);
 }
 
 /// Writes what an epilogue makes of the sum of an operand and a clamped difference.
@@ -140,7 +141,7 @@ pub fn add_clamped_difference(
     ensures { EachPlace (length out.old) (λ k. at out.new k ≡ epilogue_value finish
         (wrapped (operand_at first.entry out.old k +ℤ difference_at second.entry k))) }
 {
-    update_row_with_epilogue(out, first, second, finish);
+    update_operand_with_epilogue(out, first, second, finish);
 }
 
 /// Writes what an epilogue makes of the sum of an operand and two clamped differences.
@@ -157,7 +158,7 @@ pub fn add_two_clamped_differences(
         (wrapped (wrapped (operand_at first.entry out.old k +ℤ difference_at second.entry k)
         +ℤ difference_at third.entry k))) }
 {
-    update_row_with_epilogue(out, first, UpdateSequence(second, third), finish);
+    update_operand_with_epilogue(out, first, UpdateSequence(second, third), finish);
 }
 
 /// Writes what an epilogue makes of the sum of an operand and four clamped differences.
@@ -179,7 +180,7 @@ pub fn add_four_clamped_differences(
         +ℤ difference_at fourth.entry k) +ℤ difference_at fifth.entry k))) }
 {
     let front = UpdateSequence(second, third);
-    update_row_with_epilogue(
+    update_operand_with_epilogue(
         out,
         first,
         UpdateSequence(front, UpdateSequence(fourth, fifth)),

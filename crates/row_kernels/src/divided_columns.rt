@@ -21,7 +21,7 @@ pub struct DividedColumns {
 
 // What an index multiplies by.
 #[tactic(auto, using(std::proofs::lemmas::Int::ints))]
-fn get_index_multiplier(index: &Index) -> u32
+fn get_gather_multiplier(index: &Index) -> u32
     ensures number { index.now.mul ≡ pos result }
     ensures most { result ≤ 16 }
 {
@@ -30,7 +30,7 @@ fn get_index_multiplier(index: &Index) -> u32
 
 // What it divides by.
 #[tactic(auto, using(std::proofs::lemmas::Int::ints))]
-fn get_index_divisor(index: &Index) -> u32
+fn get_gather_divisor(index: &Index) -> u32
     ensures number { index.now.div ≡ pos result }
     ensures most { result ≤ 16 }
 {
@@ -39,7 +39,7 @@ fn get_index_divisor(index: &Index) -> u32
 
 // The remainder of the division at a column.
 #[tactic(auto, using(std::proofs::lemmas::Int::ints))]
-fn find_index_remainder(index: &Index, col: i32) -> u32
+fn find_gather_remainder(index: &Index, col: i32) -> u32
     requires least { negsuc 32767 ≤ℤ col }
     requires most { col ≤ℤ pos 32768 }
     ensures rest { floor_rem (index.now.mul *ℤ col +ℤ index.now.add) index.now.div ≡ pos result }
@@ -63,9 +63,9 @@ impl DividedColumns {
             ≡ index_at index.now col +ℤ pos (column_steps result k) }
     {
         DividedColumns {
-            left: find_index_remainder(index, col),
-            step: get_index_multiplier(index),
-            reciprocal: Reciprocal::new(get_index_divisor(index)),
+            left: find_gather_remainder(index, col),
+            step: get_gather_multiplier(index),
+            reciprocal: Reciprocal::new(get_gather_divisor(index)),
         }
     }
 

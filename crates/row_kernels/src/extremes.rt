@@ -13,7 +13,7 @@ use crate::finish::Epilogue;
 use crate::finishes::apply_epilogue_to_row;
 use crate::line_pair::LinePair;
 use crate::operand::Operand;
-use crate::sums::apply_two_pair_maps_to_row;
+use crate::sums::combine_three_operands_to_row;
 use row_loops::{Greatest, Least, PairMap};
 
 impl Extreme {
@@ -29,7 +29,7 @@ impl Extreme {
 }
 
 // Writes what a pair makes of the results of another one at two lines and at two other lines.
-fn combine_row_pairs<P: PairMap<Made = i32>>(
+fn combine_extremes_of_row_pairs<P: PairMap<Made = i32>>(
     out: &mut [i32],
     first: &[i32],
     second: &[i32],
@@ -53,7 +53,7 @@ fn combine_row_pairs<P: PairMap<Made = i32>>(
 
 // Writes what an outer pair makes of the results of an inner one: at the first two lines, and at what the outer pair makes of the
 // next two and the fifth.
-fn combine_median_rows<P: PairMap<Made = i32>, Q: PairMap<Made = i32>>(
+fn combine_extremes_into_medians<P: PairMap<Made = i32>, Q: PairMap<Made = i32>>(
     out: &mut [i32],
     first: &[i32],
     second: &[i32],
@@ -96,8 +96,8 @@ pub fn write_extremes_of_three(
         (operand_at second.entry out.old k)) (operand_at third.entry out.old k))) }
 {
     match extreme {
-        Extreme::Least => apply_two_pair_maps_to_row(out, first, second, third, Least, Least),
-        Extreme::Greatest => apply_two_pair_maps_to_row(
+        Extreme::Least => combine_three_operands_to_row(out, first, second, third, Least, Least),
+        Extreme::Greatest => combine_three_operands_to_row(
             out, first, second, third, Greatest, Greatest,
         ),
     }
@@ -119,8 +119,8 @@ pub fn write_extremes_of_pairs(
 {
     let (a, b, c, d) = (pair.left, pair.right, other.left, other.right);
     match extreme {
-        Extreme::Least => combine_row_pairs(out, a, b, c, d, Least),
-        Extreme::Greatest => combine_row_pairs(out, a, b, c, d, Greatest),
+        Extreme::Least => combine_extremes_of_row_pairs(out, a, b, c, d, Least),
+        Extreme::Greatest => combine_extremes_of_row_pairs(out, a, b, c, d, Greatest),
     }
     apply_epilogue_to_row(out, Operand::Written, finish);
 }
@@ -128,7 +128,7 @@ pub fn write_extremes_of_pairs(
 /// For the greatest, writes the greater of two numbers: the lesser of the first pair, and the lesser of the fifth line and the
 /// greater of the other pair. For the least, the same with least and greatest exchanged. With the same two lines in both pairs,
 /// it is the median of three. An epilogue is applied to it.
-pub fn write_medians(
+pub fn write_medians_to_row(
     extreme: Extreme,
     out: &mut [i32],
     pair: LinePair,
@@ -145,8 +145,8 @@ pub fn write_medians(
 {
     let (a, b, c, d) = (pair.left, pair.right, other.left, other.right);
     match extreme {
-        Extreme::Least => combine_median_rows(out, a, b, c, d, fifth, Greatest, Least),
-        Extreme::Greatest => combine_median_rows(out, a, b, c, d, fifth, Least, Greatest),
+        Extreme::Least => combine_extremes_into_medians(out, a, b, c, d, fifth, Greatest, Least),
+        Extreme::Greatest => combine_extremes_into_medians(out, a, b, c, d, fifth, Least, Greatest),
     }
     apply_epilogue_to_row(out, Operand::Written, finish);
 }

@@ -1,7 +1,7 @@
 #![tactic(auto)]
 //! Epilogues: what is applied to the results of an operator in the same pass over the row.
 
-use crate::changes::{Clamping, RoundedShift};
+use crate::changes::{Clamping, ShiftEpilogue};
 
 /// What is applied to the results of an operator, in the same pass over the row.
 #[derive(Clone, Copy, Debug)]
@@ -11,9 +11,9 @@ pub enum Epilogue {
     /// Their absolute values.
     Absolute,
     /// A number is added, and the sums are divided by a power of two, rounded down.
-    Shift(RoundedShift),
+    Shift(ShiftEpilogue),
     /// They are clamped to at least a number, and then to at most another one.
     Clamping(Clamping),
     /// They are shifted first, and the result is clamped.
-    ShiftAndClamping(RoundedShift, Clamping),
+    ShiftAndClamping(ShiftEpilogue, Clamping),
 }

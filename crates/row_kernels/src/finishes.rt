@@ -10,7 +10,7 @@ ghost use Rattle.row_kernels.specs.Operands.{operand_at, Serves};
 ghost use Rattle.row_loops.specs.Rows.{EachPlace, at};
 
 use crate::changes::{
-    AbsoluteValue, ChainedMaps, Clamping, PairWithEpilogue, RoundedShift, ShiftCount,
+    AbsoluteValue, ChainedMaps, Clamping, PairWithEpilogue, ShiftCount, ShiftEpilogue,
 };
 use crate::finish::Epilogue;
 use crate::operand::Operand;
@@ -115,7 +115,7 @@ impl Epilogue {
         ensures { IfSome result (λ finish. (v : ℤ) → epilogue_value finish v
             ≡ epilogue_value self (floor_div v (pos (2 ^ bits)))) }
     {
-        let shift = RoundedShift {
+        let shift = ShiftEpilogue {
             add: 0,
             count: ShiftCount { bits },
         };
@@ -160,16 +160,16 @@ impl Epilogue {
     }
 }
 
-impl RoundedShift {
+impl ShiftEpilogue {
     // The shift with a number added first, if it adds nothing yet.
-    fn prepend_addition(self, number: i32) -> Option<RoundedShift>
+    fn prepend_addition(self, number: i32) -> Option<ShiftEpilogue>
         ensures { IfSome result (λ shift. (v : ℤ) → shifted shift v
             ≡ shifted self (wrapped (v +ℤ number))) }
     {
         if number == 0 || self.add != 0 {
             return None;
         }
-        Some(RoundedShift {
+        Some(ShiftEpilogue {
             add: number,
             count: self.count,
         })

@@ -13,7 +13,7 @@ use domains::Index;
 
 // What an index multiplies by.
 #[tactic(auto, using(std::proofs::lemmas::Int::ints))]
-fn get_index_step(index: &Index) -> usize
+fn get_gather_step(index: &Index) -> usize
     ensures { index.now.mul ≡ pos result }
 {
     index.mul() as usize
@@ -27,7 +27,7 @@ fn gather_every_second<V: RowNumbers>(numbers: V, place: usize, out: &mut [i32])
         (λ k. at out.new k ≡ V.number numbers (place + k * 2)) }
 {
     for k in 0..out.len() {
-        out[k] = numbers.read_number(place + k * 2);
+        out[k] = numbers.read_number_at_place(place + k * 2);
     }
 }
 
@@ -42,7 +42,7 @@ fn gather_every_nth<V: RowNumbers>(numbers: V, place: usize, step: usize, out: &
         return gather_every_second(numbers, place, out);
     }
     for k in 0..out.len() {
-        out[k] = numbers.read_number(place + k * step);
+        out[k] = numbers.read_number_at_place(place + k * step);
     }
 }
 
@@ -58,13 +58,13 @@ fn gather_each_twice<V: RowNumbers>(numbers: V, place: usize, left: usize, out: 
         return;
     }
     let last = out.len() - 1;
-    out[0] = numbers.read_number(place);
+    out[0] = numbers.read_number_at_place(place);
     for k in 0..(out.len() - left) / 2 {
-        let number = numbers.read_number(place + left + k);
+        let number = numbers.read_number_at_place(place + left + k);
         out[left + 2 * k] = number;
         out[left + 2 * k + 1] = number;
     }
-    out[last] = numbers.read_number(place + (left + last) / 2);
+    out[last] = numbers.read_number_at_place(place + (left + last) / 2);
 }
 
 // Takes the numbers from a place on, at the columns of a dividing index.
@@ -85,7 +85,7 @@ fn gather_divided_columns<V: RowNumbers>(
         return gather_each_twice(numbers, place, columns.first_remainder(), out);
     }
     for k in 0..out.len() {
-        out[k] = numbers.read_number(place + columns.column_steps(k));
+        out[k] = numbers.read_number_at_place(place + columns.column_steps(k));
     }
 }
 
@@ -106,7 +106,7 @@ pub fn gather_index_columns<V: RowNumbers>(
 {
     if col.div() == 1 {
         // the places of the columns lie at steps of one length
-        gather_every_nth(numbers, place, get_index_step(col), out);
+        gather_every_nth(numbers, place, get_gather_step(col), out);
     } else {
         gather_divided_columns(
             numbers,

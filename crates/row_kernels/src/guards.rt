@@ -16,7 +16,7 @@ use domains::arithmetic::floor_rem;
 use operators::{Axis, PointTest, Relation};
 use row_loops::choose_number;
 
-fn select_point_coordinate(axis: Axis, row: i32, col: i32) -> i32
+fn select_coordinate_for_mask_test(axis: Axis, row: i32, col: i32) -> i32
     ensures { result ≡ along (axis_view axis) row col }
 {
     match axis {
@@ -44,7 +44,7 @@ fn has_remainder(v: i32, modulus: u32, rest: u32) -> bool
 }
 
 // Whether a test holds at the point.
-fn is_point_test_passed(test: &PointTest, row: i32, col: i32) -> bool
+fn is_mask_test_passed_at_point(test: &PointTest, row: i32, col: i32) -> bool
     requires { IsTest (test_view test.now) }
     ensures { result ≡ is_passed (test_view test.now) row col }
 {
@@ -52,12 +52,12 @@ fn is_point_test_passed(test: &PointTest, row: i32, col: i32) -> bool
         PointTest::Compare(axis, relation, bound) => {
             is_related(
                 *relation,
-                i128::from(select_point_coordinate(*axis, row, col)),
+                i128::from(select_coordinate_for_mask_test(*axis, row, col)),
                 *bound,
             )
         }
         PointTest::Remainder(axis, modulus, rest) => has_remainder(
-            select_point_coordinate(*axis, row, col),
+            select_coordinate_for_mask_test(*axis, row, col),
             *modulus,
             *rest,
         ),
@@ -65,12 +65,12 @@ fn is_point_test_passed(test: &PointTest, row: i32, col: i32) -> bool
 }
 
 // Whether all tests hold at the point.
-fn is_every_point_test_passed(tests: &[PointTest], row: i32, col: i32) -> bool
+fn is_every_mask_test_passed_at_point(tests: &[PointTest], row: i32, col: i32) -> bool
     requires { All (λ t. IsTest (test_view t)) tests.now }
     ensures { result ≡ all_passed (map test_view tests.now) row col }
 {
     for test in tests {
-        if !is_point_test_passed(test, row, col) {
+        if !is_mask_test_passed_at_point(test, row, col) {
             return false;
         }
     }
@@ -114,7 +114,7 @@ pub fn find_row_mask(tests: &[PointTest], points: &RowSpan) -> RowMask
 }
 
 // The remainder of the division of a number.
-fn compute_floor_remainder(v: i32, modulus: u32) -> u32
+fn compute_column_remainder(v: i32, modulus: u32) -> u32
     requires { IsDivisor modulus }
     ensures number { pos result ≡ floor_rem v (pos modulus) }
     ensures below { result < modulus }
@@ -142,7 +142,7 @@ fn count_columns_to_remainder(left: u32, modulus: u32, rest: u32) -> usize
 }
 
 // Takes the numbers of the other row at every second place. (Each place is written, which allows vector code.)
-fn copy_alternate_columns(out: &mut [i32], other: &[i32], first: u32)
+fn copy_columns_of_remainder_by_two(out: &mut [i32], other: &[i32], first: u32)
     requires other { length other.now ≡ length out.old }
     requires short { length out.old < 65536 }
     ensures { EachPlace (length out.old) (λ k. at out.new k
@@ -167,12 +167,12 @@ fn copy_remainder_columns(out: &mut [i32], other: &[i32], modulus: u32, rest: u3
         return;
     }
     let first = count_columns_to_remainder(
-        compute_floor_remainder(points.col, modulus),
+        compute_column_remainder(points.col, modulus),
         modulus,
         rest,
     );
     if modulus == 2 {
-        return copy_alternate_columns(out, other, first as u32);
+        return copy_columns_of_remainder_by_two(out, other, first as u32);
     }
     let mut k = first;
     while k < out.len() {
@@ -182,7 +182,12 @@ fn copy_remainder_columns(out: &mut [i32], other: &[i32], modulus: u32, rest: u3
 }
 
 // Takes the numbers of the other row where all tests hold, by testing each point.
-fn copy_passing_points(out: &mut [i32], other: &[i32], tests: &[PointTest], points: &RowSpan)
+fn copy_row_where_mask_tests_pass(
+    out: &mut [i32],
+    other: &[i32],
+    tests: &[PointTest],
+    points: &RowSpan,
+)
     requires other { length other.now ≡ length out.old }
     requires tests { All (λ t. IsTest (test_view t)) tests.now }
     requires fits { length out.old ≡ points.now.len }
@@ -191,14 +196,14 @@ fn copy_passing_points(out: &mut [i32], other: &[i32], tests: &[PointTest], poin
         then at other.now k else at out.old k)) }
 {
     for k in 0..out.len() {
-        if is_every_point_test_passed(tests, points.row, points.column(k)) {
+        if is_every_mask_test_passed_at_point(tests, points.row, points.column(k)) {
             out[k] = other[k];
         }
     }
 }
 
 /// Takes the numbers of the other row where all tests hold, in a row of points that lie in the bounds.
-pub fn copy_masked_row(
+pub fn copy_row_where_mask_holds(
     out: &mut [i32],
     other: &[i32],
     tests: &[PointTest],
@@ -219,6 +224,6 @@ pub fn copy_masked_row(
         RowMask::Leaving(modulus, rest) => copy_remainder_columns(
             out, other, modulus, rest, points,
         ),
-        _ => copy_passing_points(out, other, tests, points),
+        _ => copy_row_where_mask_tests_pass(out, other, tests, points),
     }
 }

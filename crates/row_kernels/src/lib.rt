@@ -1,4 +1,7 @@
 //! Rows of numbers and operations on them, place by place: kernels of formulas and guards, independent of stages.
+//!
+//! Words: row span, buffer view, operand, epilogue, with epilogue, mask, gather, divided column, clamped difference, extreme,
+//! remainder, reciprocal, to row, to number, at place, related, dividend, restore sign.
 #![tactic(auto)]
 
 mod buffer_view;
@@ -29,20 +32,20 @@ pub use differences::{
     add_two_clamped_differences, write_clamped_difference,
 };
 pub use extreme::Extreme;
-pub use extremes::{write_extremes_of_pairs, write_extremes_of_three, write_medians};
+pub use extremes::{write_extremes_of_pairs, write_extremes_of_three, write_medians_to_row};
 pub use finish::Epilogue;
 pub use finishes::apply_epilogue_to_row;
 pub use gathering::gather_index_columns;
-pub use guards::{RowMask, copy_masked_row, find_row_mask};
+pub use guards::{RowMask, copy_row_where_mask_holds, find_row_mask};
 pub use line_pair::LinePair;
-pub use lookup::look_up_row_in_table;
+pub use lookup::write_table_lookups_to_row;
 pub use operand::Operand;
 pub use row_operators::{
     apply_binary_to_row, apply_literal_op_to_row, apply_scaled_binary_to_row, apply_ternary_to_row,
-    apply_unary_to_number, apply_unary_to_row, divide_row, select_row_by_relation,
+    apply_unary_to_number, apply_unary_to_row, select_by_operand_relation, write_quotients_to_row,
 };
-pub use row_span::{RowSpan, offset_coordinate};
+pub use row_span::{RowSpan, find_coordinate_at_place};
 pub use sample_rows::{convert_samples_to_row, gather_samples};
-pub use sums::write_sum_of_addends;
+pub use sums::write_sum_of_addends_to_row;
 pub use term::Addend;
 pub use values::RowNumbers;

@@ -8,7 +8,7 @@ ghost use Rattle.row_kernels.specs.Operands.{operand_at, Serves};
 ghost use Rattle.row_loops.specs.Rows.{EachPlace, at};
 ghost use Rattle.tables.specs.Entries.{entry_at};
 
-use crate::buffer_view::offset_in_span;
+use crate::buffer_view::count_span_steps_to_number;
 use crate::changes::Clamping;
 use crate::operand::Operand;
 use crate::operand_rows::map_operand_to_row;
@@ -26,7 +26,7 @@ struct BorrowedTable<'a> {
 
 // The number of the span that is nearest to v.
 #[inline]
-fn clamp_to_span(span: &Span, v: i32) -> i32
+fn clamp_to_number_in_span(span: &Span, v: i32) -> i32
     ensures holds { Holds span.now result }
     ensures value { result ≡ clamped v span.now.lo span.now.hi }
 {
@@ -48,13 +48,16 @@ impl NumberMap for TableLookup<'_> {
 
     #[inline]
     fn apply_to_number(&self, number: i32) -> i32 {
-        self.table.values[offset_in_span(&self.table.span, clamp_to_span(&self.table.span, number))]
+        self.table.values[count_span_steps_to_number(
+            &self.table.span,
+            clamp_to_number_in_span(&self.table.span, number),
+        )]
     }
 }
 
 /// Writes the entries of a table at the numbers of an operand. A number below the first index takes the first entry, and one
 /// above the last takes the last.
-pub fn look_up_row_in_table(out: &mut [i32], of: Operand, table: &TableEntries)
+pub fn write_table_lookups_to_row(out: &mut [i32], of: Operand, table: &TableEntries)
     requires { Serves (length out.old) of }
     ensures { EachPlace (length out.old) (λ k. at out.new k
         ≡ entry_at table.now (operand_at of.entry out.old k)) }

@@ -73,7 +73,7 @@ pub(crate) fn combine_operands_to_row<P: PairMap<Made = i32>>(
 }
 
 // Keeps its own number where that of a line is related to one, and takes the other number elsewhere.
-fn select_row_where_related<R: PairMap<Made = bool>, V: RowNumbers, W: RowNumbers>(
+fn keep_numbers_where_related<R: PairMap<Made = bool>, V: RowNumbers, W: RowNumbers>(
     out: &mut [i32],
     other: W,
     left: &[i32],
@@ -88,9 +88,9 @@ fn select_row_where_related<R: PairMap<Made = bool>, V: RowNumbers, W: RowNumber
         else W.number other k)) }
 {
     for k in 0..out.len() {
-        let (mine, its) = (out[k], other.read_number(k));
+        let (mine, its) = (out[k], other.read_number_at_place(k));
         out[k] = choose_number(
-            relate.apply_to_pair(left[k], right.read_number(k)),
+            relate.apply_to_pair(left[k], right.read_number_at_place(k)),
             mine,
             its,
         );
@@ -98,7 +98,7 @@ fn select_row_where_related<R: PairMap<Made = bool>, V: RowNumbers, W: RowNumber
 }
 
 // Keeps a number where that of a line is related to another one, and takes the operand elsewhere.
-fn select_row_or_operand<R: PairMap<Made = bool>, V: RowNumbers>(
+fn keep_numbers_or_take_operand<R: PairMap<Made = bool>, V: RowNumbers>(
     out: &mut [i32],
     left: &[i32],
     right: V,
@@ -113,14 +113,14 @@ fn select_row_or_operand<R: PairMap<Made = bool>, V: RowNumbers>(
         else operand_at other.entry out.old k)) }
 {
     match other {
-        Operand::Line(other) => select_row_where_related(out, other, left, right, relate),
-        Operand::Number(other) => select_row_where_related(out, other, left, right, relate),
+        Operand::Line(other) => keep_numbers_where_related(out, other, left, right, relate),
+        Operand::Number(other) => keep_numbers_where_related(out, other, left, right, relate),
         Operand::Written => {}
     }
 }
 
 /// Keeps a number where two operands are related, and takes that of another operand elsewhere.
-pub(crate) fn select_operand_where_related<R: PairMap<Made = bool>>(
+pub(crate) fn keep_numbers_where_operands_related<R: PairMap<Made = bool>>(
     out: &mut [i32],
     left: Operand,
     right: Operand,
@@ -135,14 +135,14 @@ pub(crate) fn select_operand_where_related<R: PairMap<Made = bool>>(
         then at out.old k else operand_at other.entry out.old k)) }
 {
     match (left, right) {
-        (Operand::Line(left), Operand::Line(right)) => select_row_or_operand(
+        (Operand::Line(left), Operand::Line(right)) => keep_numbers_or_take_operand(
             out, left, right, other, relate,
         ),
-        (Operand::Line(left), Operand::Number(right)) => select_row_or_operand(
+        (Operand::Line(left), Operand::Number(right)) => keep_numbers_or_take_operand(
             out, left, right, other, relate,
         ),
         (Operand::Number(left), Operand::Line(right)) => {
-            select_row_or_operand(out, right, left, other, SwappedOperands(relate))
+            keep_numbers_or_take_operand(out, right, left, other, SwappedOperands(relate))
         }
         (Operand::Number(left), Operand::Number(right)) => {
             if !relate.apply_to_pair(left, right) {

@@ -16,12 +16,13 @@ use crate::finish::Epilogue;
 use crate::finishes::{apply_epilogue_to_row, combine_operands_with_epilogue};
 use crate::operand::Operand;
 use crate::operand_rows::{
-    combine_operands_to_row, map_operand_to_row, select_operand_where_related, write_operand_to_row,
+    combine_operands_to_row, keep_numbers_where_operands_related, map_operand_to_row,
+    write_operand_to_row,
 };
 use crate::reciprocal::Reciprocal;
 use operators::{BinaryOp, LiteralOp, Relation, TernaryOp, UnaryOp};
 use row_loops::{
-    AtMost, Difference, Equal, Greatest, Least, NumberMap, Product, ScaledOperand, Sum,
+    AtMost, Difference, Equal, Greatest, Least, NumberMap, Product, ScaledRightOperand, Sum,
     SwappedOperands,
 };
 
@@ -71,25 +72,40 @@ pub fn apply_scaled_binary_to_row(
             out,
             left,
             right,
-            ScaledOperand(Sum, factor),
+            ScaledRightOperand(Sum, factor),
             finish,
         ),
         BinaryOp::Sub => return combine_operands_with_epilogue(
             out,
             left,
             right,
-            ScaledOperand(Difference, factor),
+            ScaledRightOperand(Difference, factor),
             finish,
         ),
-        BinaryOp::Mul => combine_operands_to_row(out, left, right, ScaledOperand(Product, factor)),
-        BinaryOp::Min => combine_operands_to_row(out, left, right, ScaledOperand(Least, factor)),
-        BinaryOp::Max => combine_operands_to_row(out, left, right, ScaledOperand(Greatest, factor)),
+        BinaryOp::Mul => combine_operands_to_row(
+            out,
+            left,
+            right,
+            ScaledRightOperand(Product, factor),
+        ),
+        BinaryOp::Min => combine_operands_to_row(
+            out,
+            left,
+            right,
+            ScaledRightOperand(Least, factor),
+        ),
+        BinaryOp::Max => combine_operands_to_row(
+            out,
+            left,
+            right,
+            ScaledRightOperand(Greatest, factor),
+        ),
     }
     apply_epilogue_to_row(out, Operand::Written, finish);
 }
 
 /// Writes the quotients by a literal, rounded down.
-pub fn divide_row(out: &mut [i32], of: Operand, number: u32)
+pub fn write_quotients_to_row(out: &mut [i32], of: Operand, number: u32)
     requires of { Serves (length out.old) of }
     requires number { IsDivisor number }
     ensures { EachPlace (length out.old)
@@ -107,7 +123,7 @@ pub fn divide_row(out: &mut [i32], of: Operand, number: u32)
 }
 
 /// Writes the remainders of the division by a literal, rounded down.
-fn write_row_remainders(out: &mut [i32], of: Operand, number: u32)
+fn write_remainders_to_row(out: &mut [i32], of: Operand, number: u32)
     requires of { Serves (length out.old) of }
     requires number { IsDivisor number }
     ensures { EachPlace (length out.old)
@@ -135,8 +151,8 @@ pub fn apply_literal_op_to_row(op: LiteralOp, out: &mut [i32], left: Operand, nu
         (λ k. at out.new k ≡ literal_value op (operand_at left.entry out.old k) number) }
 {
     match op {
-        LiteralOp::Div => divide_row(out, left, number),
-        LiteralOp::Rem => write_row_remainders(out, left, number),
+        LiteralOp::Div => write_quotients_to_row(out, left, number),
+        LiteralOp::Rem => write_remainders_to_row(out, left, number),
         LiteralOp::Shl => map_operand_to_row(out, left, LeftShift(ShiftCount { bits: number })),
         LiteralOp::Shr => map_operand_to_row(out, left, RightShift(ShiftCount { bits: number })),
     }
@@ -188,7 +204,7 @@ pub fn apply_ternary_to_row(
 }
 
 /// Keeps a number where the left operand is in the relation to the right one, and takes the other operand elsewhere.
-pub fn select_row_by_relation(
+pub fn select_by_operand_relation(
     out: &mut [i32],
     left: Operand,
     relation: Relation,
@@ -204,14 +220,14 @@ pub fn select_row_by_relation(
         else operand_at other.entry out.old k)) }
 {
     match relation {
-        Relation::AtMost => select_operand_where_related(out, left, right, other, AtMost),
-        Relation::AtLeast => select_operand_where_related(
+        Relation::AtMost => keep_numbers_where_operands_related(out, left, right, other, AtMost),
+        Relation::AtLeast => keep_numbers_where_operands_related(
             out,
             left,
             right,
             other,
             SwappedOperands(AtMost),
         ),
-        Relation::Equals => select_operand_where_related(out, left, right, other, Equal),
+        Relation::Equals => keep_numbers_where_operands_related(out, left, right, other, Equal),
     }
 }

@@ -19,7 +19,7 @@ impl<'a> RowNumbers for SpacedBytes<'a> {
     ghost number = { λ s k. pos (slice_index s.bytes.now (k * s.step)) };
 
     #[inline]
-    fn read_number(&self, k: usize) -> i32 {
+    fn read_number_at_place(&self, k: usize) -> i32 {
         i32::from(self.bytes[k * self.step])
     }
 }
@@ -32,7 +32,7 @@ impl<'a> RowNumbers for SpacedPairs<'a> {
         + slice_index s.bytes.now (k * s.step + 1)) };
 
     #[inline]
-    fn read_number(&self, k: usize) -> i32 {
+    fn read_number_at_place(&self, k: usize) -> i32 {
         let place = k * self.step;
         256 * i32::from(self.bytes[place]) + i32::from(self.bytes[place + 1])
     }
@@ -48,7 +48,7 @@ impl<'a> RowNumbers for AdjacentBytes<'a> {
     ghost number = { λ s k. pos (slice_index s.0.bytes.now (k * s.0.step)) };
 
     #[inline]
-    fn read_number(&self, k: usize) -> i32 {
+    fn read_number_at_place(&self, k: usize) -> i32 {
         i32::from(self.0.bytes[k])
     }
 }
@@ -63,7 +63,7 @@ impl<'a> RowNumbers for EveryThirdByte<'a> {
     ghost number = { λ s k. pos (slice_index s.0.bytes.now (k * s.0.step)) };
 
     #[inline]
-    fn read_number(&self, k: usize) -> i32 {
+    fn read_number_at_place(&self, k: usize) -> i32 {
         i32::from(self.0.bytes[k * 3])
     }
 }
@@ -79,7 +79,7 @@ impl<'a> RowNumbers for AdjacentBytePairs<'a> {
         + slice_index s.0.bytes.now (k * s.0.step + 1)) };
 
     #[inline]
-    fn read_number(&self, k: usize) -> i32 {
+    fn read_number_at_place(&self, k: usize) -> i32 {
         256 * i32::from(self.0.bytes[k * 2]) + i32::from(self.0.bytes[k * 2 + 1])
     }
 }
@@ -91,7 +91,7 @@ fn copy_numbers_to_row<V: RowNumbers>(numbers: V, place: usize, out: &mut [i32])
     ensures { EachPlace (length out.old) (λ k. at out.new k ≡ V.number numbers (place + k)) }
 {
     for k in 0..out.len() {
-        out[k] = numbers.read_number(place + k);
+        out[k] = numbers.read_number_at_place(place + k);
     }
 }
 
@@ -134,7 +134,7 @@ pub fn convert_samples_to_row(samples: &PlaneSamples<'_>, place: usize, out: &mu
     }
 }
 
-fn gather_byte_samples(
+fn gather_bytes_to_row(
     spaced: &SpacedBytes<'_>,
     place: usize,
     col: &Index,
@@ -153,7 +153,7 @@ fn gather_byte_samples(
     gather_index_columns(*spaced, place, col, points, out)
 }
 
-fn gather_byte_pair_samples(
+fn gather_byte_pairs_to_row(
     spaced: &SpacedPairs<'_>,
     place: usize,
     col: &Index,
@@ -190,7 +190,7 @@ pub fn gather_samples(
 {
     match samples {
         PlaneSamples::Words(words) => gather_index_columns(*words, place, col, points, out),
-        PlaneSamples::Bytes(spaced) => gather_byte_samples(spaced, place, col, points, out),
-        PlaneSamples::Pairs(spaced) => gather_byte_pair_samples(spaced, place, col, points, out),
+        PlaneSamples::Bytes(spaced) => gather_bytes_to_row(spaced, place, col, points, out),
+        PlaneSamples::Pairs(spaced) => gather_byte_pairs_to_row(spaced, place, col, points, out),
     }
 }

@@ -15,11 +15,11 @@ use crate::operand::Operand;
 use crate::operand_rows::combine_operands_to_row;
 use crate::term::Addend;
 use row_loops::{
-    PairMap, ScaledOperand, Sum, combine_two_rows_in_place, write_three_combined_rows,
+    PairMap, ScaledRightOperand, Sum, combine_row_with_two_rows_in_place, write_three_combined_rows,
 };
 
 /// Writes what a pair makes of two operands, joined with a third one by another pair: in one pass if both at the right are lines.
-pub(crate) fn apply_two_pair_maps_to_row<P: PairMap<Made = i32>, Q: PairMap<Made = i32>>(
+pub(crate) fn combine_three_operands_to_row<P: PairMap<Made = i32>, Q: PairMap<Made = i32>>(
     out: &mut [i32],
     first: Operand,
     second: Operand,
@@ -39,7 +39,7 @@ pub(crate) fn apply_two_pair_maps_to_row<P: PairMap<Made = i32>, Q: PairMap<Made
             write_three_combined_rows(out, first, second, third, inner, outer)
         }
         (Operand::Written, Operand::Line(second), Operand::Line(third)) => {
-            combine_two_rows_in_place(out, second, third, inner, outer)
+            combine_row_with_two_rows_in_place(out, second, third, inner, outer)
         }
         _ => {
             combine_operands_to_row(out, first, second, inner);
@@ -49,7 +49,7 @@ pub(crate) fn apply_two_pair_maps_to_row<P: PairMap<Made = i32>, Q: PairMap<Made
 }
 
 // The same with an epilogue: in the same pass if nothing is clamped.
-fn combine_three_with_epilogue<P: PairMap<Made = i32>, Q: PairMap<Made = i32>>(
+fn combine_three_operands_with_epilogue<P: PairMap<Made = i32>, Q: PairMap<Made = i32>>(
     out: &mut [i32],
     first: Operand,
     second: Operand,
@@ -66,7 +66,7 @@ fn combine_three_with_epilogue<P: PairMap<Made = i32>, Q: PairMap<Made = i32>>(
         (operand_at second.entry out.old k)) (operand_at third.entry out.old k))) }
 {
     if let Epilogue::Shift(shift) = finish {
-        return apply_two_pair_maps_to_row(
+        return combine_three_operands_to_row(
             out,
             first,
             second,
@@ -75,12 +75,12 @@ fn combine_three_with_epilogue<P: PairMap<Made = i32>, Q: PairMap<Made = i32>>(
             PairWithEpilogue(outer, shift),
         );
     }
-    apply_two_pair_maps_to_row(out, first, second, third, inner, outer);
+    combine_three_operands_to_row(out, first, second, third, inner, outer);
     apply_epilogue_to_row(out, Operand::Written, finish);
 }
 
 /// Writes what an epilogue makes of the sum of an operand and two addends.
-pub fn write_sum_of_addends(
+pub fn write_sum_of_addends_to_row(
     out: &mut [i32],
     first: Operand,
     second: Addend,
@@ -96,33 +96,33 @@ pub fn write_sum_of_addends(
 {
     let (b, c) = (second.of, third.of);
     match (second.factor, third.factor) {
-        (None, None) => combine_three_with_epilogue(out, first, b, c, Sum, Sum, finish),
-        (None, Some(n)) => combine_three_with_epilogue(
+        (None, None) => combine_three_operands_with_epilogue(out, first, b, c, Sum, Sum, finish),
+        (None, Some(n)) => combine_three_operands_with_epilogue(
             out,
             first,
             b,
             c,
             Sum,
-            ScaledOperand(Sum, n),
+            ScaledRightOperand(Sum, n),
             finish,
         ),
-        (Some(m), None) => combine_three_with_epilogue(
+        (Some(m), None) => combine_three_operands_with_epilogue(
             out,
             first,
             b,
             c,
-            ScaledOperand(Sum, m),
+            ScaledRightOperand(Sum, m),
             Sum,
             finish,
         ),
         (Some(m), Some(n)) => {
-            combine_three_with_epilogue(
+            combine_three_operands_with_epilogue(
                 out,
                 first,
                 b,
                 c,
-                ScaledOperand(Sum, m),
-                ScaledOperand(Sum, n),
+                ScaledRightOperand(Sum, m),
+                ScaledRightOperand(Sum, n),
                 finish,
             )
         }

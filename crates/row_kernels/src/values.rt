@@ -12,7 +12,7 @@ pub trait RowNumbers: Copy {
     ghost number: { Self → ℕ → ℤ };
 
     /// The number at a place.
-    fn read_number(&self, k: usize) -> i32
+    fn read_number_at_place(&self, k: usize) -> i32
         requires { has self.now k }
         ensures { result ≡ number self.now k };
 }
@@ -24,7 +24,7 @@ impl RowNumbers for i32 {
     ghost number = { λ n _. n };
 
     #[inline]
-    fn read_number(&self, _k: usize) -> i32 {
+    fn read_number_at_place(&self, _k: usize) -> i32 {
         *self
     }
 }
@@ -35,7 +35,7 @@ impl<'a> RowNumbers for &'a [i32] {
     ghost number = { λ line k. at line.now k };
 
     #[inline]
-    fn read_number(&self, k: usize) -> i32 {
+    fn read_number_at_place(&self, k: usize) -> i32 {
         self[k]
     }
 }
@@ -47,7 +47,7 @@ impl<'a> RowNumbers for &'a [u16] {
     ghost number = { λ samples k. pos (slice_index samples.now k) };
 
     #[inline]
-    fn read_number(&self, k: usize) -> i32 {
+    fn read_number_at_place(&self, k: usize) -> i32 {
         i32::from(self[k])
     }
 }

@@ -1,4 +1,6 @@
 //! Loops over rows of numbers: each place becomes what an operation makes of the numbers there.
+//!
+//! Words: fill row, mapped row, combined row, row in place, pair map, number map, to pair, choose number.
 #![tactic(auto)]
 
 mod loops;
@@ -6,11 +8,12 @@ mod pairs;
 mod row_change;
 
 pub use loops::{
-    choose_number, combine_row_in_place, combine_two_rows_in_place, fill_row, fill_row_counting_up,
-    map_row_in_place, write_combined_rows, write_mapped_row, write_three_combined_rows,
+    choose_number, combine_row_in_place, combine_row_with_two_rows_in_place, fill_row,
+    fill_row_counting_up, map_row_in_place, write_combined_rows, write_mapped_row,
+    write_three_combined_rows,
 };
 pub use pairs::{
-    AtMost, Difference, Equal, Greatest, Least, PairMap, Product, ScaledOperand, Sum,
+    AtMost, Difference, Equal, Greatest, Least, PairMap, Product, ScaledRightOperand, Sum,
     SwappedOperands,
 };
 pub use row_change::NumberMap;

@@ -76,7 +76,7 @@ pub fn write_combined_rows<P: PairMap<Made = i32>>(
 }
 
 /// Joins each number with that of a line, and the result with that of another line.
-pub fn combine_two_rows_in_place<P: PairMap<Made = i32>, Q: PairMap<Made = i32>>(
+pub fn combine_row_with_two_rows_in_place<P: PairMap<Made = i32>, Q: PairMap<Made = i32>>(
     out: &mut [i32],
     second: &[i32],
     third: &[i32],

@@ -142,9 +142,9 @@ impl<P: PairMap> PairMap for SwappedOperands<P> {
 
 /// What a pair makes of a number and of the other one times a factor.
 #[derive(Clone, Copy)]
-pub struct ScaledOperand<P: PairMap>(pub P, pub i32);
+pub struct ScaledRightOperand<P: PairMap>(pub P, pub i32);
 
-impl<P: PairMap> PairMap for ScaledOperand<P> {
+impl<P: PairMap> PairMap for ScaledRightOperand<P> {
     type Made = P::Made;
 
     ghost value = { λ s a b. P.value s.0 a (wrapped (s.1 *ℤ b)) };

@@ -4,10 +4,10 @@ ghost use Rattle.std.specs.Prelude.{◌≡◌, ◌≤◌, ◌-◌, vec_len, take
 ghost use Rattle.std.specs.Borrow.{sem};
 ghost use Rattle.scratch.specs.VecParts.{LendsVec, LendsVecPart};
 
-use crate::parts::split_slice_at_range;
+use crate::parts::split_scratch_slice_at_range;
 
 /// All the numbers of a `Vec`.
-fn borrow_vec_numbers(all: &mut Vec<i32>) -> &mut [i32]
+fn view_scratch_vec_as_mut_slice(all: &mut Vec<i32>) -> &mut [i32]
     ensures value { result.now ≡ all.old.items }
     ensures* writes_back { sem 𝓛 (LendsVec all.entry result) }
 {
@@ -15,7 +15,7 @@ fn borrow_vec_numbers(all: &mut Vec<i32>) -> &mut [i32]
 }
 
 /// The numbers of a `Vec` before a range, in it and after it.
-pub fn split_vec_at_range(
+pub fn split_scratch_vec_at_range(
     all: &mut Vec<i32>,
     start: usize,
     end: usize,
@@ -27,5 +27,5 @@ pub fn split_vec_at_range(
     ensures behind { result.2.now ≡ drop end all.old.items }
     ensures* writes_back { sem 𝓛 (LendsVecPart all.entry start end result.1) }
 {
-    split_slice_at_range(borrow_vec_numbers(all), start, end)
+    split_scratch_slice_at_range(view_scratch_vec_as_mut_slice(all), start, end)
 }

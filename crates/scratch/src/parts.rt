@@ -7,7 +7,7 @@ ghost use Rattle.scratch.specs.Parts.{LendsPart};
 use std::slice;
 
 /// The numbers before a range, in it and after it.
-pub fn split_slice_at_range(
+pub fn split_scratch_slice_at_range(
     all: &mut [i32],
     start: usize,
     end: usize,

@@ -4,7 +4,7 @@
 ghost use Rattle.std.specs.Prelude.{◌≡◌, ◌≤◌, length, take, drop, slice_range, OnOk};
 ghost use Rattle.std.specs.Borrow.{sem};
 
-use crate::numbers::split_vec_at_range;
+use crate::numbers::split_scratch_vec_at_range;
 use std::alloc::{AllocError, Global};
 use std::ops::Range;
 
@@ -55,6 +55,6 @@ impl Scratch {
         ensures behind { result.2.now ≡ drop range.end (numbers_of self.old) }
         ensures* writes_back { sem 𝓛 (LendsRange self.entry range result.1) }
     {
-        split_vec_at_range(&mut self.numbers, range.start, range.end)
+        split_scratch_vec_at_range(&mut self.numbers, range.start, range.end)
     }
 }

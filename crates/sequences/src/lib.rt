@@ -1,4 +1,6 @@
 //! Lists that contracts see.
+//!
+//! Words: sequence.
 #![tactic(auto)]
 
 mod numbers;

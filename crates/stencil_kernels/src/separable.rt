@@ -19,8 +19,8 @@ impl SeparableKernel {
     pub fn from_kernel(kernel: &Kernel) -> Option<SeparableKernel>
         ensures product { IfSome result (λ s. IsSeparable kernel.now s.down.items s.along.items) }
     {
-        let along = find_base_kernel_row(kernel)?;
-        let down = find_row_multiples_of_base(kernel, along.as_slice())?;
+        let along = find_base_row_of_factors(kernel)?;
+        let down = find_factors_of_base_in_kernel(kernel, along.as_slice())?;
         Some(SeparableKernel { down, along })
     }
 
@@ -40,7 +40,7 @@ impl SeparableKernel {
 }
 
 // The greatest number that divides both, and 0 if both are 0.
-fn find_common_divisor(first: u32, second: u32) -> u32 {
+fn find_greatest_common_factor(first: u32, second: u32) -> u32 {
     let (mut a, mut b) = (first, second);
     while b != 0 {
         (a, b) = (b, a % b);
@@ -49,10 +49,10 @@ fn find_common_divisor(first: u32, second: u32) -> u32 {
 }
 
 // The greatest number that divides each number of a row, and 0 if all are 0.
-fn find_kernel_row_divisor(row: &[i32]) -> u32 {
+fn find_common_factor_of_kernel_row(row: &[i32]) -> u32 {
     let mut divisor = 0;
     for number in row {
-        divisor = find_common_divisor(number.unsigned_abs(), divisor);
+        divisor = find_greatest_common_factor(number.unsigned_abs(), divisor);
     }
     divisor
 }
@@ -67,9 +67,9 @@ fn divide_row_factors(row: &[i32], divisor: i32) -> Option<ArrayVec<i32, 15>> {
 }
 
 // The first row that is not all 0, without what divides all of it: each row of whole multiples is one of this.
-fn find_base_kernel_row(kernel: &Kernel) -> Option<ArrayVec<i32, 15>> {
+fn find_base_row_of_factors(kernel: &Kernel) -> Option<ArrayVec<i32, 15>> {
     for row in kernel.as_slice() {
-        let divisor = find_kernel_row_divisor(row.as_slice());
+        let divisor = find_common_factor_of_kernel_row(row.as_slice());
         if divisor != 0 {
             return divide_row_factors(row.as_slice(), i32::try_from(divisor).ok()?);
         }
@@ -78,7 +78,7 @@ fn find_base_kernel_row(kernel: &Kernel) -> Option<ArrayVec<i32, 15>> {
 }
 
 // The factor of the base in the row, by the first place where the base is not 0.
-fn find_row_multiple_of_base(row: &[i32], base: &[i32]) -> Option<i32> {
+fn find_factor_of_base_in_row(row: &[i32], base: &[i32]) -> Option<i32> {
     for b in 0..base.len() {
         if base[b] != 0 {
             return row.get(b)?.checked_div(base[b]);
@@ -88,7 +88,7 @@ fn find_row_multiple_of_base(row: &[i32], base: &[i32]) -> Option<i32> {
 }
 
 // Whether a row is the base times a factor.
-fn is_row_multiple(row: &[i32], times: i32, base: &[i32]) -> bool
+fn is_base_times_factor(row: &[i32], times: i32, base: &[i32]) -> bool
     ensures { IsTrue result → IsMultiple row.now times base.now }
 {
     if row.len() != base.len() {
@@ -106,13 +106,13 @@ fn is_row_multiple(row: &[i32], times: i32, base: &[i32]) -> bool
 }
 
 // The factor of the base in each row of the kernel, if all rows are multiples of it.
-fn find_row_multiples_of_base(kernel: &Kernel, base: &[i32]) -> Option<ArrayVec<i32, 15>>
+fn find_factors_of_base_in_kernel(kernel: &Kernel, base: &[i32]) -> Option<ArrayVec<i32, 15>>
     ensures { IfSome result (λ down. IsSeparable kernel.now down.items base.now) }
 {
     let mut down = ArrayVec::new();
     for row in kernel.as_slice() {
-        let times = find_row_multiple_of_base(row.as_slice(), base)?;
-        if !is_row_multiple(row.as_slice(), times, base) {
+        let times = find_factor_of_base_in_row(row.as_slice(), base)?;
+        if !is_base_times_factor(row.as_slice(), times, base) {
             return None;
         }
         down.try_push(times).ok()?;

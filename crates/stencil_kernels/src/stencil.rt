@@ -9,10 +9,10 @@ ghost use Rattle.stencil_kernels.specs.Stencil.{tap_sum};
 
 use crate::quintuple::FactorQuintuple;
 use crate::stencil3x3::FactorTriple;
-use row_loops::{ScaledOperand, Sum, combine_row_in_place};
+use row_loops::{ScaledRightOperand, Sum, combine_row_in_place};
 
 /// Adds the products of a factor and the samples of a line.
-pub fn add_scaled_row(out: &mut [i32], line: &[i32], factor: i32)
+pub fn add_line_times_factor(out: &mut [i32], line: &[i32], factor: i32)
     requires { length line.now ≡ length out.old }
     ensures { EachPlace (length out.old) (λ k. (s : ℤ) → at out.old k ≡ wrapped s
         → at out.new k ≡ wrapped (s +ℤ factor *ℤ at line.now k)) }
@@ -20,7 +20,7 @@ pub fn add_scaled_row(out: &mut [i32], line: &[i32], factor: i32)
     match factor {
         0 => {}
         1 => combine_row_in_place(out, line, Sum),
-        _ => combine_row_in_place(out, line, ScaledOperand(Sum, factor)),
+        _ => combine_row_in_place(out, line, ScaledRightOperand(Sum, factor)),
     }
 }
 
@@ -42,7 +42,7 @@ fn add_first_tap_sums(out: &mut [i32], line: &[i32], factors: &[i32]) -> usize
         three.add_product_sums(out, line);
         return 3;
     }
-    add_scaled_row(out, &line[..out.len()], factors[0]);
+    add_line_times_factor(out, &line[..out.len()], factors[0]);
     1
 }
 

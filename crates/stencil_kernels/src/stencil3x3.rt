@@ -9,13 +9,13 @@ ghost use Rattle.stencil_kernels.specs.Stencil.{tap_sum, HasSize};
 ghost use Rattle.stencil_kernels.specs.inside.Triples.{three_ones, three_zeros, negated, IsDifference, HasDifferences};
 
 use crate::products::add_tap_difference;
-use crate::sums_of_nine::{write_box_1x3_sums, write_box_3x3_sums};
+use crate::sums_of_nine::{write_nine_unit_tap_sums, write_three_unit_tap_sums};
 use domains::arithmetic::{wrapping_add, wrapping_mul, wrapping_neg, wrapping_sub};
 use operators::Kernel;
 use std::marker::Model;
 
 // Whether a factor subtracts what another one adds.
-fn is_negation(factor: i32, other: i32) -> bool
+fn is_negated_factor(factor: i32, other: i32) -> bool
     ensures { IsTrue result → factor ≡ wrapped (neg_ℤ other) }
 {
     factor == wrapping_neg(other)
@@ -93,9 +93,9 @@ impl FactorTriple {
     fn is_negation_of(&self, other: &FactorTriple) -> bool
         ensures { IsTrue result → self.now ≡ negated other.now }
     {
-        is_negation(self.left, other.left)
-            && is_negation(self.middle, other.middle)
-            && is_negation(self.right, other.right)
+        is_negated_factor(self.left, other.left)
+            && is_negated_factor(self.middle, other.middle)
+            && is_negated_factor(self.right, other.right)
     }
 
     // What the factors give along a line from place `k` on, and their negations along another.
@@ -164,7 +164,7 @@ impl FactorTriple {
             (λ k. at out.new k ≡ wrapped (tap_sum self line.now k)) }
     {
         if self.has_only_ones() {
-            write_box_1x3_sums(out, line);
+            write_three_unit_tap_sums(out, line);
         } else {
             self.write_product_sums(out, line);
         }
@@ -373,7 +373,7 @@ impl Kernel3x3 {
             +ℤ tap_sum (factors self 2) bottom.now k)) }
     {
         if self.has_only_unit_factors() {
-            write_box_3x3_sums(out, top, middle, bottom);
+            write_nine_unit_tap_sums(out, top, middle, bottom);
         } else if self.has_zero_middle_row() {
             self.write_outer_row_sums(out, top, bottom);
         } else if self.has_difference_rows() {

@@ -1,4 +1,6 @@
 //! Readers and writers that count their failed calls; reading all bytes, and writing all bytes.
+//!
+//! Words: source, sink, metered, all bytes.
 #![tactic(auto)]
 
 mod stream;

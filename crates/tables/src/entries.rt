@@ -52,7 +52,7 @@ impl TableEntries {
         let Some(span) = table.span() else {
             return Ok(None);
         };
-        prove_entries_fit_int32(table.values.as_slice());
+        prove_table_values_fit_int32(table.values.as_slice());
         Ok(Some(TableEntries {
             span,
             values: table.values.clone()?,
@@ -71,7 +71,7 @@ impl TableEntries {
         ensures values { result.now ≡ self.now.values }
         ensures within { IsEntries self.now }
     {
-        prove_entries_fit_int32(self.values.as_slice());
+        prove_table_values_fit_int32(self.values.as_slice());
         self.values.as_slice()
     }
 
@@ -79,7 +79,10 @@ impl TableEntries {
     pub fn look_up_entry(&self, index: i32) -> i32
         ensures { result ≡ entry_at self.now index }
     {
-        self.values.as_slice()[offset_in_span(&self.span, clamp_to_span(&self.span, index))]
+        self.values.as_slice()[compute_offset_in_table_span(
+            &self.span,
+            clamp_to_table_span(&self.span, index),
+        )]
     }
 }
 
@@ -97,7 +100,7 @@ impl Clone for TableEntries {
 
 // The number of the span that is nearest to v.
 #[inline]
-fn clamp_to_span(span: &Span, v: i32) -> i32
+fn clamp_to_table_span(span: &Span, v: i32) -> i32
     ensures holds { Holds span.now result }
     ensures value { result ≡ clamped v span.now.lo span.now.hi }
 {
@@ -106,7 +109,7 @@ fn clamp_to_span(span: &Span, v: i32) -> i32
 
 // How far a number of a span lies after the first.
 #[inline]
-fn offset_in_span(span: &Span, v: i32) -> usize
+fn compute_offset_in_table_span(span: &Span, v: i32) -> usize
     requires { Holds span.now v }
     ensures number { result ≡ int_gap span.now.lo v }
     ensures below { result < len_of span.now }
@@ -115,7 +118,7 @@ fn offset_in_span(span: &Span, v: i32) -> usize
 }
 
 // All numbers fit in 32 bits.
-fn prove_entries_fit_int32(numbers: &[i32])
+fn prove_table_values_fit_int32(numbers: &[i32])
     ensures { All (FitsSigned w32) numbers.now }
 {
     for number in numbers {

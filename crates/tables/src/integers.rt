@@ -21,7 +21,7 @@ pub fn parse_table_integer(word: &[u8]) -> Option<i64>
 }
 
 // The number clamped to the least and the greatest of 32 bits.
-fn clamp_entry_to_int32(number: i64) -> i32
+fn clamp_table_entry_to_int32(number: i64) -> i32
     ensures { result ≡ cut_to_32 number }
 {
     number.max(i64::from(i32::MIN)).min(i64::from(i32::MAX)) as i32
@@ -40,7 +40,7 @@ pub fn parse_table_entries(alloc: Global, words: &[&[u8]]) -> Result<Vec<i32>, T
             return Err(TableFault::BadLine);
         };
         entries
-            .push(clamp_entry_to_int32(number))
+            .push(clamp_table_entry_to_int32(number))
             .map_err(AllocError::from)?;
     }
     Ok(entries)

@@ -1,4 +1,6 @@
 //! Tables: numbers that are supplied with a picture, a line of text for each table, and the entry that an index takes.
+//!
+//! Words: table, table span.
 #![tactic(auto)]
 
 mod entries;

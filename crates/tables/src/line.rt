@@ -10,7 +10,7 @@ ghost use Rattle.tables.specs.declared.table.Table.{Table as TableType};
 use crate::fault::TableFault;
 use crate::integers::{parse_table_entries, parse_table_integer};
 use crate::table::{MOST_ENTRIES, MOST_INDEX, Table};
-use crate::words::{split_span_at_colons, split_span_at_dots};
+use crate::words::{split_table_span_at_colons, split_table_span_at_dots};
 use domains::Span;
 use pipe_tokens::{Keyword, Name};
 use sequences::SharedSequence;
@@ -73,7 +73,7 @@ fn parse_table_span(alloc: Global, word: &[u8]) -> Result<Span, TableFault>
     ensures fault { IfErr result (λ fault. fault ≡ BadLine → (span : Ends)
         → ¬ SpellSpan (parts 58 word.now) span) }
 {
-    let halves = split_span_at_colons(alloc, word)?;
+    let halves = split_table_span_at_colons(alloc, word)?;
     parse_table_span_halves(alloc, &halves)
 }
 
@@ -104,7 +104,7 @@ fn parse_table_span_before_colon(
     if !behind.is_empty() {
         return Err(TableFault::BadLine);
     }
-    let ends = split_span_at_dots(alloc, ends)?;
+    let ends = split_table_span_at_dots(alloc, ends)?;
     match parse_table_span_ends(&ends) {
         Some(span) => Ok(span),
         None => Err(TableFault::BadLine),
@@ -134,11 +134,11 @@ fn parse_table_ends_around_dots(first: &[u8], between: &[u8], last: &[u8]) -> Op
     if !between.is_empty() {
         return None;
     }
-    check_table_span(parse_table_integer(first)?, parse_table_integer(last)?)
+    build_table_span_within_limits(parse_table_integer(first)?, parse_table_integer(last)?)
 }
 
 // The indices from the first to the last.
-fn check_table_span(lo: i64, hi: i64) -> Option<Span>
+fn build_table_span_within_limits(lo: i64, hi: i64) -> Option<Span>
     ensures some { IfSome result (λ span. span ≡ record { lo = lo; hi = hi }) }
     ensures within { IfSome result AreIndices }
     ensures none { IfNone result (¬ (AreIndices (record { lo = lo; hi = hi }))) }

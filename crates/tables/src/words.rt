@@ -13,14 +13,20 @@ pub fn split_table_line<'a>(alloc: Global, line: &'a [u8]) -> Result<Vec<&'a [u8
 }
 
 /// The parts of a word, separated by one colon each.
-pub fn split_span_at_colons<'a>(alloc: Global, word: &'a [u8]) -> Result<Vec<&'a [u8]>, AllocError>
+pub fn split_table_span_at_colons<'a>(
+    alloc: Global,
+    word: &'a [u8],
+) -> Result<Vec<&'a [u8]>, AllocError>
     ensures { IfOk result (λ found. map (λ p. p.now) found.items ≡ parts 58 word.now) }
 {
     word.split(|byte| *byte == b':').collect(alloc)
 }
 
 /// The parts of a word, separated by one dot each.
-pub fn split_span_at_dots<'a>(alloc: Global, word: &'a [u8]) -> Result<Vec<&'a [u8]>, AllocError>
+pub fn split_table_span_at_dots<'a>(
+    alloc: Global,
+    word: &'a [u8],
+) -> Result<Vec<&'a [u8]>, AllocError>
     ensures { IfOk result (λ found. map (λ p. p.now) found.items ≡ parts 46 word.now) }
 {
     word.split(|byte| *byte == b'.').collect(alloc)

@@ -5,7 +5,7 @@ ghost use Rattle.grouping.specs.Inlining.{IsScheduleOf};
 ghost use Rattle.job.specs.Kept.{pipeline_in};
 ghost use Rattle.job.specs.WellFormed.{IsJob};
 
-use catalog::{Catalog, compute_job_ids};
+use catalog::{Catalog, compute_catalog_job_ids};
 use domains::TileSides;
 use grouping::Schedule;
 use identity::Key;
@@ -110,7 +110,7 @@ pub fn find_example_tile_key(
     row: u32,
     col: u32,
 ) -> Option<Key> {
-    let ids = compute_job_ids(jobs.job(index)?);
+    let ids = compute_catalog_job_ids(jobs.job(index)?);
     Some(Key {
         program: ids.program,
         input: ids.input,

@@ -1,5 +1,7 @@
 //! Public calls, each made once with a proof that its requirements hold. Worked rows, histories and comparisons are in
 //! `tests/native`, which are run and not proved.
+//!
+//! Words: example, assert, example job, example program, example catalog, example answer, example partial.
 #![tactic(auto)]
 
 #[cfg(test)]

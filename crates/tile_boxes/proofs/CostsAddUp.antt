@@ -127,9 +127,9 @@ has_tile g t both =
     let below = row.1 in let before = col.1 in
     (omega arith, omega arith)
 
-pub tiles_are_targets : (job : Pipeline) (inlining : List Bool) (g : ℕ) (s : Stage) → IsJob job → slice_get job.stages g ≡ Some s
+pub tiles_in_schedules_are_targets : (job : Pipeline) (inlining : List Bool) (g : ℕ) (s : Stage) → IsJob job → slice_get job.stages g ≡ Some s
     → All (λ a. IsTarget (over (over_domain job inlining g s) a)) (list_tile_areas (grid_of job s))
-tiles_are_targets job inlining g s h there =
+tiles_in_schedules_are_targets job inlining g s h there =
     let grid : Grid = grid_of job s in
     let t : Target = over_domain job inlining g s in
     let f : ℕ × ℕ → Area = λ x. tile_area grid x.0 x.1 in
@@ -145,7 +145,7 @@ pub targets_from : (job : Pipeline) (inlining : List Bool) (n : ℕ) (grid : Gri
     → All (λ a. IsTarget (over (target_over job inlining n grid.area) a)) areas
 targets_from job inlining n grid areas h at are =
     let g = gridded job n grid at in
-    let all = tiles_are_targets job inlining n g.stage h g.there in
+    let all = tiles_in_schedules_are_targets job inlining n g.stage h g.there in
     let same : list_tile_areas (grid_of job g.stage) ≡ areas = ap list_tile_areas g.is ∙ sym are in
     subst (λ (xs : List Area). All (λ a. IsTarget (target_over job inlining n a)) xs) same all
 

@@ -42,7 +42,11 @@ fn list_tile_columns(alloc: Global, grid: &Grid, count: u32) -> Result<Vec<Span>
 }
 
 // Puts the areas of these rows, and of each of these columns, after the others.
-fn push_row_areas(areas: &mut Vec<Area>, rows: &Span, columns: &[Span]) -> Result<(), AllocError>
+fn push_tile_areas_of_row(
+    areas: &mut Vec<Area>,
+    rows: &Span,
+    columns: &[Span],
+) -> Result<(), AllocError>
     ensures { OnOk result (areas.new.items ≡ areas.old.items ++ map (area_of rows.now) columns.now) }
 {
     for cols in columns {
@@ -67,7 +71,7 @@ pub fn list_tile_areas(alloc: Global, grid: &Grid) -> Result<Vec<Area>, AllocErr
     let mut areas = Vec::with_capacity(alloc, grid.tiles() as usize)?;
     for i in 0..rows {
         if let Some(tile) = grid.tile(i, 0) {
-            push_row_areas(&mut areas, &tile.rows, &columns)?;
+            push_tile_areas_of_row(&mut areas, &tile.rows, &columns)?;
         }
     }
     Ok(areas)
@@ -152,7 +156,7 @@ impl BoxWalk<'_> {
     }
 
     // The points of the boxes of inlined functions; none for a stage that reads no inlined function.
-    fn count_scratch_if_inlining(
+    fn count_scratch_if_reading_inlined(
         &self,
         alloc: Global,
         order: &[usize],
@@ -192,7 +196,7 @@ impl BoxWalk<'_> {
         };
         for area in areas {
             let walk = self.with_region(*area);
-            let scratch = walk.count_scratch_if_inlining(alloc, order, is_alone)?;
+            let scratch = walk.count_scratch_if_reading_inlined(alloc, order, is_alone)?;
             tally = tally.add_tile(scratch, area.points());
         }
         Ok(tally)

@@ -17,7 +17,7 @@ use domains::{Area, Index, Span};
 use job::{Body, Formula, Function, JobCase, Kernel};
 
 /// What two areas have in common, if they meet.
-pub fn intersect_areas(one: &Area, other: &Area) -> Option<Area>
+pub fn intersect_boxes(one: &Area, other: &Area) -> Option<Area>
     ensures is { result ≡ meet_of_areas one.now other.now }
     ensures near { InDomainRanges other.now → IfSome result InDomainRanges }
 {
@@ -26,7 +26,7 @@ pub fn intersect_areas(one: &Area, other: &Area) -> Option<Area>
 
 // The number that is less by `by`.
 #[tactic(auto, using(std::proofs::lemmas::Int::ints))]
-fn subtract_radius(v: i32, by: usize) -> i32
+fn extend_box_start(v: i32, by: usize) -> i32
     requires few { by ≤ 7 }
     requires least { negsuc 16383 ≤ℤ v }
     requires most { v ≤ℤ pos 16384 }
@@ -37,7 +37,7 @@ fn subtract_radius(v: i32, by: usize) -> i32
 
 // The number that is greater by `by`.
 #[tactic(auto, using(std::proofs::lemmas::Int::ints))]
-fn add_radius(v: i32, by: usize) -> i32
+fn extend_box_end(v: i32, by: usize) -> i32
     requires few { by ≤ 7 }
     requires least { negsuc 16383 ≤ℤ v }
     requires most { v ≤ℤ pos 16384 }
@@ -52,13 +52,16 @@ fn widen_span(span: &Span, by: usize) -> Span
     requires few { by ≤ 7 }
     ensures { result ≡ widen_span by span.now }
 {
-    match Span::new(subtract_radius(span.lo(), by), add_radius(span.hi(), by)) {
+    match Span::new(
+        extend_box_start(span.lo(), by),
+        extend_box_end(span.hi(), by),
+    ) {
         Some(wide) => wide,
         None => unreachable!(),
     }
 }
 
-fn find_point_read_area(row: &Index, column: &Index, region: &Area) -> Area
+fn find_box_of_point_read(row: &Index, column: &Index, region: &Area) -> Area
     requires { InDomainRanges region.now }
     ensures { result ≡ record {
       rows = image_of row.now region.now.rows;
@@ -71,7 +74,7 @@ fn find_point_read_area(row: &Index, column: &Index, region: &Area) -> Area
     }
 }
 
-fn count_kernel_columns(kernel: &Kernel) -> usize
+fn count_kernel_box_columns(kernel: &Kernel) -> usize
     requires { IsKernel kernel.now }
     ensures { result ≡ length (factors kernel.now 0) }
 {
@@ -81,14 +84,14 @@ fn count_kernel_columns(kernel: &Kernel) -> usize
     }
 }
 
-fn find_stencil_read_area(kernel: &Kernel, region: &Area) -> Area
+fn find_box_of_stencil_read(kernel: &Kernel, region: &Area) -> Area
     requires kernel { IsKernel kernel.now }
     requires near { InDomainRanges region.now }
     ensures { result ≡ image_under (window 0 kernel.now) region.now }
 {
     Area {
         rows: widen_span(&region.rows, kernel.as_slice().len() / 2),
-        cols: widen_span(&region.cols, count_kernel_columns(kernel) / 2),
+        cols: widen_span(&region.cols, count_kernel_box_columns(kernel) / 2),
     }
 }
 
@@ -102,7 +105,7 @@ fn grow_bounding_box(hull: &Option<Area>, area: Area) -> Option<Area>
     }
 }
 
-fn demand_stage_area(hulls: &mut [Option<Area>], stage: usize, area: Area)
+fn demand_area_of_stage(hulls: &mut [Option<Area>], stage: usize, area: Area)
     ensures { hulls.new ≡ demanded hulls.old (record { stage = stage; area = area }) }
 {
     if stage < hulls.len() {
@@ -120,7 +123,7 @@ fn demand_formula_reads(hulls: &mut [Option<Area>], formula: &Formula, region: &
     match formula {
         Formula::Number(_) | Formula::Coordinate(_) => {}
         Formula::Read(stage, row, column) => {
-            demand_stage_area(hulls, *stage, find_point_read_area(row, column, region));
+            demand_area_of_stage(hulls, *stage, find_box_of_point_read(row, column, region));
         }
         Formula::Unary(_, operand)
         | Formula::Lookup(_, operand)
@@ -143,7 +146,7 @@ fn demand_formula_reads(hulls: &mut [Option<Area>], formula: &Formula, region: &
             demand_formula_reads(hulls, otherwise, region);
         }
         Formula::Stencil(stage, _, kernel) => {
-            demand_stage_area(hulls, *stage, find_stencil_read_area(kernel, region));
+            demand_area_of_stage(hulls, *stage, find_box_of_stencil_read(kernel, region));
         }
     }
 }
@@ -155,7 +158,7 @@ fn demand_case_reads(hulls: &mut [Option<Area>], case: &JobCase, region: &Area)
     ensures { hulls.new ≡ demanded_all hulls.old (case_demands region.now (case_view case.now)) }
 {
     if let Some(area) = case.area() {
-        if let Some(meet) = intersect_areas(area, region) {
+        if let Some(meet) = intersect_boxes(area, region) {
             demand_formula_reads(hulls, case.formula(), &meet);
         }
     }

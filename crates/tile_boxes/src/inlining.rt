@@ -55,7 +55,7 @@ impl InlinedStages {
     {
         let mut inlining = Vec::new(alloc);
         for number in 0..job.stages().len() {
-            inlining.push(is_requested_function(job, asked, number))?;
+            inlining.push(is_function_requested_inlined(job, asked, number))?;
         }
         Ok(InlinedStages { inlining })
     }
@@ -103,7 +103,7 @@ pub fn find_inlined_output(job: &Job, asked: &[bool]) -> Option<usize>
         (StoresOutputs (pipeline_in job.now) (inlining_for (pipeline_in job.now) asked.now)) }
 {
     for number in 0..job.stages().len() {
-        if is_requested_function(job, asked, number) && job.is_output(number) {
+        if is_function_requested_inlined(job, asked, number) && job.is_output(number) {
             return Some(number);
         }
     }
@@ -119,7 +119,7 @@ fn is_among_inlined(inlining: &[bool], number: usize) -> bool
     }
 }
 
-fn is_requested_function(job: &Job, asked: &[bool], number: usize) -> bool
+fn is_function_requested_inlined(job: &Job, asked: &[bool], number: usize) -> bool
     ensures { result ≡ (is_inlined asked.now number && is_function_stage (pipeline_in job.now) number) }
 {
     is_among_inlined(asked, number) && is_function_stage(job, number)

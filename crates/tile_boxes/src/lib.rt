@@ -1,4 +1,7 @@
 //! Boxes: which area of each inlined function a tile needs, and what tiles cost.
+//!
+//! Words: box, demand, inlined, tally, survey, tile area, tile column, stored reads, function stage, widen span, stages by
+//! rank, greatest rank.
 #![tactic(auto)]
 
 mod costs;
@@ -10,7 +13,7 @@ mod target;
 pub use costs::{
     CostSurvey, MOST_SCRATCH, has_only_stored_reads, list_tile_areas, survey_stage_costs,
 };
-pub use demands::intersect_areas;
+pub use demands::intersect_boxes;
 pub use inlining::{InlinedStages, find_inlined_output, is_function_stage};
 pub use order::{find_greatest_rank, order_stages_by_rank};
 pub use target::{BoxWalk, new_empty_boxes};

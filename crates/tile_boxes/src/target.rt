@@ -6,7 +6,7 @@ ghost use Rattle.std.specs.List.{flat_map};
 ghost use Rattle.job.specs.Kept.{pipeline_in};
 ghost use Rattle.tile_boxes.specs.Walks.{new_empty_boxes};
 
-use crate::demands::{demand_body_reads, intersect_areas};
+use crate::demands::{demand_body_reads, intersect_boxes};
 use crate::inlining::InlinedStages;
 use crate::order::order_stages_by_rank;
 use domains::Area;
@@ -34,7 +34,7 @@ impl BoxWalk<'_> {
         ensures near { IfSome result InDomainRanges }
     {
         match (self.job.stage(number), hulls.get(number)) {
-            (Some(stage), Some(Some(hull))) => intersect_areas(hull, stage.domain()),
+            (Some(stage), Some(Some(hull))) => intersect_boxes(hull, stage.domain()),
             _ => None,
         }
     }

@@ -20,11 +20,11 @@ use crate::source::RowSource;
 use crate::source_row::SourceRow;
 use domains::Area;
 use job::{Formula, JobCase};
-use row_kernels::{RowMask, RowSpan, copy_masked_row, find_row_mask};
+use row_kernels::{RowMask, RowSpan, copy_row_where_mask_holds, find_row_mask};
 use row_loops::fill_row;
 
 // The places of a row of points that lie in an area: the first one, and the end.
-fn find_row_places_in_area(area: &Area, points: &RowSpan) -> Option<(usize, usize)>
+fn find_area_interval_along_row(area: &Area, points: &RowSpan) -> Option<(usize, usize)>
     requires { 0 < points.now.len }
     ensures some { IfSome result (λ p. (p.0 < p.1) × (p.1 ≤ points.now.len)) }
     ensures inside { IfSome result (λ p. (k : ℕ) → k < points.now.len
@@ -44,7 +44,7 @@ fn find_row_places_in_area(area: &Area, points: &RowSpan) -> Option<(usize, usiz
 }
 
 // Whether in each column the tests of the one hold if those of the other do not.
-fn is_complementary_mask(first: RowMask, second: RowMask) -> bool
+fn are_masks_complementary_along_row(first: RowMask, second: RowMask) -> bool
     ensures { result ≡ true → (xs ys : List Test) (r c : ℤ) → HoldsWhere first xs r
         → HoldsWhere second ys r → BoundsHold xs r c → BoundsHold ys r c
         → all_passed xs r c ≡ false → all_passed ys r c ≡ true }
@@ -78,13 +78,13 @@ impl<S: RowSource> SourceRow<'_, S> {
             passed => {
                 let (mine, rest) = temps.split_at_mut(out.len());
                 self.evaluate_formula(case.formula(), mine, rest);
-                copy_masked_row(out, mine, case.tests(), passed, &self.points);
+                copy_row_where_mask_holds(out, mine, case.tests(), passed, &self.points);
             }
         }
     }
 
     // Takes the values of a case, where its tests hold.
-    fn apply_case_to_row(&self, case: &JobCase, out: &mut [i32], temps: &mut [i32])
+    fn overwrite_row_where_case_holds(&self, case: &JobCase, out: &mut [i32], temps: &mut [i32])
         requires fits { length out.old ≡ self.now.points.len }
         requires some { 0 < length out.old }
         requires case { EachPlace (length out.old) (λ k. IsReady (S.has self.now.source.now)
@@ -99,7 +99,7 @@ impl<S: RowSource> SourceRow<'_, S> {
         let Some(area) = case.area() else {
             return;
         };
-        if let Some((from, to)) = find_row_places_in_area(area, &self.points) {
+        if let Some((from, to)) = find_area_interval_along_row(area, &self.points) {
             let points = self.points.slice_points(from, to);
             let inner = SourceRow {
                 source: self.source,
@@ -142,7 +142,7 @@ impl<S: RowSource> SourceRow<'_, S> {
         let Some(area) = case.area() else {
             return Some((0, 0));
         };
-        let Some((from, to)) = find_row_places_in_area(area, &self.points) else {
+        let Some((from, to)) = find_area_interval_along_row(area, &self.points) else {
             return Some((0, 0));
         };
         match find_row_mask(case.tests(), &self.points) {
@@ -173,12 +173,15 @@ impl<S: RowSource> SourceRow<'_, S> {
         let (Some(area), Some(box_before)) = (case.area(), before.area()) else {
             return None;
         };
-        let (from, to) = find_row_places_in_area(area, &self.points)?;
-        let (first, second) = find_row_places_in_area(box_before, &self.points)?;
+        let (from, to) = find_area_interval_along_row(area, &self.points)?;
+        let (first, second) = find_area_interval_along_row(box_before, &self.points)?;
         let passed = find_row_mask(case.tests(), &self.points);
         if first == from
             && second == to
-            && is_complementary_mask(find_row_mask(before.tests(), &self.points), passed)
+            && are_masks_complementary_along_row(
+                find_row_mask(before.tests(), &self.points),
+                passed,
+            )
         {
             Some((from, to))
         } else {
@@ -254,7 +257,7 @@ impl<S: RowSource> SourceRow<'_, S> {
 
     // The values of a function at points where not all tests of the case before hold.
     #[cycle(evaluate_cases)]
-    fn evaluate_after_case(
+    fn evaluate_cases_where_earlier_fails(
         &self,
         before: &JobCase,
         cases: &[JobCase],
@@ -313,8 +316,8 @@ impl<S: RowSource> SourceRow<'_, S> {
                 self.evaluate_formula_part(case.formula(), from, to, out, temps);
             }
             None => {
-                self.evaluate_after_case(case, behind, otherwise, out, temps);
-                self.apply_case_to_row(case, out, temps);
+                self.evaluate_cases_where_earlier_fails(case, behind, otherwise, out, temps);
+                self.overwrite_row_where_case_holds(case, out, temps);
             }
         }
     }

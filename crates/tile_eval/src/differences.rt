@@ -11,7 +11,7 @@ ghost use Rattle.row_kernels.specs.Finishes.{epilogue_value};
 ghost use Rattle.row_loops.specs.Rows.{EachPlace, at};
 ghost use Rattle.tile_eval.specs.Reading.{ReadsWithin, HasRoom};
 
-use crate::rows::find_row_constant;
+use crate::rows::find_constant_along_row;
 use crate::source::RowSource;
 use crate::source_row::SourceRow;
 use job::Formula;
@@ -23,7 +23,7 @@ use row_kernels::{
 
 impl<'a, S: RowSource> SourceRow<'a, S> {
     // A clamped difference of two reads, times a factor, if nothing else is to be computed.
-    fn borrow_scaled_difference(
+    fn match_difference_with_factor(
         &self,
         factor: i32,
         formula: &Formula,
@@ -48,13 +48,13 @@ impl<'a, S: RowSource> SourceRow<'a, S> {
             factor,
             left: self.borrow_read_samples(left)?,
             right: self.borrow_read_samples(right)?,
-            low: find_row_constant(low, &self.points)?,
-            high: find_row_constant(high, &self.points)?,
+            low: find_constant_along_row(low, &self.points)?,
+            high: find_constant_along_row(high, &self.points)?,
         })
     }
 
     /// A formula as a clamped difference of two reads times a factor, if nothing else is to be computed.
-    pub(crate) fn borrow_clamped_difference(
+    pub(crate) fn match_clamped_difference(
         &self,
         formula: &Formula,
     ) -> Option<ClampedDifference<'a>>
@@ -67,9 +67,12 @@ impl<'a, S: RowSource> SourceRow<'a, S> {
     {
         match formula {
             Formula::Binary(BinaryOp::Mul, factor, of) => {
-                self.borrow_scaled_difference(find_row_constant(factor, &self.points)?, of)
+                self.match_difference_with_factor(
+                    find_constant_along_row(factor, &self.points)?,
+                    of,
+                )
             }
-            _ => self.borrow_scaled_difference(1, formula),
+            _ => self.match_difference_with_factor(1, formula),
         }
     }
 
@@ -95,18 +98,18 @@ impl<'a, S: RowSource> SourceRow<'a, S> {
         let Formula::Binary(BinaryOp::Add, front, fifth) = formula else {
             return false;
         };
-        let Some(fifth) = self.borrow_clamped_difference(fifth) else {
+        let Some(fifth) = self.match_clamped_difference(fifth) else {
             return false;
         };
         if let Formula::Binary(BinaryOp::Add, front, fourth) = &**front {
-            if let Some(fourth) = self.borrow_clamped_difference(fourth) {
+            if let Some(fourth) = self.match_clamped_difference(fourth) {
                 if let Formula::Binary(BinaryOp::Add, front, third) = &**front {
                     if let Formula::Binary(BinaryOp::Add, first, second) = &**front {
                         if let (Some(second), Some(third)) = (
-                            self.borrow_clamped_difference(second),
-                            self.borrow_clamped_difference(third),
+                            self.match_clamped_difference(second),
+                            self.match_clamped_difference(third),
                         ) {
-                            let first = self.compute_operand(first, out, temps);
+                            let first = self.borrow_or_compute_operand(first, out, temps);
                             add_four_clamped_differences(
                                 out, first, second, third, fourth, fifth, finish,
                             );
@@ -114,12 +117,12 @@ impl<'a, S: RowSource> SourceRow<'a, S> {
                         }
                     }
                 }
-                let first = self.compute_operand(front, out, temps);
+                let first = self.borrow_or_compute_operand(front, out, temps);
                 add_two_clamped_differences(out, first, fourth, fifth, finish);
                 return true;
             }
         }
-        let first = self.compute_operand(front, out, temps);
+        let first = self.borrow_or_compute_operand(front, out, temps);
         add_clamped_difference(out, first, fifth, finish);
         true
     }

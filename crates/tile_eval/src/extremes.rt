@@ -13,10 +13,10 @@ use crate::source::RowSource;
 use crate::source_row::SourceRow;
 use job::Formula;
 use operators::BinaryOp;
-use row_kernels::{Epilogue, Extreme, LinePair, write_extremes_of_pairs, write_medians};
+use row_kernels::{Epilogue, Extreme, LinePair, write_extremes_of_pairs, write_medians_to_row};
 
 /// Which of its two operands an operator gives, if it is `min` or `max`.
-pub(crate) fn find_operator_extreme(op: BinaryOp) -> Option<Extreme>
+pub(crate) fn classify_extreme_operator(op: BinaryOp) -> Option<Extreme>
     ensures { IfSome result
         (λ extreme. (a b : ℤ) → binary_value op a b ≡ extreme_value extreme a b) }
 {
@@ -28,7 +28,7 @@ pub(crate) fn find_operator_extreme(op: BinaryOp) -> Option<Extreme>
 }
 
 /// Whether an operator is `min` for the least, or `max` for the greatest.
-pub(crate) fn is_extreme_operator(op: BinaryOp, extreme: Extreme) -> bool
+pub(crate) fn is_matching_extreme_operator(op: BinaryOp, extreme: Extreme) -> bool
     ensures { IsTrue result → (a b : ℤ) → binary_value op a b ≡ extreme_value extreme a b }
 {
     match (op, extreme) {
@@ -39,7 +39,11 @@ pub(crate) fn is_extreme_operator(op: BinaryOp, extreme: Extreme) -> bool
 
 impl<'a, S: RowSource> SourceRow<'a, S> {
     // The operands of `min` for the least, or of `max` for the greatest, if both can be borrowed from the source.
-    fn borrow_extreme_pair(&self, extreme: Extreme, formula: &Formula) -> Option<LinePair<'a>>
+    fn match_extreme_of_two_lines(
+        &self,
+        extreme: Extreme,
+        formula: &Formula,
+    ) -> Option<LinePair<'a>>
         requires { ReadsWithin (S.has self.now.source.now) (formula_view formula.now)
             self.now.points.row self.now.points.col self.now.points.len }
         ensures lengths { IfSome result (HaveLength self.now.points.len) }
@@ -48,18 +52,20 @@ impl<'a, S: RowSource> SourceRow<'a, S> {
             (formula_view formula.now) self.now.points.row (self.now.points.col +ℤ pos k))) }
     {
         match formula {
-            Formula::Binary(op, a, b) if is_extreme_operator(*op, extreme) => Some(LinePair {
-                left: self.borrow_read_samples(a)?,
-                right: self.borrow_read_samples(b)?,
-            }),
+            Formula::Binary(op, a, b) if is_matching_extreme_operator(*op, extreme) => Some(
+                LinePair {
+                    left: self.borrow_read_samples(a)?,
+                    right: self.borrow_read_samples(b)?,
+                },
+            ),
             _ => None,
         }
     }
 
-    // The operands of `max` for the least, or of `min` for the greatest, in either order: a formula with an `borrow_extreme_pair`, and
+    // The operands of `max` for the least, or of `min` for the greatest, in either order: a formula with an `match_extreme_of_two_lines`, and
     // a line that can be borrowed from the source.
     #[tactic(auto, using(crate::proofs::Exchanging::extreme_commutes))]
-    fn borrow_median_lines(
+    fn match_median_lines(
         &self,
         extreme: Extreme,
         formula: &Formula,
@@ -76,19 +82,19 @@ impl<'a, S: RowSource> SourceRow<'a, S> {
         let Formula::Binary(op, a, b) = formula else {
             return None;
         };
-        if !is_extreme_operator(*op, extreme.opposite()) {
+        if !is_matching_extreme_operator(*op, extreme.opposite()) {
             return None;
         }
-        match self.borrow_extreme_pair(extreme, a) {
+        match self.match_extreme_of_two_lines(extreme, a) {
             Some(pair) => Some((pair, self.borrow_read_samples(b)?)),
             None => Some((
-                self.borrow_extreme_pair(extreme, b)?,
+                self.match_extreme_of_two_lines(extreme, b)?,
                 self.borrow_read_samples(a)?,
             )),
         }
     }
 
-    // Writes the lesser or the greater of two formulas, if each of them has an `borrow_extreme_pair`. Returns whether they have.
+    // Writes the lesser or the greater of two formulas, if each of them has an `match_extreme_of_two_lines`. Returns whether they have.
     fn try_extremes_of_pairs(
         &self,
         extreme: Extreme,
@@ -110,8 +116,8 @@ impl<'a, S: RowSource> SourceRow<'a, S> {
             self.now.points.row (self.now.points.col +ℤ pos k)))) }
     {
         match (
-            self.borrow_extreme_pair(extreme, a),
-            self.borrow_extreme_pair(extreme, b),
+            self.match_extreme_of_two_lines(extreme, a),
+            self.match_extreme_of_two_lines(extreme, b),
         ) {
             (Some(pair), Some(other)) => {
                 write_extremes_of_pairs(extreme, out, pair, other, finish);
@@ -121,7 +127,7 @@ impl<'a, S: RowSource> SourceRow<'a, S> {
         }
     }
 
-    // The same if the first one has a pair of the opposite extreme, and the second one has a `borrow_median_lines`.
+    // The same if the first one has a pair of the opposite extreme, and the second one has a `match_median_lines`.
     fn try_medians(
         &self,
         extreme: Extreme,
@@ -142,10 +148,10 @@ impl<'a, S: RowSource> SourceRow<'a, S> {
             (formula_value (S.samples self.now.source.now) (formula_view b.now)
             self.now.points.row (self.now.points.col +ℤ pos k)))) }
     {
-        let pair = self.borrow_extreme_pair(extreme.opposite(), a);
-        match (pair, self.borrow_median_lines(extreme, b)) {
+        let pair = self.match_extreme_of_two_lines(extreme.opposite(), a);
+        match (pair, self.match_median_lines(extreme, b)) {
             (Some(pair), Some((other, fifth))) => {
-                write_medians(extreme, out, pair, other, fifth, finish);
+                write_medians_to_row(extreme, out, pair, other, fifth, finish);
                 true
             }
             _ => false,
@@ -167,7 +173,7 @@ impl<'a, S: RowSource> SourceRow<'a, S> {
         let Formula::Binary(op, a, b) = formula else {
             return false;
         };
-        let Some(extreme) = find_operator_extreme(*op) else {
+        let Some(extreme) = classify_extreme_operator(*op) else {
             return false;
         };
         self.try_extremes_of_pairs(extreme, a, b, finish, out)

@@ -6,7 +6,7 @@ ghost use Rattle.job.specs.Values.{Valuation, binary_value, ternary_value, formu
 ghost use Rattle.job.specs.Views.{formula_view};
 ghost use Rattle.row_kernels.specs.Finishes.{epilogue_value};
 
-use crate::rows::find_row_constant;
+use crate::rows::find_constant_along_row;
 use job::Formula;
 use operators::{BinaryOp, TernaryOp};
 use row_kernels::{Epilogue, RowSpan};
@@ -37,6 +37,6 @@ pub(crate) fn fuse_ternary_into_epilogue(
         ≡ ternary_value op v (formula_value env (formula_view second.now) points.now.row c)
         (formula_value env (formula_view third.now) points.now.row c)) }
 {
-    let second = find_row_constant(second, points)?;
-    Epilogue::Nothing.prepend_ternary(op, second, find_row_constant(third, points)?)
+    let second = find_constant_along_row(second, points)?;
+    Epilogue::Nothing.prepend_ternary(op, second, find_constant_along_row(third, points)?)
 }

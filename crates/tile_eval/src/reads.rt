@@ -14,7 +14,7 @@ use domains::Index;
 use job::Formula;
 
 // Whether an index only adds, so that it takes adjacent columns to adjacent columns.
-fn has_unit_scale(index: &Index) -> bool
+fn is_index_shifting_along_row(index: &Index) -> bool
     ensures { IsTrue result → (index.now.mul ≡ pos 1) × (index.now.div ≡ pos 1) }
 {
     index.mul() == 1 && index.div() == 1
@@ -32,7 +32,7 @@ impl<'a, S: RowSource> SourceRow<'a, S> {
             (index_at col.now (self.now.points.col +ℤ pos k))) }
     {
         let own = self.points.row_at_index(row);
-        if has_unit_scale(col) {
+        if is_index_shifting_along_row(col) {
             self.source
                 .read_row(stage, own, self.points.first_column_at_index(col), out);
         } else {
@@ -67,9 +67,8 @@ impl<'a, S: RowSource> SourceRow<'a, S> {
             self.now.points.row (self.now.points.col +ℤ pos k))) }
     {
         match formula {
-            Formula::Read(stage, row, col) if has_unit_scale(col) => self.borrow_shifted_row(
-                *stage, row, col,
-            ),
+            Formula::Read(stage, row, col) if is_index_shifting_along_row(col) =>
+                self.borrow_shifted_row(*stage, row, col),
             _ => None,
         }
     }

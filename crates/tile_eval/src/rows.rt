@@ -12,7 +12,7 @@ ghost use Rattle.row_kernels.specs.Terms.{addend_at};
 ghost use Rattle.tile_eval.specs.Reading.{ReadsWithin, HasRoom};
 ghost use Rattle.tile_eval.specs.inside.Operators.{IsBinary};
 
-use crate::extremes::{find_operator_extreme, is_extreme_operator};
+use crate::extremes::{classify_extreme_operator, is_matching_extreme_operator};
 use crate::finishes::{fuse_operator_into_epilogue, fuse_ternary_into_epilogue};
 use crate::source::RowSource;
 use crate::source_row::SourceRow;
@@ -21,21 +21,25 @@ use operators::BinaryOp;
 use row_kernels::{
     Addend, Epilogue, Operand, RowSpan, apply_binary_to_row, apply_epilogue_to_row,
     apply_literal_op_to_row, apply_scaled_binary_to_row, apply_ternary_to_row,
-    apply_unary_to_number, apply_unary_to_row, look_up_row_in_table, select_row_by_relation,
-    write_clamped_difference, write_extremes_of_three, write_sum_of_addends,
+    apply_unary_to_number, apply_unary_to_row, select_by_operand_relation,
+    write_clamped_difference, write_extremes_of_three, write_sum_of_addends_to_row,
+    write_table_lookups_to_row,
 };
 use row_loops::{fill_row, fill_row_counting_up};
 
 /// The number that a formula is all along a row of points, if it is found to be constant there.
-pub fn find_row_constant(formula: &Formula, points: &RowSpan) -> Option<i32>
+pub fn find_constant_along_row(formula: &Formula, points: &RowSpan) -> Option<i32>
     ensures { IfSome result (λ number. (env : Valuation) (c : ℤ)
         → formula_value env (formula_view formula.now) points.now.row c ≡ number) }
 {
     match formula {
         Formula::Number(number) => Some(*number),
         Formula::Coordinate(Axis::Row) => Some(points.row),
-        Formula::Unary(op, a) => Some(apply_unary_to_number(*op, find_row_constant(a, points)?)),
-        Formula::Lookup(table, a) => Some(table.look_up_entry(find_row_constant(a, points)?)),
+        Formula::Unary(op, a) => Some(apply_unary_to_number(
+            *op,
+            find_constant_along_row(a, points)?,
+        )),
+        Formula::Lookup(table, a) => Some(table.look_up_entry(find_constant_along_row(a, points)?)),
         _ => None,
     }
 }
@@ -75,7 +79,7 @@ pub fn borrow_or_evaluate_row<'a, S: RowSource>(
 
 // A formula as an operand along a row of points: a number, samples borrowed from the source, or values computed into `own`.
 #[cycle(evaluate_formula)]
-fn build_row_operand<'a, S: RowSource>(
+fn borrow_or_evaluate_operand_along_row<'a, S: RowSource>(
     source: &'a S,
     points: &RowSpan,
     formula: &Formula,
@@ -93,7 +97,7 @@ fn build_row_operand<'a, S: RowSource>(
         ≡ formula_value (S.samples source.now) (formula_view formula.now) points.now.row
         (points.now.col +ℤ pos k)) }
 {
-    match find_row_constant(formula, points) {
+    match find_constant_along_row(formula, points) {
         Some(number) => Operand::Number(number),
         None => Operand::Line(borrow_or_evaluate_row(source, points, formula, own, temps)),
     }
@@ -101,7 +105,7 @@ fn build_row_operand<'a, S: RowSource>(
 
 // A formula as the right operand, which is computed into the row itself unless the left one is there.
 #[cycle(evaluate_formula)]
-fn compute_right_operand<'a, S: RowSource>(
+fn evaluate_right_operand_along_row<'a, S: RowSource>(
     source: &'a S,
     points: &RowSpan,
     left: Operand,
@@ -124,20 +128,22 @@ fn compute_right_operand<'a, S: RowSource>(
 {
     let (own, rest) = temps.split_at_mut(out.len());
     match left {
-        Operand::Written => build_row_operand(source, points, formula, own, rest),
+        Operand::Written => borrow_or_evaluate_operand_along_row(
+            source, points, formula, own, rest,
+        ),
         _ => {
             let row = SourceRow {
                 source,
                 points: *points,
             };
-            row.compute_operand(formula, out, rest)
+            row.borrow_or_compute_operand(formula, out, rest)
         }
     }
 }
 
 impl<'a, S: RowSource> SourceRow<'a, S> {
     // A formula as an operand, if nothing is to be computed: a number, or samples borrowed from the source.
-    fn borrow_operand(&self, formula: &Formula) -> Option<Operand<'a>>
+    fn borrow_available_operand(&self, formula: &Formula) -> Option<Operand<'a>>
         requires { ReadsWithin (S.has self.now.source.now) (formula_view formula.now)
             self.now.points.row self.now.points.col self.now.points.len }
         ensures serves { IfSome result (Serves self.now.points.len) }
@@ -147,14 +153,14 @@ impl<'a, S: RowSource> SourceRow<'a, S> {
             ≡ formula_value (S.samples self.now.source.now) (formula_view formula.now)
             self.now.points.row (self.now.points.col +ℤ pos k))) }
     {
-        match find_row_constant(formula, &self.points) {
+        match find_constant_along_row(formula, &self.points) {
             Some(number) => Some(Operand::Number(number)),
             None => Some(Operand::Line(self.borrow_read_samples(formula)?)),
         }
     }
 
     // A formula as an addend, if nothing is to be computed but a product with a number.
-    fn borrow_addend(&self, formula: &Formula) -> Option<Addend<'a>>
+    fn borrow_available_addend(&self, formula: &Formula) -> Option<Addend<'a>>
         requires { ReadsWithin (S.has self.now.source.now) (formula_view formula.now)
             self.now.points.row self.now.points.col self.now.points.len }
         ensures serves { IfSome result (λ it. Serves self.now.points.len it.of) }
@@ -165,22 +171,22 @@ impl<'a, S: RowSource> SourceRow<'a, S> {
             self.now.points.row (self.now.points.col +ℤ pos k))) }
     {
         if let Formula::Binary(BinaryOp::Mul, factor, of) = formula {
-            if let Some(factor) = find_row_constant(factor, &self.points) {
+            if let Some(factor) = find_constant_along_row(factor, &self.points) {
                 return Some(Addend {
                     factor: Some(factor),
-                    of: self.borrow_operand(of)?,
+                    of: self.borrow_available_operand(of)?,
                 });
             }
         }
         Some(Addend {
             factor: None,
-            of: self.borrow_operand(formula)?,
+            of: self.borrow_available_operand(formula)?,
         })
     }
 
     /// A formula as an operand, which is computed into the row itself if it is not available.
     #[cycle(evaluate_formula)]
-    pub(crate) fn compute_operand(
+    pub(crate) fn borrow_or_compute_operand(
         &self,
         formula: &Formula,
         out: &mut [i32],
@@ -196,7 +202,7 @@ impl<'a, S: RowSource> SourceRow<'a, S> {
             ≡ formula_value (S.samples self.now.source.now) (formula_view formula.now)
             self.now.points.row (self.now.points.col +ℤ pos k)) }
     {
-        match self.borrow_operand(formula) {
+        match self.borrow_available_operand(formula) {
             Some(it) => it,
             None => {
                 self.evaluate_formula(formula, out, temps);
@@ -230,19 +236,33 @@ impl<'a, S: RowSource> SourceRow<'a, S> {
             self.now.points.row (self.now.points.col +ℤ pos k)))) }
     {
         if let Formula::Binary(BinaryOp::Mul, a, b) = right {
-            if let Some(factor) = find_row_constant(a, &self.points) {
+            if let Some(factor) = find_constant_along_row(a, &self.points) {
                 let (_, temps) = temps.split_at_mut(out.len());
-                let right = compute_right_operand(self.source, &self.points, left, b, out, temps);
+                let right = evaluate_right_operand_along_row(
+                    self.source,
+                    &self.points,
+                    left,
+                    b,
+                    out,
+                    temps,
+                );
                 return apply_scaled_binary_to_row(op, out, left, factor, right, finish);
             }
         }
-        let right = compute_right_operand(self.source, &self.points, left, right, out, temps);
+        let right = evaluate_right_operand_along_row(
+            self.source,
+            &self.points,
+            left,
+            right,
+            out,
+            temps,
+        );
         apply_binary_to_row(op, out, left, right, finish);
     }
 
     // The right operand of a product as an operand. Its own operands use `temps` after the first row.
     #[cycle(evaluate_formula)]
-    fn compute_operand_after_first_row(
+    fn compute_operand_leaving_first_row_free(
         &self,
         formula: &Formula,
         out: &mut [i32],
@@ -261,7 +281,7 @@ impl<'a, S: RowSource> SourceRow<'a, S> {
             self.now.points.row (self.now.points.col +ℤ pos k)) }
     {
         let (_, rest) = temps.split_at_mut(out.len());
-        self.compute_operand(formula, out, rest)
+        self.borrow_or_compute_operand(formula, out, rest)
     }
 
     // Applies an operator and its epilogue. If the left operand of a sum is a product with a number, or a sum whose right
@@ -287,45 +307,55 @@ impl<'a, S: RowSource> SourceRow<'a, S> {
         let Formula::Binary(op, a, b) = formula else {
             return;
         };
-        if let Some(it) = self.borrow_clamped_difference(formula) {
+        if let Some(it) = self.match_clamped_difference(formula) {
             return write_clamped_difference(out, it, finish);
         }
         if self.try_sum_of_differences(formula, finish, out, temps) {
             return;
         }
         if let (BinaryOp::Add, Formula::Binary(BinaryOp::Mul, factor, of)) = (*op, &**a) {
-            if let Some(factor) = find_row_constant(factor, &self.points) {
-                let left = self.compute_operand_after_first_row(of, out, temps);
-                let right = compute_right_operand(self.source, &self.points, left, b, out, temps);
+            if let Some(factor) = find_constant_along_row(factor, &self.points) {
+                let left = self.compute_operand_leaving_first_row_free(of, out, temps);
+                let right = evaluate_right_operand_along_row(
+                    self.source,
+                    &self.points,
+                    left,
+                    b,
+                    out,
+                    temps,
+                );
                 return apply_scaled_binary_to_row(BinaryOp::Add, out, right, factor, left, finish);
             }
         }
         if let (BinaryOp::Add, Formula::Binary(BinaryOp::Add, first, second)) = (*op, &**a) {
             if let (Some(second), Some(third)) = (
-                self.borrow_addend(second),
-                self.borrow_addend(b),
+                self.borrow_available_addend(second),
+                self.borrow_available_addend(b),
             ) {
-                let first = self.compute_operand(first, out, temps);
-                return write_sum_of_addends(out, first, second, third, finish);
+                let first = self.borrow_or_compute_operand(first, out, temps);
+                return write_sum_of_addends_to_row(out, first, second, third, finish);
             }
         }
         if self.try_extremes(formula, finish, out) {
             return;
         }
         if let (Some(extreme), Formula::Binary(inner, first, second)) = (
-            find_operator_extreme(*op),
+            classify_extreme_operator(*op),
             &**a,
         ) {
-            let others = (self.borrow_operand(second), self.borrow_operand(b));
+            let others = (
+                self.borrow_available_operand(second),
+                self.borrow_available_operand(b),
+            );
             if let (true, (Some(second), Some(third))) = (
-                is_extreme_operator(*inner, extreme),
+                is_matching_extreme_operator(*inner, extreme),
                 others,
             ) {
-                let first = self.compute_operand(first, out, temps);
+                let first = self.borrow_or_compute_operand(first, out, temps);
                 return write_extremes_of_three(extreme, out, first, second, third, finish);
             }
         }
-        let left = self.compute_operand(a, out, temps);
+        let left = self.borrow_or_compute_operand(a, out, temps);
         self.combine_with_right_operand(*op, left, b, finish, out, temps);
     }
 
@@ -361,7 +391,7 @@ impl<'a, S: RowSource> SourceRow<'a, S> {
             }
             _ => {}
         }
-        let of = self.compute_operand(formula, out, temps);
+        let of = self.borrow_or_compute_operand(formula, out, temps);
         apply_epilogue_to_row(out, of, finish);
     }
 
@@ -386,7 +416,7 @@ impl<'a, S: RowSource> SourceRow<'a, S> {
                 if let Some(finish) = Epilogue::Nothing.prepend_unary(*op) {
                     return self.evaluate_with_epilogue(a, finish, out, temps);
                 }
-                let of = self.compute_operand(a, out, temps);
+                let of = self.borrow_or_compute_operand(a, out, temps);
                 apply_unary_to_row(*op, out, of);
             }
             Formula::Binary(_, _, _) => self.evaluate_binary(
@@ -399,24 +429,36 @@ impl<'a, S: RowSource> SourceRow<'a, S> {
                 if let Some(finish) = fuse_ternary_into_epilogue(*op, b, c, &self.points) {
                     return self.evaluate_with_epilogue(a, finish, out, temps);
                 }
-                let first = self.compute_operand(a, out, temps);
+                let first = self.borrow_or_compute_operand(a, out, temps);
                 let n = out.len();
                 let (second, rest) = temps.split_at_mut(n);
                 let (third, rest) = rest.split_at_mut(n);
-                let second = build_row_operand(self.source, &self.points, b, second, rest);
-                let third = build_row_operand(self.source, &self.points, c, third, rest);
+                let second = borrow_or_evaluate_operand_along_row(
+                    self.source,
+                    &self.points,
+                    b,
+                    second,
+                    rest,
+                );
+                let third = borrow_or_evaluate_operand_along_row(
+                    self.source,
+                    &self.points,
+                    c,
+                    third,
+                    rest,
+                );
                 apply_ternary_to_row(*op, out, first, second, third);
             }
             Formula::Literal(op, a, number) => {
                 if let Some(finish) = Epilogue::Nothing.prepend_literal(*op, *number) {
                     return self.evaluate_with_epilogue(a, finish, out, temps);
                 }
-                let left = self.compute_operand(a, out, temps);
+                let left = self.borrow_or_compute_operand(a, out, temps);
                 apply_literal_op_to_row(*op, out, left, *number);
             }
             Formula::Lookup(table, a) => {
-                let of = self.compute_operand(a, out, temps);
-                look_up_row_in_table(out, of, table);
+                let of = self.borrow_or_compute_operand(a, out, temps);
+                write_table_lookups_to_row(out, of, table);
             }
             Formula::Select(a, relation, b, first, second) => {
                 self.evaluate_formula(first, out, temps);
@@ -424,10 +466,28 @@ impl<'a, S: RowSource> SourceRow<'a, S> {
                 let (left, rest) = temps.split_at_mut(n);
                 let (right, rest) = rest.split_at_mut(n);
                 let (other, rest) = rest.split_at_mut(n);
-                let left = build_row_operand(self.source, &self.points, a, left, rest);
-                let right = build_row_operand(self.source, &self.points, b, right, rest);
-                let other = build_row_operand(self.source, &self.points, second, other, rest);
-                select_row_by_relation(out, left, *relation, right, other);
+                let left = borrow_or_evaluate_operand_along_row(
+                    self.source,
+                    &self.points,
+                    a,
+                    left,
+                    rest,
+                );
+                let right = borrow_or_evaluate_operand_along_row(
+                    self.source,
+                    &self.points,
+                    b,
+                    right,
+                    rest,
+                );
+                let other = borrow_or_evaluate_operand_along_row(
+                    self.source,
+                    &self.points,
+                    second,
+                    other,
+                    rest,
+                );
+                select_by_operand_relation(out, left, *relation, right, other);
             }
             Formula::Stencil(stage, divisor, kernel) => {
                 self.evaluate_stencil(*stage, *divisor, kernel, out, temps)

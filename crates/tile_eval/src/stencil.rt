@@ -13,17 +13,18 @@ ghost use Rattle.tile_eval.specs.inside.Stencil.{row_sum, column_sum, IsUnder};
 use crate::source::RowSource;
 use crate::source_row::SourceRow;
 use job::Kernel;
-use row_kernels::{Operand, divide_row};
+use row_kernels::{Operand, write_quotients_to_row};
 use row_loops::fill_row;
 use stencil_kernels::{
-    Kernel3x1, Kernel3x3, Kernel5x1, SeparableKernel, add_scaled_row, add_tap_sums, write_tap_sums,
+    Kernel3x1, Kernel3x3, Kernel5x1, SeparableKernel, add_line_times_factor, add_tap_sums,
+    write_tap_sums,
 };
 
 // Along rows of fewer points, splitting a kernel costs more time than it saves.
 const WIDE: usize = 128;
 
 // Whether a kernel has at least three rows and columns, and more than three of one of them.
-fn has_many_factors(kernel: &Kernel) -> bool {
+fn is_separable_stencil_worthwhile(kernel: &Kernel) -> bool {
     match kernel.as_slice() {
         [first, _, _, _, ..] => first.as_slice().len() >= 3,
         [first, _, _, ..] => first.as_slice().len() > 3,
@@ -100,7 +101,7 @@ impl<'a, S: RowSource> SourceRow<'a, S> {
     }
 
     // Writes what the first row of a kernel gives.
-    fn write_first_kernel_row(
+    fn write_first_kernel_row_sums(
         &self,
         stage: usize,
         kernel: &Kernel,
@@ -122,7 +123,7 @@ impl<'a, S: RowSource> SourceRow<'a, S> {
     }
 
     // Adds what a row of a kernel gives.
-    fn add_kernel_row(
+    fn add_kernel_row_sums(
         &self,
         stage: usize,
         kernel: &Kernel,
@@ -163,9 +164,9 @@ impl<'a, S: RowSource> SourceRow<'a, S> {
             ≡ wrapped (weighted_sum kernel.now (S.samples self.now.source.now stage)
             self.now.points.row (self.now.points.col +ℤ pos k))) }
     {
-        self.write_first_kernel_row(stage, kernel, out, temps);
+        self.write_first_kernel_row_sums(stage, kernel, out, temps);
         for a in 1..kernel.as_slice().len() {
-            self.add_kernel_row(stage, kernel, a, out, temps);
+            self.add_kernel_row_sums(stage, kernel, a, out, temps);
         }
     }
 
@@ -284,7 +285,7 @@ impl<'a, S: RowSource> SourceRow<'a, S> {
             let Some(line) = self.borrow_kernel_line(stage, kernel, a, sums.len()) else {
                 return false;
             };
-            add_scaled_row(sums, line, down[a]);
+            add_line_times_factor(sums, line, down[a]);
         }
         true
     }
@@ -336,7 +337,7 @@ impl<'a, S: RowSource> SourceRow<'a, S> {
             ≡ wrapped (weighted_sum kernel.now (S.samples self.now.source.now stage)
             self.now.points.row (self.now.points.col +ℤ pos k))) }
     {
-        if out.len() < WIDE || !has_many_factors(kernel) {
+        if out.len() < WIDE || !is_separable_stencil_worthwhile(kernel) {
             return false;
         }
         match SeparableKernel::from_kernel(kernel) {
@@ -370,6 +371,6 @@ impl<'a, S: RowSource> SourceRow<'a, S> {
         {
             self.evaluate_stencil_by_rows(stage, kernel, out, temps);
         }
-        divide_row(out, Operand::Written, divisor);
+        write_quotients_to_row(out, Operand::Written, divisor);
     }
 }

@@ -25,14 +25,14 @@ pub fn compare_facts(a: &Fact, b: &Fact) -> Ordering
 }
 
 /// Bytes are the file of at most one list of retired jobs and one list of facts.
-pub fn bytes_have_one_content()
+pub fn fact_file_bytes_have_one_content()
     ensures { (bytes : List ℕ) (jobs others : List JobId) (facts other_facts : List Fact)
         → IsFactFile bytes jobs facts → IsFactFile bytes others other_facts
         → (jobs ≡ others) × (facts ≡ other_facts) }
 {}
 
 /// Rising retired jobs and rising facts of other jobs have exactly one file, and no other jobs or facts have that file.
-pub fn contents_have_one_file()
+pub fn contents_have_one_fact_file()
     ensures spelled { (jobs : List JobId) (facts : List Fact) → AreContents jobs facts
         → IsFactFile (fact_file jobs facts) jobs facts }
     ensures alone { (a b : List ℕ) (jobs : List JobId) (facts : List Fact) → IsFactFile a jobs facts
@@ -48,46 +48,46 @@ pub fn contents_have_one_file()
 pub fn facts_fit_their_records(fact: &Fact)
     ensures { IsFact fact.now }
 {
-    keys_fit_their_fields(fact.key());
+    fact_keys_fit_their_fields(fact.key());
     match fact.body() {
-        Body::Tile(samples) => samples_fit_32_bits(samples.as_slice()),
-        Body::Partial(bins) => bins_fit_64_bits(bins.as_slice()),
+        Body::Tile(samples) => fact_samples_fit_32_bits(samples.as_slice()),
+        Body::Partial(bins) => fact_bins_fit_64_bits(bins.as_slice()),
     }
 }
 
 /// The identities of each job can be written to a file: they are digests. It is a law for proofs.
-pub fn ids_fit_their_fields(ids: &JobId)
+pub fn job_ids_fit_their_fact_file_fields(ids: &JobId)
     ensures { IsIds ids.now }
 {
-    arrays_are_digests(ids.program.as_bytes());
-    arrays_are_digests(ids.input.as_bytes());
+    arrays_are_fact_file_digests(ids.program.as_bytes());
+    arrays_are_fact_file_digests(ids.input.as_bytes());
 }
 
-fn keys_fit_their_fields(key: &Key)
+fn fact_keys_fit_their_fields(key: &Key)
     ensures { IsKey key.now }
 {
-    arrays_are_digests(key.program.as_bytes());
-    arrays_are_digests(key.input.as_bytes());
-    numbers_fit_their_fields(key.stage, key.row, key.col);
+    arrays_are_fact_file_digests(key.program.as_bytes());
+    arrays_are_fact_file_digests(key.input.as_bytes());
+    fact_key_numbers_fit_their_fields(key.stage, key.row, key.col);
 }
 
-fn arrays_are_digests(bytes: &[u8; 32])
+fn arrays_are_fact_file_digests(bytes: &[u8; 32])
     ensures { IsDigest bytes.now }
 {
-    slices_are_bytes(bytes);
+    slices_are_fact_file_bytes(bytes);
 }
 
-fn slices_are_bytes(bytes: &[u8])
+fn slices_are_fact_file_bytes(bytes: &[u8])
     ensures { AreBytes bytes.now }
 {}
 
-fn numbers_fit_their_fields(stage: u16, row: u32, col: u32)
+fn fact_key_numbers_fit_their_fields(stage: u16, row: u32, col: u32)
     ensures stage { stage < 2 ^ 16 }
     ensures row { row < 2 ^ 32 }
     ensures col { col < 2 ^ 32 }
 {}
 
-fn samples_fit_32_bits(samples: &[i32])
+fn fact_samples_fit_32_bits(samples: &[i32])
     ensures { All (FitsSigned w32) samples.now }
 {
     for sample in samples {
@@ -95,7 +95,7 @@ fn samples_fit_32_bits(samples: &[i32])
     }
 }
 
-fn bins_fit_64_bits(bins: &[i64])
+fn fact_bins_fit_64_bits(bins: &[i64])
     ensures { All (FitsSigned w64) bins.now }
 {
     for bin in bins {

@@ -1,4 +1,6 @@
 //! Finished tiles as values that can be passed on and judged, and the files that hold them.
+//!
+//! Words: fact, body, fact key, fact file, fact record, retired jobs, encode, decode.
 #![tactic(auto)]
 
 mod body;

@@ -26,7 +26,7 @@ pub fn local_values_unroll()
 
 /// If supplied tiles are true, local values are the values of the job: over boxes of stages at each point of which all reads
 /// are available.
-pub fn true_tiles_give_values()
+pub fn true_tiles_give_true_local_values()
     ensures { (job : Pipeline) (inlining : List Bool) (given : KnownTiles) (boxes : ℕ → Option Area)
         (g : ℕ) (r c : ℤ) → IsJob job → AreTrue job given
         → IsClosed job inlining given (λ h. InBox (boxes h)) → InBox (boxes g) r c
@@ -34,7 +34,7 @@ pub fn true_tiles_give_values()
 {}
 
 /// Of the tiles that a target needs, the first that is not supplied has the least key of those that are not.
-pub fn first_missing_is_least()
+pub fn first_missing_tile_of_run_is_least()
     ensures { (program : List ℕ) (t : Target) (given : KnownTiles) (key other : Key)
         → first_missing given (needed_keys program t) ≡ Some key
         → Contains (needed_keys program t) other → is_missing given other ≡ true

@@ -184,7 +184,7 @@ impl PhasedRun<'_> {
 /// # Errors
 ///
 /// Fails only where memory is refused.
-pub fn make_used_function_tiles(
+pub fn make_used_stored_tiles(
     rt: &(impl Threads + Sync),
     alloc: Global,
     job: &Job,
@@ -232,7 +232,7 @@ pub fn run_all(
     if let Some(key) = find_first_oversized_tile(alloc, job, schedule, TiledStages::Functions)? {
         return Err(RunFault::ScratchTooBig(key));
     }
-    let uses = LastReads::keep_stages_for_answer(alloc, job)?;
-    let stored = make_used_function_tiles(rt, alloc, job, schedule, &uses)?;
+    let uses = LastReads::keep_all_stages_for_answer(alloc, job)?;
+    let stored = make_used_stored_tiles(rt, alloc, job, schedule, &uses)?;
     Ok(stored)
 }

@@ -30,7 +30,7 @@ pub enum TiledStages {
 }
 
 // Whether the tiles of a stage belong to the work.
-fn is_among_tiled_stages(job: &Job, schedule: &Schedule, work: TiledStages, stage: usize) -> bool
+fn is_stage_tiled_in_run(job: &Job, schedule: &Schedule, work: TiledStages, stage: usize) -> bool
     ensures { result ≡ wanted_by (pipeline_in job.now) schedule.now.inlining work stage }
 {
     match work {
@@ -160,7 +160,7 @@ fn find_oversized_tile_in_stages(
         (wanted_by (pipeline_in job.now) schedule.now.inlining work) order.now)))) }
 {
     for number in order {
-        if is_among_tiled_stages(job, schedule, work, *number) {
+        if is_stage_tiled_in_run(job, schedule, work, *number) {
             let found = find_oversized_tile_in_stage(alloc, job, schedule, *number)?;
             if found.is_some() {
                 return Ok(found);

@@ -6,13 +6,13 @@ use tile_sources::TileSource;
 
 /// The tiles of one stage in one row of its grid, and no other.
 #[derive(Clone, Copy)]
-pub struct SuppliedTileRow<'a> {
+pub struct StoredTileRow<'a> {
     pub stage: usize,
     pub row: u32,
     pub tiles: &'a TileRow,
 }
 
-impl TileSource for SuppliedTileRow<'_> {
+impl TileSource for StoredTileRow<'_> {
     ghost use Rattle.tile_run.specs.StageRuns.{lent_row};
 
     ghost given = { λ lent. lent_row lent.stage lent.row lent.tiles.now };

@@ -44,7 +44,10 @@ impl LastReads {
     /// # Errors
     ///
     /// Fails only where memory is refused.
-    pub(crate) fn keep_stages_for_answer(alloc: Global, job: &Job) -> Result<LastReads, AllocError>
+    pub(crate) fn keep_all_stages_for_answer(
+        alloc: Global,
+        job: &Job,
+    ) -> Result<LastReads, AllocError>
         ensures lasts { IfOk result (λ uses. (inlining : List Bool)
             → HasLasts (pipeline_in job.now) inlining uses.lasts.items) }
         ensures each { IfOk result (λ uses. (g : ℕ)

@@ -1,4 +1,6 @@
 //! What a tile reads: samples of planes, converted once where they are read often, and numbers of supplied tiles.
+//!
+//! Words: tile source, plane buffer, plane read, plane area, plane row, for tile, supplied tile, supplied row.
 #![tactic(auto)]
 
 mod plane_buffer;
@@ -12,7 +14,7 @@ mod tile_source;
 
 pub use plane_buffers::PlaneBuffers;
 pub use plane_reads::{PlaneAreas, find_plane_areas_to_convert};
-pub use ranges::borrow_tile_number_range;
+pub use ranges::borrow_tile_source_range;
 pub use samples::{gather_plane_row_for_tile, read_plane_row_for_tile, read_sample_for_tile};
 pub use supplied_rows::borrow_supplied_row_part;
 pub use supplied_tiles::SuppliedTiles;

@@ -11,11 +11,11 @@ ghost use Rattle.tile_eval.specs.Raster.{place_of};
 ghost use Rattle.tile_eval.specs.Rows.{EachPlace, at};
 ghost use Rattle.tile_sources.specs.Wide.{IsWide};
 
-use crate::ranges::borrow_tile_number_range;
+use crate::ranges::borrow_tile_source_range;
 use crate::samples::read_plane_row_for_tile;
 use domains::{Area, Span};
 use netpbm::Picture;
-use row_kernels::offset_coordinate;
+use row_kernels::find_coordinate_at_place;
 use std::alloc::{AllocError, Global};
 use tile_eval::BufferView;
 
@@ -28,7 +28,7 @@ pub(crate) struct PlaneBuffer {
 
 // How many numbers of a span there are from this one on.
 #[tactic(auto, using(std::proofs::lemmas::Int::ints))]
-fn count_plane_columns_from(span: &Span, first: i32) -> usize
+fn count_plane_buffer_columns_from(span: &Span, first: i32) -> usize
     requires { Holds span.now first }
     ensures { (first +ℤ pos result) ≡ span.now.hi +ℤ pos 1 }
 {
@@ -36,7 +36,7 @@ fn count_plane_columns_from(span: &Span, first: i32) -> usize
 }
 
 // The area of a picture.
-fn find_readable_plane_area(picture: &Picture) -> Option<Area>
+fn compute_full_plane_area(picture: &Picture) -> Option<Area>
     ensures { IfSome result (λ area. area ≡ picture_area picture.now) }
 {
     let rows = Span::new(0, picture.rows() as i32 - 1)?;
@@ -45,11 +45,11 @@ fn find_readable_plane_area(picture: &Picture) -> Option<Area>
 }
 
 // Whether a picture has this plane, and an area lies within the picture.
-fn can_convert_plane_area(picture: &Picture, plane: usize, area: &Area) -> bool
+fn is_plane_area_in_picture(picture: &Picture, plane: usize, area: &Area) -> bool
     ensures plane { IsTrue result → plane < length picture.now.planes }
     ensures area { IsTrue result → IsSubarea area.now (picture_area picture.now) }
 {
-    match find_readable_plane_area(picture) {
+    match compute_full_plane_area(picture) {
         Some(whole) => plane < picture.plane_count() && area.inside(&whole),
         None => false,
     }
@@ -66,7 +66,7 @@ fn convert_plane_area(picture: &Picture, plane: usize, area: &Area, out: &mut [i
     let count = area.cols.len() as usize;
     for i in 0..area.rows.len() as usize {
         let from = i * count;
-        let row = offset_coordinate(area.rows.lo(), i);
+        let row = find_coordinate_at_place(area.rows.lo(), i);
         let line = &mut out[from..from + count];
         read_plane_row_for_tile(picture, plane, row, area.cols.lo(), line);
     }
@@ -103,7 +103,7 @@ impl PlaneBuffer {
         self.area = None;
         if let Some(area) = area {
             let size = area.points() as usize;
-            if size <= self.samples.len() && can_convert_plane_area(picture, plane, area) {
+            if size <= self.samples.len() && is_plane_area_in_picture(picture, plane, area) {
                 convert_plane_area(picture, plane, area, &mut self.samples);
                 self.area = Some(*area);
             }
@@ -118,10 +118,10 @@ impl PlaneBuffer {
             (λ k. at line.now k ≡ sample_at picture n row (first +ℤ pos k))) }
     {
         let area = self.area?;
-        if !area.holds(row, first) || count_plane_columns_from(&area.cols, first) < count {
+        if !area.holds(row, first) || count_plane_buffer_columns_from(&area.cols, first) < count {
             return None;
         }
-        let samples = borrow_tile_number_range(&self.samples, 0, area.points() as usize)?;
+        let samples = borrow_tile_source_range(&self.samples, 0, area.points() as usize)?;
         let view = BufferView::new(area, samples);
         Some(view.slice_row(row, first, count))
     }

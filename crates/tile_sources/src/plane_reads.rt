@@ -16,26 +16,26 @@ pub struct PlaneAreas {
 
 // How a plane is read: how many samples in all, and over which area.
 #[derive(Clone, Copy)]
-struct ReadsOfOnePlane {
+struct PlaneReads {
     samples: u64,
     area: Option<Area>,
 }
 
-impl ReadsOfOnePlane {
-    fn new() -> ReadsOfOnePlane {
-        ReadsOfOnePlane {
+impl PlaneReads {
+    fn new() -> PlaneReads {
+        PlaneReads {
             samples: 0,
             area: None,
         }
     }
 
     // Adds `samples` samples, over this area.
-    fn add_area_reads(&self, samples: u64, area: Area) -> ReadsOfOnePlane {
+    fn add_area_reads(&self, samples: u64, area: Area) -> PlaneReads {
         let area = match self.area {
             Some(own) => own.hull(&area),
             None => area,
         };
-        ReadsOfOnePlane {
+        PlaneReads {
             samples: self.samples.saturating_add(samples),
             area: Some(area),
         }
@@ -54,7 +54,7 @@ impl ReadsOfOnePlane {
 }
 
 // What an index takes the numbers of a span to, if the span lies near enough to 0.
-fn find_plane_span_read_by_index(index: &Index, span: &Span) -> Option<Span> {
+fn find_plane_read_span(index: &Index, span: &Span) -> Option<Span> {
     if -32_767 <= span.lo() && span.hi() <= 32_768 {
         Some(index.image(span))
     } else {
@@ -62,30 +62,30 @@ fn find_plane_span_read_by_index(index: &Index, span: &Span) -> Option<Span> {
     }
 }
 
-fn find_plane_region_read_by_indices(row: &Index, col: &Index, region: &Area) -> Option<Area> {
-    let rows = find_plane_span_read_by_index(row, &region.rows)?;
-    let cols = find_plane_span_read_by_index(col, &region.cols)?;
+fn find_plane_read_area(row: &Index, col: &Index, region: &Area) -> Option<Area> {
+    let rows = find_plane_read_span(row, &region.rows)?;
+    let cols = find_plane_read_span(col, &region.cols)?;
     Some(Area { rows, cols })
 }
 
 // A span with `by` more numbers on each side.
-fn extend_plane_span(span: &Span, by: usize) -> Option<Span> {
+fn extend_plane_read_span_on_both_sides(span: &Span, by: usize) -> Option<Span> {
     let by = by.min(7) as i32;
     Span::new(span.lo() - by, span.hi() + by)
 }
 
-fn find_plane_region_read_by_kernel(kernel: &Kernel, region: &Area) -> Option<Area> {
+fn find_plane_read_area_by_kernel(kernel: &Kernel, region: &Area) -> Option<Area> {
     let lines = kernel.as_slice();
     let width = lines.first()?.as_slice().len();
-    let rows = extend_plane_span(&region.rows, lines.len() / 2)?;
-    let cols = extend_plane_span(&region.cols, width / 2)?;
+    let rows = extend_plane_read_span_on_both_sides(&region.rows, lines.len() / 2)?;
+    let cols = extend_plane_read_span_on_both_sides(&region.cols, width / 2)?;
     Some(Area { rows, cols })
 }
 
 // Adds reads of a stage, if it is a plane: of `samples` samples, over this area of its domain.
-fn record_reads_of_plane(
+fn record_plane_reads_over_area(
     job: &Job,
-    reads: &mut [ReadsOfOnePlane],
+    reads: &mut [PlaneReads],
     stage: usize,
     samples: u64,
     area: Option<Area>,
@@ -104,7 +104,7 @@ fn record_reads_of_plane(
 // Adds the reads of a formula over a region. One that takes columns that are not adjacent is left out.
 fn record_plane_reads_of_formula(
     job: &Job,
-    reads: &mut [ReadsOfOnePlane],
+    reads: &mut [PlaneReads],
     formula: &Formula,
     region: &Area,
 ) {
@@ -112,8 +112,8 @@ fn record_plane_reads_of_formula(
         Formula::Number(_) | Formula::Coordinate(_) => {}
         Formula::Read(stage, row, col) => {
             if col.mul() == 1 && col.div() == 1 {
-                let area = find_plane_region_read_by_indices(row, col, region);
-                record_reads_of_plane(job, reads, *stage, region.points(), area);
+                let area = find_plane_read_area(row, col, region);
+                record_plane_reads_over_area(job, reads, *stage, region.points(), area);
             }
         }
         Formula::Unary(_, a) | Formula::Lookup(_, a) | Formula::Literal(_, a, _) => {
@@ -138,23 +138,18 @@ fn record_plane_reads_of_formula(
             let samples = region
                 .points()
                 .saturating_mul(kernel.as_slice().len() as u64);
-            record_reads_of_plane(
+            record_plane_reads_over_area(
                 job,
                 reads,
                 *stage,
                 samples,
-                find_plane_region_read_by_kernel(kernel, region),
+                find_plane_read_area_by_kernel(kernel, region),
             );
         }
     }
 }
 
-fn record_plane_reads_of_case(
-    job: &Job,
-    reads: &mut [ReadsOfOnePlane],
-    case: &JobCase,
-    region: &Area,
-) {
+fn record_plane_reads_of_case(job: &Job, reads: &mut [PlaneReads], case: &JobCase, region: &Area) {
     if let Some(area) = case.area() {
         if let Some(common) = area.meet(region) {
             record_plane_reads_of_formula(job, reads, case.formula(), &common);
@@ -164,7 +159,7 @@ fn record_plane_reads_of_case(
 
 fn record_plane_reads_of_function(
     job: &Job,
-    reads: &mut [ReadsOfOnePlane],
+    reads: &mut [PlaneReads],
     function: &Function,
     region: &Area,
 ) {
@@ -177,7 +172,7 @@ fn record_plane_reads_of_function(
 }
 
 // Adds the reads of a step.
-fn record_plane_reads_of_step(job: &Job, reads: &mut [ReadsOfOnePlane], step: &TileStep) {
+fn record_plane_reads_of_step(job: &Job, reads: &mut [PlaneReads], step: &TileStep) {
     let Some(found) = job.stage(step.stage) else {
         return;
     };
@@ -196,7 +191,7 @@ fn record_plane_reads_of_step(job: &Job, reads: &mut [ReadsOfOnePlane], step: &T
 /// Of each plane the area over which these steps read its samples. There is one if they read them repeatedly, row by row,
 /// and it has no more points than four times the largest step.
 pub fn find_plane_areas_to_convert(job: &Job, steps: &[TileStep]) -> PlaneAreas {
-    let mut reads = [ReadsOfOnePlane::new(); 3];
+    let mut reads = [PlaneReads::new(); 3];
     let mut largest = 0;
     for step in steps {
         record_plane_reads_of_step(job, &mut reads, step);

@@ -12,7 +12,7 @@ ghost use Rattle.tile_sources.specs.inside.Tiles.{IsTileAbout};
 
 use crate::tile_source::TileSource;
 use domains::{Grid, Index, Span};
-use row_kernels::{BufferView, RowSpan, offset_coordinate};
+use row_kernels::{BufferView, RowSpan, find_coordinate_at_place};
 
 /// The supplied tiles of one stage.
 #[derive(Drop)]
@@ -26,7 +26,7 @@ pub struct SuppliedTiles<'a, K: TileSource> {
 
 // How many numbers of a span there are from this one on, but at most `most`.
 #[tactic(auto, using(std::proofs::lemmas::Int::ints))]
-fn count_tile_columns_from(span: &Span, first: i32, most: usize) -> usize
+fn count_supplied_tile_columns_from(span: &Span, first: i32, most: usize) -> usize
     requires held { Holds span.now first }
     requires some { 0 < most }
     ensures some { 0 < result }
@@ -38,7 +38,7 @@ fn count_tile_columns_from(span: &Span, first: i32, most: usize) -> usize
 
 // How many of some points, from the first on, an index takes into a span. An index never falls: between two columns that it
 // takes into the span it takes all columns there, so the last is found by binary search.
-fn count_points_in_tile_columns(span: &Span, col: &Index, points: &RowSpan) -> usize
+fn count_first_points_in_supplied_tile(span: &Span, col: &Index, points: &RowSpan) -> usize
     requires held { Holds span.now (index_at col.now points.now.col) }
     requires some { 0 < points.now.len }
     ensures some { 0 < result }
@@ -60,7 +60,7 @@ fn count_points_in_tile_columns(span: &Span, col: &Index, points: &RowSpan) -> u
 }
 
 // `count` numbers of a block along a row, from a column on, if its columns go so far.
-fn borrow_row_within_tile<'a>(
+fn borrow_row_within_supplied_tile<'a>(
     block: &BufferView<'a>,
     row: i32,
     first: i32,
@@ -73,7 +73,7 @@ fn borrow_row_within_tile<'a>(
     ensures values { IfSome result (λ line. EachPlace count (λ k. at line.now k
         ≡ at block.now.values.now (place_of block.now.area row (first +ℤ pos k)))) }
 {
-    if count == 0 || count_tile_columns_from(block.columns(), first, count) < count {
+    if count == 0 || count_supplied_tile_columns_from(block.columns(), first, count) < count {
         return None;
     }
     Some(block.slice_row(row, first, count))
@@ -108,7 +108,7 @@ impl<'a, K: TileSource> SuppliedTiles<'a, K> {
             Some(block) => block.slice_row(
                 row,
                 first,
-                count_tile_columns_from(block.columns(), first, most),
+                count_supplied_tile_columns_from(block.columns(), first, most),
             ),
             None => unreachable!(),
         }
@@ -140,7 +140,11 @@ impl<'a, K: TileSource> SuppliedTiles<'a, K> {
     {
         let mut done = 0;
         while done < out.len() {
-            done += self.read_row_part(row, offset_coordinate(first, done), &mut out[done..]);
+            done += self.read_row_part(
+                row,
+                find_coordinate_at_place(first, done),
+                &mut out[done..],
+            );
         }
     }
 
@@ -159,7 +163,7 @@ impl<'a, K: TileSource> SuppliedTiles<'a, K> {
     {
         match self.view_tile_at(row, points.first_column_at_index(col)) {
             Some(block) => {
-                let count = count_points_in_tile_columns(block.columns(), col, points);
+                let count = count_first_points_in_supplied_tile(block.columns(), col, points);
                 block.gather_row(row, col, &points.first_points(count), &mut out[..count]);
                 count
             }
@@ -197,7 +201,7 @@ impl<'a, K: TileSource> SuppliedTiles<'a, K> {
             (first +ℤ pos k))) }
     {
         match self.view_tile_at(row, first) {
-            Some(block) => borrow_row_within_tile(&block, row, first, count),
+            Some(block) => borrow_row_within_supplied_tile(&block, row, first, count),
             None => None,
         }
     }

@@ -7,7 +7,7 @@ use std::alloc::{AllocError, Global};
 use tile_fact::{Fact, Update};
 
 /// The same updates.
-pub fn copy_updates(alloc: Global, updates: &[Update]) -> Result<Vec<Update>, AllocError>
+pub fn copy_update_list(alloc: Global, updates: &[Update]) -> Result<Vec<Update>, AllocError>
     ensures { IfOk result (λ copies. copies.items ≡ updates.now) }
 {
     let mut copies = Vec::with_capacity(alloc, updates.len())?;
@@ -18,7 +18,7 @@ pub fn copy_updates(alloc: Global, updates: &[Update]) -> Result<Vec<Update>, Al
 }
 
 /// The update that is this fact, alone.
-pub fn copy_fact_to_updates(alloc: Global, fact: &Fact) -> Result<Vec<Update>, AllocError>
+pub fn make_update_list_of_fact(alloc: Global, fact: &Fact) -> Result<Vec<Update>, AllocError>
     ensures { IfOk result (λ updates. updates.items ≡ update.Fact fact.now ∷ []) }
 {
     let mut updates = Vec::with_capacity(alloc, 1)?;

@@ -1,6 +1,8 @@
 //! Facts and retirements on their way between nodes: which are true, and copies of them.
+//!
+//! Words: update list.
 #![tactic(auto)]
 
 mod copies;
 
-pub use copies::{copy_fact_to_updates, copy_updates};
+pub use copies::{copy_update_list, make_update_list_of_fact};

@@ -13,7 +13,7 @@ use std::alloc::{AllocError, Global};
 use tile_eval::{RowSource, compute_function_capacity, evaluate_function_area};
 
 /// The values of a function on its domain, row by row.
-pub fn evaluate_function_domain<S: RowSource>(
+pub fn evaluate_whole_function<S: RowSource>(
     alloc: Global,
     source: &S,
     function: &Function,

@@ -1,4 +1,6 @@
 //! Stages on their whole domains: computed without tiles and independently of schedules, each after those that it reads.
+//!
+//! Words: stage buffer, whole stage, whole function, whole plane, plain.
 #![tactic(auto)]
 
 mod buffer_source;
@@ -10,4 +12,4 @@ mod stages;
 mod true_stages;
 
 pub use buffers::{StageBuffer, StageBuffers};
-pub use true_stages::{TrueStages, compute_plain_stages, find_function_tile_area, plain};
+pub use true_stages::{WholeStages, compute_whole_stages, find_tile_area_in_whole_function, plain};

@@ -13,7 +13,10 @@ use row_kernels::convert_samples_to_row;
 use std::alloc::{AllocError, Global};
 
 // The samples, converted to int32.
-fn convert_plane_samples(alloc: Global, samples: &PlaneSamples<'_>) -> Result<Vec<i32>, AllocError>
+fn convert_samples_of_whole_plane(
+    alloc: Global,
+    samples: &PlaneSamples<'_>,
+) -> Result<Vec<i32>, AllocError>
     ensures { IfOk result (λ values. (length values.items ≡ count_in samples.now)
         × EachPlace (count_in samples.now)
         (λ k. at values.items k ≡ pos (sample_in samples.now k))) }
@@ -24,10 +27,14 @@ fn convert_plane_samples(alloc: Global, samples: &PlaneSamples<'_>) -> Result<Ve
 }
 
 /// The samples of a plane, row by row.
-pub fn convert_plane(alloc: Global, picture: &Picture, plane: usize) -> Result<Vec<i32>, AllocError>
+pub fn convert_whole_plane(
+    alloc: Global,
+    picture: &Picture,
+    plane: usize,
+) -> Result<Vec<i32>, AllocError>
     requires { plane < length picture.now.planes }
     ensures { IfOk result
         (λ values. values.items ≡ raster (picture_area picture.now) (sample_at picture.now plane)) }
 {
-    convert_plane_samples(alloc, &picture.samples(plane))
+    convert_samples_of_whole_plane(alloc, &picture.samples(plane))
 }

@@ -8,8 +8,8 @@ ghost use Rattle.whole_stages.specs.Known.{AreTrue, IsServed};
 ghost use Rattle.whole_stages.specs.inside.Kept.{IsKept, HasInputs, KnowsMore};
 
 use crate::buffers::{StageBuffer, StageBuffers};
-use crate::functions::evaluate_function_domain;
-use crate::planes::convert_plane;
+use crate::functions::evaluate_whole_function;
+use crate::planes::convert_whole_plane;
 use job::{Body, Job, StageKind};
 use std::alloc::{AllocError, Global};
 
@@ -112,8 +112,8 @@ impl StageBuffers {
             return Ok(Vec::new(alloc));
         };
         match stage.body() {
-            Body::Plane(plane) => convert_plane(alloc, job.picture(), *plane),
-            Body::Function(function) => evaluate_function_domain(
+            Body::Plane(plane) => convert_whole_plane(alloc, job.picture(), *plane),
+            Body::Function(function) => evaluate_whole_function(
                 alloc,
                 self,
                 function,

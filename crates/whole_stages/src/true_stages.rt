@@ -14,14 +14,14 @@ use std::alloc::{AllocError, Global};
 
 /// Some stages of a job and all that they read, whole, each computed once.
 #[derive(Drop)]
-pub struct TrueStages<'a> {
+pub struct WholeStages<'a> {
     job: &'a Job,
     known: StageBuffers,
     ghost places: { length known.buffers.items ≡ length (pipeline_in job.now).stages },
     ghost right: { AreTrue (pipeline_in job.now) known.buffers.items },
 }
 
-impl<'a> TrueStages<'a> {
+impl<'a> WholeStages<'a> {
     /// The planes and functions among some stages, and what all of these stages read. Unknown numbers do not count.
     ///
     /// # Errors
@@ -31,7 +31,7 @@ impl<'a> TrueStages<'a> {
         alloc: Global,
         job: &'a Job,
         stages: &[usize],
-    ) -> Result<TrueStages<'a>, AllocError>
+    ) -> Result<WholeStages<'a>, AllocError>
         ensures job { IfOk result (λ found. found.job.now ≡ job.now) }
         ensures served { IfOk result
             (λ found. All (IsServed (pipeline_in job.now) found.known.buffers.items) stages.now) }
@@ -40,7 +40,7 @@ impl<'a> TrueStages<'a> {
         for stage in stages {
             known.compute_stage(alloc, job, *stage)?;
         }
-        Ok(TrueStages { job, known })
+        Ok(WholeStages { job, known })
     }
 
     /// The job whose stages these are.
@@ -81,7 +81,7 @@ impl<'a> TrueStages<'a> {
         ensures { result.items ≡ stage_values (pipeline_in self.entry.job.now) stage }
     {
         let mut known = self.known;
-        match known.take_buffer(stage) {
+        match known.take_buffer_of_stage(stage) {
             Some(whole) => whole.into_stage_values(),
             None => Vec::new(alloc),
         }
@@ -106,7 +106,7 @@ impl<'a> TrueStages<'a> {
         ensures none { IfOk result (λ found. IfNone found ((values : List ℤ)
             → ¬ (IsTrueTile (pipeline_in self.now.job.now) stage row col values))) }
     {
-        let Some(area) = find_function_tile_area(self.job, stage, row, col) else {
+        let Some(area) = find_tile_area_in_whole_function(self.job, stage, row, col) else {
             return Ok(None);
         };
         match self.known.find_buffer(stage) {
@@ -117,7 +117,7 @@ impl<'a> TrueStages<'a> {
 }
 
 /// The area of a function's tile in this row and column of its grid; none if there is no such tile, or no such function.
-pub fn find_function_tile_area(job: &Job, stage: usize, row: u32, col: u32) -> Option<Area>
+pub fn find_tile_area_in_whole_function(job: &Job, stage: usize, row: u32, col: u32) -> Option<Area>
     ensures some { IfSome result (IsFunctionTile (pipeline_in job.now) stage row col) }
     ensures none { IfNone result
         ((area : Area) → ¬ (IsFunctionTile (pipeline_in job.now) stage row col area)) }
@@ -138,7 +138,7 @@ pub fn find_function_tile_area(job: &Job, stage: usize, row: u32, col: u32) -> O
 pub fn plain(alloc: Global, job: &Job, stage: usize) -> Result<Vec<i32>, AllocError>
     ensures { IfOk result (λ values. values.items ≡ stage_values (pipeline_in job.now) stage) }
 {
-    Ok(TrueStages::from_job(alloc, job, &[stage])?.into_stage_values(alloc, stage))
+    Ok(WholeStages::from_job(alloc, job, &[stage])?.into_stage_values(alloc, stage))
 }
 
 /// The values of several stages; what they read is computed once.
@@ -146,7 +146,7 @@ pub fn plain(alloc: Global, job: &Job, stage: usize) -> Result<Vec<i32>, AllocEr
 /// # Errors
 ///
 /// Fails only where memory is refused.
-pub fn compute_plain_stages(
+pub fn compute_whole_stages(
     alloc: Global,
     job: &Job,
     stages: &[usize],
@@ -154,7 +154,7 @@ pub fn compute_plain_stages(
     ensures { IfOk result (λ all. map (λ values. values.items) all.items
         ≡ map (stage_values (pipeline_in job.now)) stages.now) }
 {
-    let known = TrueStages::from_job(alloc, job, stages)?;
+    let known = WholeStages::from_job(alloc, job, stages)?;
     let mut all = Vec::with_capacity(alloc, stages.len())?;
     for stage in stages {
         all.push(known.copy_stage_values(alloc, *stage)?)?;

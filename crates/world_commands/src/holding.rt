@@ -6,14 +6,14 @@ ghost use Rattle.world_commands.specs.WorldLines.{node_lines};
 ghost use Rattle.world_commands.specs.inside.Outcomes.{held_line};
 
 use crate::contents::WorldNodeReport;
-use command_line::NodesArg;
+use command_line::NodesArgument;
 use std::alloc::{AllocError, Global};
 use worlds::World;
 
 /// What each of so many nodes holds.
 pub fn collect_world_node_reports(
     alloc: Global,
-    nodes: NodesArg,
+    nodes: NodesArgument,
     world: &World,
 ) -> Result<Vec<WorldNodeReport>, AllocError>
     requires { length world.now.network.nodes ≡ nodes }

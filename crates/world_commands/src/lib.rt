@@ -1,4 +1,6 @@
 //! The command `world`: the world of an input's script, and the lines that report what its nodes hold.
+//!
+//! Words: world stream, world input, world outcome, world node report, world node line, requested world.
 #![tactic(auto)]
 
 mod contents;

@@ -8,10 +8,10 @@ ghost use Rattle.world_commands.specs.inside.Outcomes.{outcome_lines};
 
 use crate::contents::WorldNodeReport;
 use crate::holding::collect_world_node_reports;
-use crate::start::make_world_of_options;
+use crate::start::make_requested_world;
 use crate::world_input::read_world_input;
 use command_faults::StreamFault;
-use command_line::{NodesArg, Options};
+use command_line::{NodesArgument, Options};
 use gossip_events::Event;
 use std::alloc::{AllocError, Global};
 use worlds::World;
@@ -27,7 +27,7 @@ pub struct WorldOutcome {
 /// What becomes of so many nodes by the script of an input. The input is freed.
 pub fn compute_outcome_of_world_input(
     alloc: Global,
-    nodes: NodesArg,
+    nodes: NodesArgument,
     options: &Options,
     given: &[(String, i32)],
     input: Vec<u8>,
@@ -37,14 +37,14 @@ pub fn compute_outcome_of_world_input(
     ensures fault { IfErr result (IsWorldFault input.items given.now options.now.sides) }
 {
     let (catalog, events) = read_world_input(alloc, options, given, input)?;
-    let world = make_world_of_options(alloc, nodes, options, catalog)?;
-    Ok(run_events_of_world_input(alloc, nodes, world, &events)?)
+    let world = make_requested_world(alloc, nodes, options, catalog)?;
+    Ok(run_events_to_world_outcome(alloc, nodes, world, &events)?)
 }
 
 /// What becomes by the events of a world of so many nodes that hold nothing.
-fn run_events_of_world_input(
+fn run_events_to_world_outcome(
     alloc: Global,
-    nodes: NodesArg,
+    nodes: NodesArgument,
     world: World,
     events: &[Event],
 ) -> Result<WorldOutcome, AllocError>

@@ -24,12 +24,12 @@ pub fn write_world_outcome<W: Sink>(
         (W.failures writer.old) (W.failures writer.new) }
 {
     let mut buffer = WriteBuffer::new();
-    put_done_and_refused_event_counts(&mut buffer, writer, outcome.done, outcome.refused)?;
+    put_world_outcome_event_counts(&mut buffer, writer, outcome.done, outcome.refused)?;
     put_world_node_lines(&mut buffer, writer, &outcome.nodes)?;
     buffer.flush(writer)
 }
 
-fn put_done_and_refused_event_counts<W: Sink>(
+fn put_world_outcome_event_counts<W: Sink>(
     buffer: &mut WriteBuffer,
     writer: &mut W,
     done: usize,
@@ -70,11 +70,11 @@ fn put_world_node_line<W: Sink>(
         (W.contents writer.old) (W.contents writer.new)
         (W.failures writer.old) (W.failures writer.new) }
 {
-    put_world_node_head(buffer, writer, node.node)?;
+    put_world_node_line_head(buffer, writer, node.node)?;
     put_fact_file_line(buffer, writer, &node.retired, &node.facts, node.counts)
 }
 
-fn put_world_node_head<W: Sink>(
+fn put_world_node_line_head<W: Sink>(
     buffer: &mut WriteBuffer,
     writer: &mut W,
     node: u8,

@@ -5,15 +5,15 @@ ghost use Rattle.gossip_core.specs.Histories.{Leads};
 ghost use Rattle.world_commands.specs.WorldSayings.{inlinings, work_of};
 
 use catalog::Catalog;
-use command_jobs::make_schedule_of_options;
-use command_line::{NodesArg, Options};
+use command_jobs::make_requested_schedule;
+use command_line::{NodesArgument, Options};
 use std::alloc::{AllocError, Global};
 use worlds::{NodeSchedules, World, WorldFault};
 
 /// So many nodes that hold nothing, with the jobs of a catalog, by the schedules that the options request.
-pub fn make_world_of_options(
+pub fn make_requested_world(
     alloc: Global,
-    nodes: NodesArg,
+    nodes: NodesArgument,
     options: &Options,
     catalog: Catalog,
 ) -> Result<World, AllocError>
@@ -21,7 +21,7 @@ pub fn make_world_of_options(
         (λ w. w.work ≡ work_of nodes options.now.stored options.now.percent catalog) }
     ensures led { IfOk result (λ w. Leads w.work nodes [] [] w.network) }
 {
-    let schedules = make_world_schedules_of_options(alloc, nodes, options, &catalog)?;
+    let schedules = make_requested_world_schedules(alloc, nodes, options, &catalog)?;
     match World::new(alloc, catalog, schedules) {
         Ok(world) => Ok(world),
         Err((_, _, WorldFault::Memory)) => Err(AllocError),
@@ -30,9 +30,9 @@ pub fn make_world_of_options(
 }
 
 /// The schedules of each node.
-fn make_world_schedules_of_options(
+fn make_requested_world_schedules(
     alloc: Global,
-    nodes: NodesArg,
+    nodes: NodesArgument,
     options: &Options,
     catalog: &Catalog,
 ) -> Result<Vec<NodeSchedules>, AllocError>
@@ -41,13 +41,13 @@ fn make_world_schedules_of_options(
 {
     let mut schedules = Vec::new(alloc);
     for _ in 0..nodes.get() {
-        schedules.push(make_node_schedules_of_options(alloc, options, catalog)?)?;
+        schedules.push(make_requested_world_schedules_of_node(alloc, options, catalog)?)?;
     }
     Ok(schedules)
 }
 
 /// The schedules of one node, one for each job.
-fn make_node_schedules_of_options(
+fn make_requested_world_schedules_of_node(
     alloc: Global,
     options: &Options,
     catalog: &Catalog,
@@ -58,7 +58,7 @@ fn make_node_schedules_of_options(
     let mut schedules = Vec::new(alloc);
     for index in 0..catalog.len() {
         match catalog.job(index) {
-            Some(job) => schedules.push(make_schedule_of_options(alloc, job, options)?)?,
+            Some(job) => schedules.push(make_requested_schedule(alloc, job, options)?)?,
             None => unreachable!(),
         }
     }

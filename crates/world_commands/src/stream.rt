@@ -7,8 +7,8 @@ ghost use Rattle.world_commands.specs.WorldSayings.{saying_of_world};
 use crate::outcome::compute_outcome_of_world_input;
 use crate::outcome_lines::write_world_outcome;
 use command_faults::StreamFault;
-use command_line::{NodesArg, Options};
-use command_outcomes::read_command_input;
+use command_line::{NodesArgument, Options};
+use command_outcomes::read_command_input_bytes;
 use streams::{Sink, Source};
 
 /// Reads a program, a script and a picture, and processes the events of the script from so many nodes that hold nothing. It
@@ -20,7 +20,7 @@ use streams::{Sink, Source};
 /// byte is written, and the digits are written through a buffer of fixed size.
 pub fn world_stream<H: AllocGlobal, R: Source, W: Sink>(
     rt: &H,
-    nodes: NodesArg,
+    nodes: NodesArgument,
     options: &Options,
     parameters: &[(String, i32)],
     reader: &mut R,
@@ -35,7 +35,7 @@ pub fn world_stream<H: AllocGlobal, R: Source, W: Sink>(
     ensures read { CountsRead result (R.failures reader.old) (R.failures reader.new) }
     ensures write { CountsWritten result (W.failures writer.old) (W.failures writer.new) }
 {
-    let input = read_command_input(rt.alloc(), reader)?;
+    let input = read_command_input_bytes(rt.alloc(), reader)?;
     let outcome = compute_outcome_of_world_input(rt.alloc(), nodes, options, parameters, input)?;
     Ok(write_world_outcome(&outcome, writer)?)
 }

@@ -6,7 +6,7 @@ ghost use Rattle.world_commands.specs.WorldInput.{IsReadWorld};
 
 use catalog::Catalog;
 use command_faults::StreamFault;
-use command_inputs::{make_catalog_of_input_job, read_input_job_and_middle};
+use command_inputs::{make_catalog_of_input_job, read_input_job_and_middle_section};
 use command_line::Options;
 use gossip_events::{Event, parse_script};
 use std::alloc::Global;
@@ -23,7 +23,12 @@ pub fn read_world_input(
         (λ read. IsReadWorld input.items given.now options.now.sides read.0 read.1.items) }
     ensures fault { IfErr result (IsWorldFault input.items given.now options.now.sides) }
 {
-    let (job, script) = read_input_job_and_middle(alloc, options.sides, given, input.as_slice())?;
+    let (job, script) = read_input_job_and_middle_section(
+        alloc,
+        options.sides,
+        given,
+        input.as_slice(),
+    )?;
     let catalog = make_catalog_of_input_job(alloc, job)?;
     let events = parse_script(alloc, &catalog, script)?;
     Ok((catalog, events))

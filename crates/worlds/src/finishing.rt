@@ -13,7 +13,7 @@ ghost use Rattle.worlds.specs.inside.Making.{IsRoomFault};
 
 use crate::fault::FinishFault;
 use crate::world::World;
-use catalog::compute_job_ids;
+use catalog::compute_catalog_job_ids;
 use fact_store::FactStore;
 use gossip_events::Event;
 use grouping::Schedule;
@@ -38,7 +38,12 @@ impl<S: FactStore> World<S> {
     {
         let planned = self.find_job_to_finish(n, job)?;
         let keys = list_and_check_keys_to_finish(self.alloc, &planned)?;
-        Ok(list_make_and_deliver_events(self.alloc, n, self.network.count_messages(), &keys)?)
+        Ok(list_make_and_deliver_events_to_finish(
+            self.alloc,
+            n,
+            self.network.count_messages(),
+            &keys,
+        )?)
     }
 
     // The job, which node n has not retired, and what the node holds and how it makes its tiles.
@@ -60,7 +65,7 @@ impl<S: FactStore> World<S> {
         let Some(schedule) = self.jobs.schedules[usize::from(n)].find_schedule_of_job(job) else {
             unreachable!();
         };
-        if node.held.has_retired_job(&compute_job_ids(planned)) {
+        if node.held.has_retired_job(&compute_catalog_job_ids(planned)) {
             return Err(FinishFault::Retired);
         }
         Ok(WorldNodeJob {
@@ -114,7 +119,7 @@ fn list_keys_to_finish<S: FactStore>(
 }
 
 // A making of each key by the node, and its delivery, if `sent` messages were sent before.
-fn list_make_and_deliver_events(
+fn list_make_and_deliver_events_to_finish(
     alloc: Global,
     n: u8,
     sent: usize,

@@ -1,4 +1,6 @@
 //! Worlds of nodes that run events one at a time: make, send, deliver, merge, keep, restart, retire.
+//!
+//! Words: world, world network, world jobs, world step fault, finish, to finish, node schedules.
 #![tactic(auto)]
 
 mod fault;

@@ -116,7 +116,7 @@ impl<S: FactStore> WorldNetwork<S> {
         let node = &self.nodes[n];
         let fact = match jobs.make_fact_at_node(n, &node.held, key) {
             Ok(fact) => fact,
-            Err(fault) => return Err(convert_make_fault_to_step_fault(fault)),
+            Err(fault) => return Err(convert_make_fault_to_world_step_fault(fault)),
         };
         let mut state = NodeState::new(self.alloc);
         state.take(fact)?;
@@ -230,7 +230,7 @@ impl<S: FactStore> WorldNetwork<S> {
 }
 
 // The fault of a step whose node cannot make the fact.
-fn convert_make_fault_to_step_fault(fault: MakeFault) -> StepFault
+fn convert_make_fault_to_world_step_fault(fault: MakeFault) -> StepFault
     ensures { result ≡ refusal_of fault }
 {
     match fault {

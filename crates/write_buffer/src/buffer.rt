@@ -94,7 +94,7 @@ impl WriteBuffer {
             (W.failures writer.old) (W.failures writer.new) }
     {
         for byte in bytes {
-            self.put_bytes(writer, &encode_hex_byte(*byte))?;
+            self.put_bytes(writer, &encode_hex_pair(*byte))?;
         }
         Ok(())
     }
@@ -140,7 +140,7 @@ impl WriteBuffer {
 }
 
 // The lower-case hexadecimal digits of a byte.
-fn encode_hex_byte(byte: u8) -> [u8; 2]
+fn encode_hex_pair(byte: u8) -> [u8; 2]
     ensures { result ≡ encode_lower (byte ∷ []) }
 {
     [

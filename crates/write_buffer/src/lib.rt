@@ -1,4 +1,6 @@
 //! Bytes on their way into a writer, through a buffer of fixed size.
+//!
+//! Words: write buffer, hex pair.
 #![tactic(auto)]
 
 mod buffer;

@@ -16,7 +16,7 @@ use Rattle.tile_run.specs.StageRuns.{GivesNeedsOf}
 use Rattle.tile_run.specs.Stored.{stored_tiles}
 use Rattle.tile_run.specs.Work.{first_too_big, is_accumulator_at}
 use Rattle.accumulators.specs.declared.computed.ComputedJob.{ComputedJob}
-use Rattle.accumulators.specs.declared.totals.Accumulation.{Accumulation}
+use Rattle.accumulators.specs.declared.totals.TiledAccumulation.{TiledAccumulation}
 use Rattle.reductions.specs.Bins.{joined_bins, starts}
 use Rattle.reductions.specs.Accumulating.{AreBins}
 use Rattle.reductions.specs.GatherRooms.{IsAccumulatorOf}
@@ -44,7 +44,7 @@ pub record IsGathered (job : Pipeline) (g : ℕ) (way : ReductionOp) (bins : End
   pub parted : grid ≡ grid_of job stage
 
 -- an accumulator of a job whose stored functions are computed, and whose accumulators' tiles fit into scratch memory
-pub record IsTally (t : Accumulation) : Type 0 where
+pub record IsTally (t : TiledAccumulation) : Type 0 where
   pub computed : IsComputed t.of
   pub fits : TotalsFit t.of
   pub own : IsAccumulatorOf (pipeline_in t.of.job.now) t.stage t.accumulator.now
@@ -55,12 +55,12 @@ abbrev pub with_tile : Pipeline → ℕ → ReductionOp → Grid → List ℤ �
 with_tile job g way grid bins t = joined_bins way bins (totals_over job (tile_area grid t.0 t.1) g)
 
 -- the bins of an accumulator that began with their initial values, after the totals over row i of the tiles came in
-abbrev pub totals_of_row : Accumulation → ℕ → List ℤ
+abbrev pub totals_of_row : TiledAccumulation → ℕ → List ℤ
 totals_of_row t i =
     fold (with_tile (pipeline_in t.of.job.now) t.stage t.accumulator.now.fold t.grid) (starts t.accumulator.now.fold t.accumulator.now.bins)
     (map (λ j. (i, j)) (range_with_len 0 (tile_cols t.grid)))
 
 -- the bins are these totals
-pub record AreTotalsOfRow (t : Accumulation) (i : ℕ) (bins : List ℤ) : Type 0 where
+pub record AreTotalsOfRow (t : TiledAccumulation) (i : ℕ) (bins : List ℤ) : Type 0 where
   pub are : AreBins t.accumulator.now bins
   pub totals : bins ≡ totals_of_row t i

@@ -14,7 +14,7 @@ use Rattle.grouping.specs.Greedy.{Grouping, readers, find_common_group}
 use Rattle.grouping.specs.inside.Standings.{AllStand, areas_at, boxes_by_tile, NoneInlinedBelow}
 use Rattle.grouping.specs.inside.Crossed.{boxes_in}
 use Rattle.tile_boxes.specs.Tallies.{area_of}
-use Rattle.grouping.specs.declared.trial.PointTally.{PointTally}
+use Rattle.grouping.specs.declared.trial.TrialPoints.{TrialPoints}
 use Rattle.tile_boxes.specs.Walks.{target_of}
 use Rattle.grouping.specs.declared.standing.StageStatus.{StageStatus}
 use Rattle.grouping.specs.declared.standing.StageStatus.TheVariants.{Stored, Inlined}
@@ -77,7 +77,7 @@ pub record IsTrialOf (job : Pipeline) (inlining : List Bool) (h g : ℕ) (t : In
   pub in_scratch : t.scratch.items ≡ scratch_with job inlining h g
 
 -- the same of the first n tiles
-pub record AreTaken (job : Pipeline) (inlining : List Bool) (h g n : ℕ) (t : PointTally) : Type 0 where
+pub record AreTaken (job : Pipeline) (inlining : List Bool) (h g n : ℕ) (t : TrialPoints) : Type 0 where
   pub added : t.added ≡ sum (map count_box_points (take n (boxes_by_tile job inlining h g)))
   pub in_scratch : t.scratch.items ≡ take n (scratch_with job inlining h g)
 

@@ -10,7 +10,7 @@ use Rattle.overlap_tiles.specs.Plans.{Layout}
 use Rattle.tile_eval.specs.Raster.{place_of}
 use Rattle.tile_eval.specs.Reading.{HasFunctionRoom}
 use Rattle.tile_eval.specs.Rows.{at}
-use Rattle.one_tile.specs.declared.scratch_view.StepScratchView.{StepScratchView}
+use Rattle.one_tile.specs.declared.scratch_view.TileScratchView.{TileScratchView}
 use Rattle.tile_sources.specs.KnownTiles.{KnownTiles}
 use Rattle.one_tile.specs.Local.{local_value, IsProvided}
 use Rattle.one_tile.specs.Prepared.{IsPrepared}
@@ -56,7 +56,7 @@ HasStepsRoom job steps room = All (λ step. HasStepRoom job step room) steps
 -- ---- a step that writes its range
 
 -- the memory before a range that starts there, and the memory after it, are borrowed
-pub record AreLent (memory : List ℤ) (boxes : StepScratchView) (start : ℕ) : Type 0 where
+pub record AreLent (memory : List ℤ) (boxes : TileScratchView) (start : ℕ) : Type 0 where
   pub before_len : length boxes.before.now ≡ start
   pub before : (n : ℕ) → n < start → at boxes.before.now n ≡ at memory n
   pub behind_len : boxes.end + length boxes.behind.now ≡ length memory
@@ -65,4 +65,4 @@ pub record AreLent (memory : List ℤ) (boxes : StepScratchView) (start : ℕ) :
 -- all that stage g reads over an area is available once the memory on either side of the area's range is borrowed
 abbrev pub IsPreparedBeside : Pipeline → Layout → KnownTiles → List ℤ → ℕ → ℕ → Area → Type 0
 IsPreparedBeside job l given memory start g area =
-    (boxes : StepScratchView) → AreLent memory boxes start → boxes.end ≡ start + point_count area → IsPrepared job l given boxes g area
+    (boxes : TileScratchView) → AreLent memory boxes start → boxes.end ≡ start + point_count area → IsPrepared job l given boxes g area

@@ -20,6 +20,6 @@ returns-in_err-write_fault_blamed_name g c =
 pub returns : goal.returns
 returns g c =
     let line = c.args.line.now in
-    takes_then c.write_out_of_bounds_fault.result (bind_head line.fault ++ blamed_text line.blamed) (read_text line.fault) _ _ _ _ _ _
+    takes_then c.write_bounds_detail_of_fault_line.result (bind_head line.fault ++ blamed_text line.blamed) (read_text line.fault) _ _ _ _ _ _
     (all_then (bind_head line.fault) (blamed_text line.blamed) _ _ _ _ _ _ c.in_ok-write_bind_fault_head.ensures c.in_ok-write_fault_blamed_name.ensures)
-    c.write_out_of_bounds_fault.ensures
+    c.write_bounds_detail_of_fault_line.ensures

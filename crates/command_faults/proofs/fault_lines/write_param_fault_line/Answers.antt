@@ -11,5 +11,5 @@ returns-in_err-write_param_fault_head g c =
 
 pub returns : goal.returns
 returns g c =
-    takes_then c.write_supplied_param_name.result (param_head c.args.line.now.fault) (name_text (string_bytes c.args.line.now.name)) _ _ _ _ _ _
-    c.in_ok-write_param_fault_head.ensures c.write_supplied_param_name.ensures
+    takes_then c.write_param_name_in_fault_line.result (param_head c.args.line.now.fault) (name_text (string_bytes c.args.line.now.name)) _ _ _ _ _ _
+    c.in_ok-write_param_fault_head.ensures c.write_param_name_in_fault_line.ensures

@@ -17,10 +17,10 @@ returns-in-Ok-clause-text c =
 
 pub returns-clause-fault : goal.returns-clause-fault
 returns-clause-fault c =
-    late_fault c.args.given.now c.args.sides c.args.tree c.args.tables.items c.args.picture c.in_ok-checked.checked c.in_ok-params.params c.convert_bind_fault_for_command.result
+    late_fault c.args.given.now c.args.sides c.args.tree c.args.tables.items c.args.picture c.in_ok-checked.checked c.in_ok-params.params c.convert_bind_fault_to_input_fault.result
     c.in_ok-checked.ensures.ok c.in_ok-params.ensures.ok (
       c.in-Err.fault,
       c.in-Err.ensures.fault,
-      subst (λ (p : CheckedProgram). TellsBind (params_in p) (tables_in p) (stages_in p) c.in-Err.fault c.convert_bind_fault_for_command.result)
-          c.in-Err.ensures.back.0 c.convert_bind_fault_for_command.ensures,
+      subst (λ (p : CheckedProgram). TellsBind (params_in p) (tables_in p) (stages_in p) c.in-Err.fault c.convert_bind_fault_to_input_fault.result)
+          c.in-Err.ensures.back.0 c.convert_bind_fault_to_input_fault.ensures,
     )

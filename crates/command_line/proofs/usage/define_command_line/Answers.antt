@@ -15,16 +15,16 @@ returns c =
     let helpless =
     ap app_of_fields c.disable_help_subcommand.ensures ∙ ap (on_top (λ s. record s { disable_help_subcommand = true })) flagless in
     let empty = ap app_of_fields c.subcommand_required.ensures ∙ ap (on_top (λ s. record s { subcommand_required = true })) helpless in
-    let eval = c.in_ok-subcommand.ensures.shape c.in_ok-define_job_command.ensures.local ∙ ap₂ with_subcommand empty
-    (top _ _ c.in_ok-define_job_command.ensures.app) in
+    let eval = c.in_ok-subcommand.ensures.shape c.in_ok-define_job_subcommand.ensures.local ∙ ap₂ with_subcommand empty
+    (top _ _ c.in_ok-define_job_subcommand.ensures.app) in
     let check =
-    c.in_ok-subcommand-2.ensures.shape c.in_ok-define_job_command-2.ensures.local ∙ ap₂ with_subcommand eval (top _ _ c.in_ok-define_job_command-2.ensures.app) in
+    c.in_ok-subcommand-2.ensures.shape c.in_ok-define_job_subcommand-2.ensures.local ∙ ap₂ with_subcommand eval (top _ _ c.in_ok-define_job_subcommand-2.ensures.app) in
     let plan =
-    c.in_ok-subcommand-3.ensures.shape c.in_ok-define_job_command-3.ensures.local ∙ ap₂ with_subcommand check
-    (top _ _ c.in_ok-define_job_command-3.ensures.app) in
+    c.in_ok-subcommand-3.ensures.shape c.in_ok-define_job_subcommand-3.ensures.local ∙ ap₂ with_subcommand check
+    (top _ _ c.in_ok-define_job_subcommand-3.ensures.app) in
     let audit =
-    c.in_ok-subcommand-4.ensures.shape c.in_ok-define_job_command-4.ensures.local ∙ ap₂ with_subcommand plan (top _ _ c.in_ok-define_job_command-4.ensures.app) in
+    c.in_ok-subcommand-4.ensures.shape c.in_ok-define_job_subcommand-4.ensures.local ∙ ap₂ with_subcommand plan (top _ _ c.in_ok-define_job_subcommand-4.ensures.app) in
     let world =
-    c.in_ok-subcommand-5.ensures.shape c.in_ok-define_world_command.ensures.local ∙ ap₂ with_subcommand audit (top _ _ c.in_ok-define_world_command.ensures.app) in
+    c.in_ok-subcommand-5.ensures.shape c.in_ok-define_world_subcommand.ensures.local ∙ ap₂ with_subcommand audit (top _ _ c.in_ok-define_world_subcommand.ensures.app) in
     IfOk-weaker c.subcommand-6.result _ _
-    (λ r h. h.shape c.in_ok-define_run_command.ensures.local ∙ ap₂ with_subcommand world (top _ _ c.in_ok-define_run_command.ensures.app)) c.subcommand-6.ensures
+    (λ r h. h.shape c.in_ok-define_run_subcommand.ensures.local ∙ ap₂ with_subcommand world (top _ _ c.in_ok-define_run_subcommand.ensures.app)) c.subcommand-6.ensures

@@ -41,14 +41,14 @@ returns-in_default-read_schedule_options-clause-usage c = λ usage request asked
     (subst (λ (found : List Row). AreOptions found request.options)
     (same_rows c.args.words.now request asked (rows_of (found_of c.in-Some-subcommand.given.now)) rows) asked.options)
 
-pub returns-in_err-read_parameter_values-clause-usage : goal.returns-in_err-read_parameter_values-clause-usage
-returns-in_err-read_parameter_values-clause-usage c =
-    let p = err_from_is_err_and c.from_residual-in_err-read_parameter_values.result c.from_residual-in_err-read_parameter_values.ensures.1 in
+pub returns-in_err-read_parameter_arguments-clause-usage : goal.returns-in_err-read_parameter_arguments-clause-usage
+returns-in_err-read_parameter_arguments-clause-usage c =
+    let p = err_from_is_err_and c.from_residual-in_err-read_parameter_arguments.result c.from_residual-in_err-read_parameter_arguments.ensures.1 in
     let rows =
     entered c.args.words.now (app_of c.in_ok-define_command_line.field-0) c.in_ok-matches.matches c.subcommand.result _ c.in_ok-define_command_line.ensures
     c.in_ok-matches.ensures.matches c.subcommand.ensures.rows c.in-Some-subcommand.is in
     rw (p.1, p.2) (λ usage request asked.
-    c.in_err-read_parameter_values.ensures.usage usage request.parameters.items
+    c.in_err-read_parameter_arguments.ensures.usage usage request.parameters.items
     (subst (λ (found : List Row). AreParametersIn found request.parameters.items)
     (same_rows c.args.words.now request asked (rows_of (found_of c.in-Some-subcommand.given.now)) rows) asked.parameters))
 
@@ -67,10 +67,10 @@ returns-clause-asked c =
       given = rows;
       own = c.in-Some-read_task_with_its_options.ensures.own;
       options = c.in-Some-read_schedule_options.ensures.some;
-      parameters = c.in_ok-read_parameter_values.ensures.some;
+      parameters = c.in_ok-read_parameter_arguments.ensures.some;
     }
 
-pub returns-in_err-read_parameter_values-clause-memory : goal.returns-in_err-read_parameter_values-clause-memory
-returns-in_err-read_parameter_values-clause-memory c =
-    let p = err_from_is_err_and c.from_residual-in_err-read_parameter_values.result c.from_residual-in_err-read_parameter_values.ensures.1 in
+pub returns-in_err-read_parameter_arguments-clause-memory : goal.returns-in_err-read_parameter_arguments-clause-memory
+returns-in_err-read_parameter_arguments-clause-memory c =
+    let p = err_from_is_err_and c.from_residual-in_err-read_parameter_arguments.result c.from_residual-in_err-read_parameter_arguments.ensures.1 in
     rw p.1 (λ memory. record { task = c.in-Some.named; named = c.in-Some.ensures.some; no_separator = search rules })

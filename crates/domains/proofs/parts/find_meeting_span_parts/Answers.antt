@@ -7,16 +7,16 @@ use Rattle.domains.proofs.parts.find_meeting_span_parts.Goals as goal
 pub returns-in-Some-clause-parts : goal.returns-in-Some-clause-parts
 returns-in-Some-clause-parts c =
     let meet : IsSpan (meet_of c.args.span.now c.args.other.now) = subst IsSpan c.in-Some.ensures.ends c.in-Some.ensures.within in
-    let first : c.find_span_part_of_member.result ≡ part_at c.args.span.now c.args.side (meet_of c.args.span.now c.args.other.now).lo = search rules in
-    let last : c.find_span_part_of_member-in-Some.result ≡ part_at c.args.span.now c.args.side (meet_of c.args.span.now c.args.other.now).hi =
+    let first : c.compute_span_part_index.result ≡ part_at c.args.span.now c.args.side (meet_of c.args.span.now c.args.other.now).lo = search rules in
+    let last : c.compute_span_part_index-in-Some.result ≡ part_at c.args.span.now c.args.side (meet_of c.args.span.now c.args.other.now).hi =
     search rules in
     meeting_from c.args.span.now c.args.other.now c.args.side _ _ c.in-Some.ensures.both.0 meet c.requires first last
 
 pub returns-in-Some-clause-ordered : goal.returns-in-Some-clause-ordered
 returns-in-Some-clause-ordered c =
     let meet : IsSpan (meet_of c.args.span.now c.args.other.now) = subst IsSpan c.in-Some.ensures.ends c.in-Some.ensures.within in
-    let first : c.find_span_part_of_member.result ≡ part_at c.args.span.now c.args.side (meet_of c.args.span.now c.args.other.now).lo = search rules in
-    let last : c.find_span_part_of_member-in-Some.result ≡ part_at c.args.span.now c.args.side (meet_of c.args.span.now c.args.other.now).hi =
+    let first : c.compute_span_part_index.result ≡ part_at c.args.span.now c.args.side (meet_of c.args.span.now c.args.other.now).lo = search rules in
+    let last : c.compute_span_part_index-in-Some.result ≡ part_at c.args.span.now c.args.side (meet_of c.args.span.now c.args.other.now).hi =
     search rules in
     omega (arith, first, last, parts_ordered c.args.span.now c.args.other.now c.args.side c.in-Some.ensures.both.0 meet c.requires)
 

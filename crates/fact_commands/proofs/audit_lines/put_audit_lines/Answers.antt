@@ -11,5 +11,5 @@ returns-in_err-put_audit_verdict_lines g c =
 
 pub returns : goal.returns
 returns g c =
-    puts_then c.put_audit_retired_job_lines.result (verdict_lines c.args.facts.now c.args.verdicts.now) (flat_map retired_line c.args.retired.now)
-    _ _ _ _ _ _ _ _ _ c.in_ok-put_audit_verdict_lines.ensures c.put_audit_retired_job_lines.ensures
+    puts_then c.put_retirement_audit_lines.result (verdict_lines c.args.facts.now c.args.verdicts.now) (flat_map retired_line c.args.retired.now)
+    _ _ _ _ _ _ _ _ _ c.in_ok-put_audit_verdict_lines.ensures c.put_retirement_audit_lines.ensures

@@ -10,5 +10,5 @@ returns-in_err-put_hex_fact_file_head g c =
 
 pub returns : goal.returns
 returns g c =
-    puts_digits_then c.put_hex_counted_facts.result (head_of c.args.retired.now) (records_of c.args.facts.now) _ _ _ _ _ _ _ _ _
-    c.in_ok-put_hex_fact_file_head.ensures c.put_hex_counted_facts.ensures
+    puts_digits_then c.put_hex_fact_count_and_records.result (head_of c.args.retired.now) (records_of c.args.facts.now) _ _ _ _ _ _ _ _ _
+    c.in_ok-put_hex_fact_file_head.ensures c.put_hex_fact_count_and_records.ensures

@@ -14,7 +14,7 @@ returns-in_err-fact c =
     let n = c.partition_point-place.result in
     let cut = IsPartitionPoint-from_clause (is_before_tile g c.args.row c.args.col) facts n c.partition_point-place.ensures.partitioned
     (parted g c.args.row c.args.col facts c.requires) (λ a r q k. search rules) in
-    let none : slice_get facts n ≡ None = sym c.get_fact_at_index.ensures ∙ ap option_copied c.in_err-fact.was in
+    let none : slice_get facts n ≡ None = sym c.get_held_fact_at_index.ensures ∙ ap option_copied c.in_err-fact.was in
     let result : option_copied c.from_residual.result ≡ None = search rules in
     result ∙ sym (none_left g c.args.row c.args.col facts c.requires n cut (list.none_left facts n none))
 
@@ -26,7 +26,7 @@ returns-then-is_held_fact_of_tile c =
     let fact = c.in_ok-fact.fact.now in
     let cut = IsPartitionPoint-from_clause (is_before_tile g c.args.row c.args.col) facts n c.partition_point-place.ensures.partitioned
     (parted g c.args.row c.args.col facts c.requires) (λ a r q k. search rules) in
-    let here : slice_get facts n ≡ Some fact = sym c.get_fact_at_index.ensures ∙ ap option_copied c.in_ok-fact.was in
+    let here : slice_get facts n ≡ Some fact = sym c.get_held_fact_at_index.ensures ∙ ap option_copied c.in_ok-fact.was in
     sym (there_is g c.args.row c.args.col facts c.requires n cut fact here (sym c.is_held_fact_of_tile.ensures ∙ c.if-is_held_fact_of_tile.true))
 
 pub returns-else-is_held_fact_of_tile : goal.returns-else-is_held_fact_of_tile
@@ -37,5 +37,5 @@ returns-else-is_held_fact_of_tile c =
     let fact = c.in_ok-fact.fact.now in
     let cut = IsPartitionPoint-from_clause (is_before_tile g c.args.row c.args.col) facts n c.partition_point-place.ensures.partitioned
     (parted g c.args.row c.args.col facts c.requires) (λ a r q k. search rules) in
-    let here : slice_get facts n ≡ Some fact = sym c.get_fact_at_index.ensures ∙ ap option_copied c.in_ok-fact.was in
+    let here : slice_get facts n ≡ Some fact = sym c.get_held_fact_at_index.ensures ∙ ap option_copied c.in_ok-fact.was in
     sym (there_is_none g c.args.row c.args.col facts c.requires n cut fact here (sym c.is_held_fact_of_tile.ensures ∙ c.if-is_held_fact_of_tile.false))

@@ -9,8 +9,8 @@ use Rattle.job.proofs.hashing.hash_input_settings.Goals as goal
 pub returns-then-is_empty : goal.returns-then-is_empty
 returns-then-is_empty g c = λ m held.
     let none : length c.args.parts.now.tables.items ≡ 0 = grind arith in
-    holds_without (g.D.Digest.holds c.hash_sides_and_parameters.new.hasher) m (pipeline_of c.args.parts.now) none
-    (c.hash_sides_and_parameters.ensures _ (c.update.ensures m held))
+    holds_without (g.D.Digest.holds c.hash_input_sides_and_parameters.new.hasher) m (pipeline_of c.args.parts.now) none
+    (c.hash_input_sides_and_parameters.ensures _ (c.update.ensures m held))
 
 pub returns-else-is_empty : goal.returns-else-is_empty
 returns-else-is_empty g c = λ m held.
@@ -19,4 +19,4 @@ returns-else-is_empty g c = λ m held.
     let P = g.D.Digest.holds c.hash_input_tables.new.hasher in
     holds_with P m job some
     (subst (λ (ts : List Table). P (m ++ codes "PTI2" ++ given_bytes job ++ tables_bytes ts)) c.as_slice-tables.ensures.value
-    (c.hash_input_tables.ensures _ (c.hash_sides_and_parameters-else-is_empty.ensures _ (c.update-else-is_empty.ensures m held))))
+    (c.hash_input_tables.ensures _ (c.hash_input_sides_and_parameters-else-is_empty.ensures _ (c.update-else-is_empty.ensures m held))))

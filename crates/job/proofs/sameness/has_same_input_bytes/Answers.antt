@@ -34,7 +34,7 @@ pub returns : goal.returns
 returns c =
     let a = pipeline_of c.args.a.now in
     let b = pipeline_of c.args.b.now in
-    let sides = c.if-not-has_same_tile_sides.ensures.0 refl in
+    let sides = c.if-not-has_same_input_sides.ensures.0 refl in
     let params = sym (ap (map parameter_view) c.deref.ensures.value) ∙ c.if-not-has_same_input_parameters.ensures.same refl ∙ ap
     (map parameter_view) c.deref-2.ensures.value in
     let tables = sym c.deref-3.ensures.value ∙ c.if-not-has_same_input_tables.ensures.same refl ∙ c.deref-4.ensures.value in (

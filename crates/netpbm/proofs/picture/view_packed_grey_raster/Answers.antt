@@ -11,5 +11,5 @@ pub returns : goal.returns
 returns c =
     let planes = c.args.planes.now in
     let grey = one_made planes c.index-planes-0.result (omega arith) c.index-planes-0.is in
-    IfSome_then c.view_samples_as_bytes.result c.view_samples_as_bytes.ensures
+    IfSome_then c.view_contiguous_sample_bytes.result c.view_contiguous_sample_bytes.ensures
     (λ bytes h. h _ c.samples.ensures ∙ sym (raw_raster_one c.args.max (interleaved (made_samples planes)) (omega arith) ∙ grey))

@@ -7,11 +7,11 @@ use Rattle.netpbm.proofs.raw_planes.decode_colour_planes.Goals as goal
 pub loop-done-preserved : goal.loop-done-preserved
 loop-done-preserved c =
     let xs = decoded c.args.max c.args.raster.now in
-    let piece = c.decode_and_check_samples.new.out in
+    let piece = c.decode_and_check_raw_samples.new.out in
     let done = c.loop-done.done in
     let end = c.min-end.result in
     let so_far = c.loop-done.invariant in
-    let part = c.decode_and_check_samples.ensures.written in
+    let part = c.decode_and_check_raw_samples.ensures.written in
     let on : done ≤ end = search rules in
     let fits : 3 * end ≤ length xs = search rules in (
       search rules,

@@ -15,11 +15,11 @@ overflow_mul-end c =
     two_bytes_each c.args.max c.args.end c.args.raster.now (search rules) c.requires.within in
     search rules
 
-pub slice_bounds-convert_pairs_to_samples-end : goal.slice_bounds-convert_pairs_to_samples-end
-slice_bounds-convert_pairs_to_samples-end c = two_bytes_each c.args.max c.args.end c.args.raster.now (search rules) c.requires.within
+pub slice_bounds-decode_sample_byte_pairs-end : goal.slice_bounds-decode_sample_byte_pairs-end
+slice_bounds-decode_sample_byte_pairs-end c = two_bytes_each c.args.max c.args.end c.args.raster.now (search rules) c.requires.within
 
 pub returns-else-max-lt256 : goal.returns-else-max-lt256
 returns-else-max-lt256 c =
     let a = c.args in
-    pairs_part a.max a.raster.now c.convert_pairs_to_samples.new.out a.start a.end (search rules) c.requires.order
-    (two_bytes_each a.max a.end a.raster.now (search rules) c.requires.within) c.convert_pairs_to_samples.ensures
+    pairs_part a.max a.raster.now c.decode_sample_byte_pairs.new.out a.start a.end (search rules) c.requires.order
+    (two_bytes_each a.max a.end a.raster.now (search rules) c.requires.within) c.decode_sample_byte_pairs.ensures

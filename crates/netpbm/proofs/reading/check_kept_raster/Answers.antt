@@ -12,9 +12,9 @@ returns-then-has_bounded_raster_samples-clause-ok c =
     let h = c.args.header.now in
     let bytes = c.args.bytes.now in
     let raster = take (length bytes - h.end) (drop h.end bytes) in
-    let area = c.count_plane_samples in
+    let area = c.count_samples_per_plane in
     let many : length raster ≡ (h.colours * area.result) * width_of h.max =
-    subst (λ (w : ℕ). length raster ≡ (h.colours * area.result) * w) c.sample_width.ensures c.if-raster-count.true in
+    subst (λ (w : ℕ). length raster ≡ (h.colours * area.result) * w) c.count_bytes_per_raw_sample.ensures c.if-raster-count.true in
     let size = subst (λ (area : ℕ). length raster ≡ (h.colours * area) * width_of h.max) area.ensures.value many in
     let bounded = OnTrue_at c.if-has_bounded_raster_samples.true c.has_bounded_raster_samples.ensures in
     let same = take_rest bytes h.end in

@@ -6,5 +6,5 @@ pub returns-in-Some-clause-written : goal.returns-in-Some-clause-written
 returns-in-Some-clause-written c =
     let a = c.args in
     let lent = c.in-Some in
-    raster_bytes a.picture.now lent.red.now lent.green.now lent.blue.now c.interleave_bytes.new.out a.start a.end c.requires.image
-    lent.ensures.small lent.ensures.planes c.requires.within c.interleave_bytes.ensures
+    raster_bytes a.picture.now lent.red.now lent.green.now lent.blue.now c.interleave_colour_bytes.new.out a.start a.end c.requires.image
+    lent.ensures.small lent.ensures.planes c.requires.within c.interleave_colour_bytes.ensures

@@ -6,8 +6,8 @@ use Rattle.one_tile.proofs.LayoutsPrepare.{keys_given}
 use Rattle.partials.proofs.TrueTilesGiveTotals.{layout_totals_true}
 use Rattle.partials.proofs.partials.partial.Goals as goal
 
-pub compute_tile_totals-requires-clause-layout : goal.compute_tile_totals-requires-clause-layout
-compute_tile_totals-requires-clause-layout g c =
+pub compute_tile_partial-requires-clause-layout : goal.compute_tile_partial-requires-clause-layout
+compute_tile_partial-requires-clause-layout g c =
     let own = c.requires.plan in
     record {
       inlining = own.inlining;
@@ -18,8 +18,8 @@ compute_tile_totals-requires-clause-layout g c =
           c.layout.ensures.tile (program_id_in c.args.job.now) (pipeline_in c.args.job.now) own.inlining own.stage own.row own.col own.plan;
     }
 
-pub compute_tile_totals-requires-clause-needs : goal.compute_tile_totals-requires-clause-needs
-compute_tile_totals-requires-clause-needs g c =
+pub compute_tile_partial-requires-clause-needs : goal.compute_tile_partial-requires-clause-needs
+compute_tile_partial-requires-clause-needs g c =
     let given = g.K.TileSource.given c.args.known.now in
     let none : first_missing given c.args.plan.now.needs ≡ None = search rules in
     subst (λ (l : Layout). NeedsGiven given l.needs) (sym c.layout.ensures.same) (keys_given given c.args.plan.now.needs none)

@@ -5,6 +5,6 @@ use Rattle.pictures.proofs.picture.push_clamped_samples.Goals as goal
 
 pub add_samples-requires : goal.add_samples-requires
 add_samples-requires g c =
-    let bounded = subst (λ (cuts : List ℕ). All (λ sample. sample ≤ c.greatest_sample-max.result) cuts) (sym c.clamp_output_values.ensures)
+    let bounded = subst (λ (cuts : List ℕ). All (λ sample. sample ≤ c.greatest_sample-max.result) cuts) (sym c.write_clamped_samples.ensures)
     (cuts_bounded c.greatest_sample-max.result c.split_at.result.0.now) in
-    subst (λ (max : ℕ). All (λ sample. sample ≤ max) c.clamp_output_values.new.cuts) (c.greatest_sample-max.ensures ∙ sym c.loop-rest.invariant.max) bounded
+    subst (λ (max : ℕ). All (λ sample. sample ≤ max) c.write_clamped_samples.new.cuts) (c.greatest_sample-max.ensures ∙ sym c.loop-rest.invariant.max) bounded

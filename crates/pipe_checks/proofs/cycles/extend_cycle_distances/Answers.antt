@@ -7,6 +7,6 @@ pub loop-stage-preserved : goal.loop-stage-preserved
 loop-stage-preserved c =
     let e = c.in_ok-push.ensures.items in
     let more =
-    pushed (IsStepAt c.args.graph.now c.args.far.now c.args.steps) c.loop-stage.next.items c.loop-stage.stage c.next_cycle_distance.result
-    c.loop-stage.invariant.0 c.loop-stage.invariant.1 c.next_cycle_distance.ensures in
+    pushed (IsStepAt c.args.graph.now c.args.far.now c.args.steps) c.loop-stage.next.items c.loop-stage.stage c.compute_next_cycle_distance.result
+    c.loop-stage.invariant.0 c.loop-stage.invariant.1 c.compute_next_cycle_distance.ensures in
     (search rules, rw e more)

@@ -29,12 +29,12 @@ loop-stage-preserved c =
 
 pub returns-clause-some : goal.returns-clause-some
 returns-clause-some c =
-    ok_then _ c.unwrap_all_ranks.ensures.all (λ (o : Option (Vec ℕ)) all. IfSome_then o all (λ (v : Vec ℕ) e. ranking_of c.args.graph.now
+    ok_then _ c.unwrap_graph_ranks_if_all_known.ensures.all (λ (o : Option (Vec ℕ)) all. IfSome_then o all (λ (v : Vec ℕ) e. ranking_of c.args.graph.now
     c.loop-stage.ranks.items v.items c.loop-stage.invariant (e ∙ c.deref-2.ensures.value)))
 
 pub returns-clause-none : goal.returns-clause-none
 returns-clause-none c =
-    ok_then _ c.unwrap_all_ranks.ensures.none (λ (o : Option (Vec ℕ)) none. none_then {Q = IsAcyclic c.args.graph.now → ⊥} o none (λ u acyclic.
+    ok_then _ c.unwrap_graph_ranks_if_all_known.ensures.none (λ (o : Option (Vec ℕ)) none. none_then {Q = IsAcyclic c.args.graph.now → ⊥} o none (λ u acyclic.
     stuck_is_cyclic c.args.graph.now c.loop-stage.ranks.items c.loop-stage.invariant.each
     (subst (λ xs. (s : ℕ) → slice_get xs s ≡ Some None → SomeUnranked xs (links_at c.args.graph.now s).reads) c.deref.ensures.value
     c.in_default.ensures.stuck)

@@ -32,9 +32,9 @@ pub returns-clause-fault : goal.returns-clause-fault
 returns-clause-fault c =
     let short : length c.args.text.now ≤ most_bytes = omega arith in
     fault_answer c.args.text.now c.in_ok-lexed.lexed.tokens.items c.deref.result.now c.in_ok-lexed.lexed.starts.items
-    c.deref-in-Err-Fault.result.now c.in-Err-Fault.halt c.find_fault_offset-offset.result c.build_parse_fault.result
+    c.deref-in-Err-Fault.result.now c.in-Err-Fault.halt c.find_fault_offset-offset.result c.attach_fault_offset.result
     short c.in_ok-lexed.ensures.longest c.deref.ensures.value c.deref-in-Err-Fault.ensures.value
-    (rw c.in-Err-Fault.field-0-is at c.in-Err-Fault.ensures) c.find_fault_offset-offset.ensures c.build_parse_fault.ensures
+    (rw c.in-Err-Fault.field-0-is at c.in-Err-Fault.ensures) c.find_fault_offset-offset.ensures c.attach_fault_offset.ensures
 
 pub returns-clause-only : goal.returns-clause-only
-returns-clause-only c = λ tree text. no_fault c.args.text.now tree c.build_parse_fault.result text (returns-clause-fault c)
+returns-clause-only c = λ tree text. no_fault c.args.text.now tree c.attach_fault_offset.result text (returns-clause-fault c)

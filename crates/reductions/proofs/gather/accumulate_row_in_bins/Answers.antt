@@ -29,8 +29,8 @@ borrow_or_evaluate_row-line-requires-clause-reads g c =
     c.args.accumulator.now.value c.value-value.result.now c.value-value.ensures c.requires.some c.requires.formulas.value
     (λ k l. (c.requires.reads k l).0)
 
-pub borrow_or_evaluate_row-line-requires-in-Some-find_row_constant-clause-reads : goal.borrow_or_evaluate_row-line-requires-in-Some-find_row_constant-clause-reads
-borrow_or_evaluate_row-line-requires-in-Some-find_row_constant-clause-reads g c =
+pub borrow_or_evaluate_row-line-requires-in-Some-find_constant_along_row-clause-reads : goal.borrow_or_evaluate_row-line-requires-in-Some-find_constant_along_row-clause-reads
+borrow_or_evaluate_row-line-requires-in-Some-find_constant_along_row-clause-reads g c =
     found_reads (g.S.RowSource.has c.args.row.now.source.now) c.args.row.now.points.row c.args.row.now.points.col (length c.args.values.now)
     c.args.accumulator.now.value c.value-value.result.now c.value-value.ensures c.requires.some c.requires.formulas.value
     (λ k l. (c.requires.reads k l).0)
@@ -75,8 +75,8 @@ returns-in-Some g c =
     (λ j h. c.accumulate_in_adjacent_bins.ensures a.bins.lo j h
     ∙ (λ i. after_values (c.fold-op.ensures i) (at c.args.bins.now j) (values_of_bin vs cs (a.bins.lo +ℤ pos j))))
 
-pub returns-in-Some-find_row_constant : goal.returns-in-Some-find_row_constant
-returns-in-Some-find_row_constant g c =
+pub returns-in-Some-find_constant_along_row : goal.returns-in-Some-find_constant_along_row
+returns-in-Some-find_constant_along_row g c =
     let env : Valuation = g.S.RowSource.samples c.args.row.now.source.now in
     let a = c.args.accumulator.now in
     let r : ℤ = c.args.row.now.points.row in
@@ -87,18 +87,18 @@ returns-in-Some-find_row_constant g c =
     let lo_fits : FitsSigned w32 c.lo-lo.result = search rules in
     let lo : to_z w32 (of_z w32 c.lo-lo.result) ≡ a.bins.lo = to_z-of_z w32 c.lo-lo.result lo_fits ∙ c.lo-lo.ensures.end
     ∙ (λ i. (c.bins.ensures i).lo) in
-    let vs : List ℤ = c.borrow_or_evaluate_row-line-in-Some-find_row_constant.result.now in
+    let vs : List ℤ = c.borrow_or_evaluate_row-line-in-Some-find_constant_along_row.result.now in
     let values : vs ≡ map (value r) (numbers_from x n) =
-    row_is (value r) x n vs c.borrow_or_evaluate_row-line-in-Some-find_row_constant.ensures.count
-    (λ k l. c.borrow_or_evaluate_row-line-in-Some-find_row_constant.ensures.values k l
+    row_is (value r) x n vs c.borrow_or_evaluate_row-line-in-Some-find_constant_along_row.ensures.count
+    (λ k l. c.borrow_or_evaluate_row-line-in-Some-find_constant_along_row.ensures.values k l
     ∙ ap (λ (f : KeptFormula). formula_value env (formula_view f) r (x +ℤ pos k)) c.value-value.ensures) in
-    let one : ℤ = c.in-Some-find_row_constant.one in
+    let one : ℤ = c.in-Some-find_constant_along_row.one in
     let one_fits : FitsSigned w32 one = search rules in
     let same : (z : ℤ) → bin r z ≡ one = λ z.
-    ap (λ (f : KeptFormula). formula_value env (formula_view f) r z) (sym c.bin-bin.ensures) ∙ c.in-Some-find_row_constant.ensures env z in
+    ap (λ (f : KeptFormula). formula_value env (formula_view f) r z) (sym c.bin-bin.ensures) ∙ c.in-Some-find_constant_along_row.ensures env z in
     let cs : List ℤ = replicate (length vs) one in
     let bins : cs ≡ map (bin r) (numbers_from x n) =
-    (λ i. replicate (c.borrow_or_evaluate_row-line-in-Some-find_row_constant.ensures.count i) one) ∙ same_is (bin r) x one n same in
+    (λ i. replicate (c.borrow_or_evaluate_row-line-in-Some-find_constant_along_row.ensures.count i) one) ∙ same_is (bin r) x one n same in
     row_took a.fold value bin a.bins.lo r x n vs cs c.args.bins.now c.accumulate_in_one_bin.new.bins values bins
     (λ j h. c.accumulate_in_one_bin.ensures j h
     ∙ (λ i. after_values (c.fold-op.ensures i) (at c.args.bins.now j)

@@ -19,4 +19,4 @@ returns-clause-sums c = λ k h s e.
     let factor : FitsSigned w32 (at c.args.factors.now 0) = search rules in
     let enough : length c.args.out.now ≤ length c.args.line.now = omega arith in
     piece_of_one s _ _ c.args.factors.now c.args.line.now k (length c.args.out.now) h enough (to_z-of_z w32 _ factor)
-    (c.add_scaled_row.ensures k h s e)
+    (c.add_line_times_factor.ensures k h s e)

@@ -5,8 +5,8 @@ use Rattle.job.specs.Kept.{pipeline_in}
 use Rattle.job.specs.Views.{stage_view}
 use Rattle.tile_boxes.proofs.AskedIsSchedule.{none_more, first_is, none_at_all}
 use Rattle.tile_boxes.proofs.inlining.find_inlined_output.Goals as goal
-use Rattle.tile_boxes.proofs.inlining.find_inlined_output.Goals.{else-is_requested_function-via-then-is_requested_function+else-is_output}
-use Rattle.tile_boxes.proofs.inlining.find_inlined_output.Goals.{else-is_requested_function-via-else-is_requested_function}
+use Rattle.tile_boxes.proofs.inlining.find_inlined_output.Goals.{else-is_function_requested_inlined-via-then-is_function_requested_inlined+else-is_output}
+use Rattle.tile_boxes.proofs.inlining.find_inlined_output.Goals.{else-is_function_requested_inlined-via-else-is_function_requested_inlined}
 
 pub returns-then-is_output-clause-some : goal.returns-then-is_output-clause-some
 returns-then-is_output-clause-some c =
@@ -14,7 +14,7 @@ returns-then-is_output-clause-some c =
     let stages = c.stages-number-end.result.now in
     let counted : length (map stage_view stages) ≡ length job.stages = ap length c.stages-number-end.ensures in
     let below : c.loop-number.number < length job.stages = omega (arith, counted, length-map stages stage_view, c.loop-number-test.true) in
-    first_is job c.args.asked.now c.loop-number.number below c.loop-number.invariant (sym c.is_requested_function.ensures ∙ c.if-is_requested_function.true)
+    first_is job c.args.asked.now c.loop-number.number below c.loop-number.invariant (sym c.is_function_requested_inlined.ensures ∙ c.if-is_function_requested_inlined.true)
     (sym c.is_output.ensures ∙ c.if-is_output.true)
 
 pub loop-number-preserved : goal.loop-number-preserved
@@ -24,9 +24,9 @@ loop-number-preserved c =
     let counted : length (map stage_view stages) ≡ length job.stages = ap length c.stages-number-end.ensures in
     let below : c.loop-number.number < length job.stages = omega (arith, counted, length-map stages stage_view, c.loop-number-test.true) in
     none_more job c.args.asked.now c.loop-number.number below c.loop-number.invariant
-    (λ inlined. elim c.else-is_requested_function.branch [
-      | else-is_requested_function-via-then-is_requested_function+else-is_output w ↦ sym w.is_output.ensures ∙ w.if-is_output.false
-      | else-is_requested_function-via-else-is_requested_function w ↦ absurd (false≢true (sym w.if-is_requested_function.false ∙ c.is_requested_function.ensures ∙ inlined))
+    (λ inlined. elim c.else-is_function_requested_inlined.branch [
+      | else-is_function_requested_inlined-via-then-is_function_requested_inlined+else-is_output w ↦ sym w.is_output.ensures ∙ w.if-is_output.false
+      | else-is_function_requested_inlined-via-else-is_function_requested_inlined w ↦ absurd (false≢true (sym w.if-is_function_requested_inlined.false ∙ c.is_function_requested_inlined.ensures ∙ inlined))
     ])
 
 pub returns-clause-none : goal.returns-clause-none

@@ -10,20 +10,20 @@ use Rattle.tile_fact.proofs.laws.facts_fit_their_records.Goals as goal
 
 pub returns-in-Tile : goal.returns-in-Tile
 returns-in-Tile c =
-    let samples = subst (λ (l : List ℤ). All (FitsSigned w32) l) c.as_slice.ensures c.samples_fit_32_bits.ensures in
+    let samples = subst (λ (l : List ℤ). All (FitsSigned w32) l) c.as_slice.ensures c.fact_samples_fit_32_bits.ensures in
     let body : Tile c.in-Tile.samples ≡ c.args.fact.now.body = sym c.in-Tile.is ∙ c.body.ensures.body in
     record {
-      key = subst (λ (k : Key). IsKey k) c.key.ensures c.keys_fit_their_fields.ensures;
+      key = subst (λ (k : Key). IsKey k) c.key.ensures c.fact_keys_fit_their_fields.ensures;
       within = c.body.ensures.within;
       numbers = subst (λ (b : Body). HasFittingNumbers b) body (recursion_from_All (FitsSigned w32) c.in-Tile.samples samples);
     }
 
 pub returns-in-Partial : goal.returns-in-Partial
 returns-in-Partial c =
-    let bins = subst (λ (l : List ℤ). All (FitsSigned w64) l) c.as_slice-in-Partial.ensures c.bins_fit_64_bits.ensures in
+    let bins = subst (λ (l : List ℤ). All (FitsSigned w64) l) c.as_slice-in-Partial.ensures c.fact_bins_fit_64_bits.ensures in
     let body : Partial c.in-Partial.bins ≡ c.args.fact.now.body = sym c.in-Partial.is ∙ c.body.ensures.body in
     record {
-      key = subst (λ (k : Key). IsKey k) c.key.ensures c.keys_fit_their_fields.ensures;
+      key = subst (λ (k : Key). IsKey k) c.key.ensures c.fact_keys_fit_their_fields.ensures;
       within = c.body.ensures.within;
       numbers = subst (λ (b : Body). HasFittingNumbers b) body (recursion_from_All (FitsSigned w64) c.in-Partial.bins bins);
     }

@@ -9,7 +9,7 @@ use Rattle.overlap_tiles.specs.Work.{is_tile_over_scratch_limit}
 use Rattle.tile_run.specs.Work.{wanted_by}
 use Rattle.tile_run.proofs.FirstFound.{first_skipped, wanted_found, wanted_behind}
 use Rattle.tile_run.proofs.room.find_oversized_tile_in_stages.Goals as goal
-use Rattle.tile_run.proofs.room.find_oversized_tile_in_stages.Goals.{then-is_among_tiled_stages+in_ok-found+else-is_some, else-is_among_tiled_stages}
+use Rattle.tile_run.proofs.room.find_oversized_tile_in_stages.Goals.{then-is_stage_tiled_in_run+in_ok-found+else-is_some, else-is_stage_tiled_in_run}
 
 pub returns-then-is_some : goal.returns-then-is_some
 returns-then-is_some c =
@@ -18,8 +18,8 @@ returns-then-is_some c =
     let k = c.loop-number.number-index in
     wanted_found (is_tile_over_scratch_limit job inlining) (tiles job) (wanted_by job inlining c.args.work) c.args.order.now k
     (slice_index_or c.args.order.now k 0) c.loop-number-test.true refl
-    (key_of (program_id_in c.args.job.now) job) (sym c.is_among_tiled_stages.ensures
-    ∙ c.if-is_among_tiled_stages.true) c.in_ok-found.found c.in_ok-found.ensures (sym c.is_some.ensures ∙ c.if-is_some.true)
+    (key_of (program_id_in c.args.job.now) job) (sym c.is_stage_tiled_in_run.ensures
+    ∙ c.if-is_stage_tiled_in_run.true) c.in_ok-found.found c.in_ok-found.ensures (sym c.is_some.ensures ∙ c.if-is_some.true)
     ∙ ap (option_map (key_of (program_id_in c.args.job.now) job)) c.loop-number.invariant
 
 pub loop-number-preserved : goal.loop-number-preserved
@@ -27,15 +27,15 @@ loop-number-preserved c =
     let job = pipeline_in c.args.job.now in
     let inlining = c.args.schedule.now.inlining in
     let k = c.loop-number.number-index in
-    elim c.if-is_among_tiled_stages.branch [
-      | then-is_among_tiled_stages+in_ok-found+else-is_some w ↦ wanted_behind (is_tile_over_scratch_limit job inlining) (tiles job) (wanted_by job inlining c.args.work)
+    elim c.if-is_stage_tiled_in_run.branch [
+      | then-is_stage_tiled_in_run+in_ok-found+else-is_some w ↦ wanted_behind (is_tile_over_scratch_limit job inlining) (tiles job) (wanted_by job inlining c.args.work)
           c.args.order.now k (slice_index_or c.args.order.now k 0) c.loop-number-test.true refl
-          (key_of (program_id_in c.args.job.now) job) (sym c.is_among_tiled_stages.ensures
-          ∙ w.if-is_among_tiled_stages.true) w.in_ok-found.found w.in_ok-found.ensures (sym w.is_some.ensures ∙ w.if-is_some.false)
+          (key_of (program_id_in c.args.job.now) job) (sym c.is_stage_tiled_in_run.ensures
+          ∙ w.if-is_stage_tiled_in_run.true) w.in_ok-found.found w.in_ok-found.ensures (sym w.is_some.ensures ∙ w.if-is_some.false)
           ∙ c.loop-number.invariant
-      | else-is_among_tiled_stages w ↦ first_skipped (is_tile_over_scratch_limit job inlining) (tiles job) (wanted_by job inlining c.args.work) c.args.order.now k
+      | else-is_stage_tiled_in_run w ↦ first_skipped (is_tile_over_scratch_limit job inlining) (tiles job) (wanted_by job inlining c.args.work) c.args.order.now k
           (slice_index_or c.args.order.now k 0) c.loop-number-test.true refl
-          (sym c.is_among_tiled_stages.ensures ∙ w.if-is_among_tiled_stages.false)
+          (sym c.is_stage_tiled_in_run.ensures ∙ w.if-is_stage_tiled_in_run.false)
           ∙ c.loop-number.invariant
     ]
 

@@ -24,13 +24,13 @@ read_plane_row_for_tile-requires-clause-there c =
     rw wide (omega (arith, c.requires.len, c.loop-i.auto.out)) in
     let whole : i * count + count ≤ length c.loop-i.out = omega (arith, within, long) in
     let cut = row_len (i * count) count c.loop-i.out whole in
-    let row : FitsSigned w32 c.offset_coordinate-row.result = search rules in
+    let row : FitsSigned w32 c.find_coordinate_at_place-row.result = search rules in
     let col : FitsSigned w32 c.lo-in-loop-i.result = search rules in
-    let row_is : c.offset_coordinate-row.result ≡ area.rows.lo +ℤ pos i = search rules in
+    let row_is : c.find_coordinate_at_place-row.result ≡ area.rows.lo +ℤ pos i = search rules in
     let col_is : c.lo-in-loop-i.result ≡ area.cols.lo = search rules in
-    rw cut (rw (to_z-of_z w32 c.offset_coordinate-row.result row) (rw (to_z-of_z w32 c.lo-in-loop-i.result col) (λ k h.
+    rw cut (rw (to_z-of_z w32 c.find_coordinate_at_place-row.result row) (rw (to_z-of_z w32 c.lo-in-loop-i.result col) (λ k h.
     let below : k < len_of area.cols = omega (arith, h, wide) in
-    same_place (HoldsPoint (picture_area c.args.picture.now)) (area.rows.lo +ℤ pos i) area.cols.lo c.offset_coordinate-row.result
+    same_place (HoldsPoint (picture_area c.args.picture.now)) (area.rows.lo +ℤ pos i) area.cols.lo c.find_coordinate_at_place-row.result
     c.lo-in-loop-i.result k row_is col_is (nth_there area (picture_area c.args.picture.now) i k c.requires.area lt below))))
 
 pub loop-i-preserved : goal.loop-i-preserved
@@ -47,14 +47,14 @@ loop-i-preserved c =
     let whole : i * count + count ≤ length c.loop-i.out = omega (arith, within, long) in
     let from : i * count ≤ length c.loop-i.out = omega (arith, whole) in
     let cut = row_len (i * count) count c.loop-i.out whole in
-    let row : FitsSigned w32 c.offset_coordinate-row.result = search rules in
+    let row : FitsSigned w32 c.find_coordinate_at_place-row.result = search rules in
     let col : FitsSigned w32 c.lo-in-loop-i.result = search rules in
-    let row_is : c.offset_coordinate-row.result ≡ area.rows.lo +ℤ pos i = search rules in
+    let row_is : c.find_coordinate_at_place-row.result ≡ area.rows.lo +ℤ pos i = search rules in
     let col_is : c.lo-in-loop-i.result ≡ area.cols.lo = search rules in
     rows_more f i count c.loop-i.out c.read_plane_row_for_tile.new.out from (c.read_plane_row_for_tile.auto.out ∙ cut) c.loop-i.invariant (λ k h.
     let below : k < length _ = omega (arith, h, cut) in
     c.read_plane_row_for_tile.ensures k below
-    ∙ (λ x. sample_at c.args.picture.now c.args.plane ((to_z-of_z w32 c.offset_coordinate-row.result row ∙ row_is) x)
+    ∙ (λ x. sample_at c.args.picture.now c.args.plane ((to_z-of_z w32 c.find_coordinate_at_place-row.result row ∙ row_is) x)
     ((to_z-of_z w32 c.lo-in-loop-i.result col ∙ col_is) x +ℤ pos k)))
 
 pub returns : goal.returns

@@ -15,8 +15,8 @@ assemble_planes-requires-clause-outputs g c κs within =
     subst (λ (xs : List ℕ). All (IsOutputStage (pipeline_in of.job.now) of.schedule.now.inlining) xs) (sym c.stages.ensures)
     c.requires.outputs
 
-pub build_output_picture-requires-clause-image : goal.build_output_picture-requires-clause-image
-build_output_picture-requires-clause-image g c =
+pub build_picture_from_output_planes-requires-clause-image : goal.build_picture_from_output_planes-requires-clause-image
+build_picture_from_output_planes-requires-clause-image g c =
     let job = pipeline_in c.args.self.now.of.job.now in
     planes_picture job (value job) (output_view c.args.output.now) (made_samples c.in_ok-planes.planes.items) c.requires.output
     (c.in_ok-planes.ensures ∙ (λ i. map (samples job (c.max.ensures i)) (c.stages.ensures i)))
@@ -24,6 +24,6 @@ build_output_picture-requires-clause-image g c =
 pub returns-clause-answer : goal.returns-clause-answer
 returns-clause-answer g c =
     let job = pipeline_in c.args.self.now.of.job.now in
-    c.build_output_picture.ensures.picture
+    c.build_picture_from_output_planes.ensures.picture
     ∙ ap (picture_with job (output_view c.args.output.now))
     (c.in_ok-planes.ensures ∙ (λ i. map (samples job (c.max.ensures i)) (c.stages.ensures i)))

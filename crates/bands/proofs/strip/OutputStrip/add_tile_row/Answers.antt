@@ -10,8 +10,8 @@ use Rattle.bands.specs.Strips.{samples_on, HasRows}
 use Rattle.bands.proofs.StripsGrow.{parted, row_given, row_added}
 use Rattle.bands.proofs.strip.OutputStrip.add_tile_row.Goals as goal
 
-pub compute_output_tile_row_area-area-requires-clause-parted : goal.compute_output_tile_row_area-area-requires-clause-parted
-compute_output_tile_row_area-area-requires-clause-parted c =
+pub compute_output_plane_tile_row_area-area-requires-clause-parted : goal.compute_output_plane_tile_row_area-area-requires-clause-parted
+compute_output_plane_tile_row_area-area-requires-clause-parted c =
     let self = c.args.self.now in
     parted (pipeline_in self.job.now) self.job.now.well self.max self.stage self.grid self.own
 
@@ -19,7 +19,7 @@ pub push_area_samples-requires : goal.push_area_samples-requires
 push_area_samples-requires c =
     let self = c.args.self.now in
     row_given (pipeline_in self.job.now) self.job.now.well self.max self.stage self.grid self.own c.args.row c.args.tiles.now c.requires
-    c.compute_output_tile_row_area-area.result c.compute_output_tile_row_area-area.ensures
+    c.compute_output_plane_tile_row_area-area.result c.compute_output_plane_tile_row_area-area.ensures
 
 pub invariant_of-self-2 : goal.invariant_of-self-2
 invariant_of-self-2 c =
@@ -33,10 +33,10 @@ invariant_of-self-2 c =
     (self.made c.in-Some.next c.in-Some.is) in
     let env = given_at job (lent_row self.stage row c.args.tiles.now) in
     let more = c.in_ok-push_area_samples.ensures.samples
-    ∙ ap (λ m. samples_on self.sheet ++ map (sample_at env m self.stage) (points_of c.compute_output_tile_row_area-area.result)) self.greatest in
+    ∙ ap (λ m. samples_on self.sheet ++ map (sample_at env m self.stage) (points_of c.compute_output_plane_tile_row_area-area.result)) self.greatest in
     let after : HasRows job self.stage self.grid self.max self.first (row + 1) (samples_on c.push_area_samples.new.sheet) =
-    row_added job self.job.now.well self.max self.stage self.grid self.own row c.args.tiles.now c.requires self.first c.compute_output_tile_row_area-area.result
-    c.compute_output_tile_row_area-area.ensures within (samples_on self.sheet) (samples_on c.push_area_samples.new.sheet) before more in
+    row_added job self.job.now.well self.max self.stage self.grid self.own row c.args.tiles.now c.requires self.first c.compute_output_plane_tile_row_area-area.result
+    c.compute_output_plane_tile_row_area-area.ensures within (samples_on self.sheet) (samples_on c.push_area_samples.new.sheet) before more in
     record {
       own = self.own;
       greatest = c.in_ok-push_area_samples.ensures.max ∙ self.greatest;

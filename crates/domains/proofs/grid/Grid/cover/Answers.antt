@@ -12,7 +12,7 @@ loop-i-preserved c =
     let cols = range_with_len c.find_meeting_span_parts-cols.result.0 (c.find_meeting_span_parts-cols.result.1 - c.find_meeting_span_parts-cols.result.0) in
     let done : rows.0 + (c.loop-i.i - rows.0) ≡ c.loop-i.i = omega arith in
     let count : (c.loop-i.i - rows.0) + 1 ≡ c.loop-i.i + 1 - rows.0 = omega arith in
-    c.in_ok-push_tiles_of_row.ensures
+    c.in_ok-push_tiles_of_grid_row.ensures
     ∙ ap (λ ts. ts ++ row_of c.loop-i.i cols) c.loop-i.invariant
     ∙ sym (pairs_more rows.0 (c.loop-i.i - rows.0) c.loop-i.i cols done)
     ∙ ap (λ n. pairs (range_with_len rows.0 n) cols) count

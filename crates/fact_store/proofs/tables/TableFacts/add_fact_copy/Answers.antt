@@ -16,21 +16,21 @@ pub returns-in_default-clause-added : goal.returns-in_default-clause-added
 returns-in_default-clause-added c =
     let es = c.args.self.now.tables.entries in
     let f = c.args.fact.now in
-    let own : c.find_facts_of_key-facts.result.now ≡ table_at es f.key = c.find_facts_of_key-facts.ensures.table ∙ ap (table_at es) c.key.ensures in
+    let own : c.find_sorted_facts_of_key-facts.result.now ≡ table_at es f.key = c.find_sorted_facts_of_key-facts.ensures.table ∙ ap (table_at es) c.key.ensures in
     already es f c.args.self.now.stand (ap (list_any (eq_by_cmp fact_cmp f)) (sym own) ∙ c.in_default.ensures.found)
 
 pub returns-in_default-clause-new : goal.returns-in_default-clause-new
 returns-in_default-clause-new c =
     let es = c.args.self.now.tables.entries in
     let f = c.args.fact.now in
-    let own : c.find_facts_of_key-facts.result.now ≡ table_at es f.key = c.find_facts_of_key-facts.ensures.table ∙ ap (table_at es) c.key.ensures in
+    let own : c.find_sorted_facts_of_key-facts.result.now ≡ table_at es f.key = c.find_sorted_facts_of_key-facts.ensures.table ∙ ap (table_at es) c.key.ensures in
     is_new es f true c.args.self.now.stand (ap (list_any (eq_by_cmp fact_cmp f)) (sym own) ∙ c.in_default.ensures.found)
 
 pub returns-in_err-table-clause-only_new : goal.returns-in_err-table-clause-only_new
 returns-in_err-table-clause-only_new c =
     let es = c.args.self.now.tables.entries in
     let f = c.args.fact.now in
-    let own : c.find_facts_of_key-facts.result.now ≡ table_at es f.key = c.find_facts_of_key-facts.ensures.table ∙ ap (table_at es) c.key.ensures in
+    let own : c.find_sorted_facts_of_key-facts.result.now ≡ table_at es f.key = c.find_sorted_facts_of_key-facts.ensures.table ∙ ap (table_at es) c.key.ensures in
     if_err c.from_residual.result
     (holds-tables es f c.args.self.now.stand ∙ ap (list_any (eq_by_cmp fact_cmp f)) (sym own) ∙ c.in-Err.ensures.absent)
 
@@ -38,7 +38,7 @@ pub returns-in_err-former-clause-only_new : goal.returns-in_err-former-clause-on
 returns-in_err-former-clause-only_new c =
     let es = c.args.self.now.tables.entries in
     let f = c.args.fact.now in
-    let own : c.find_facts_of_key-facts.result.now ≡ table_at es f.key = c.find_facts_of_key-facts.ensures.table ∙ ap (table_at es) c.key.ensures in
+    let own : c.find_sorted_facts_of_key-facts.result.now ≡ table_at es f.key = c.find_sorted_facts_of_key-facts.ensures.table ∙ ap (table_at es) c.key.ensures in
     if_err c.from_residual-in_err-former.result
     (holds-tables es f c.args.self.now.stand ∙ ap (list_any (eq_by_cmp fact_cmp f)) (sym own) ∙ c.in-Err.ensures.absent)
 
@@ -47,7 +47,7 @@ invariant_of-self c =
     let es = c.args.self.now.tables.entries in
     let f = c.args.fact.now in
     let i = c.in-Err.at in
-    let own : c.find_facts_of_key-facts.result.now ≡ table_at es f.key = c.find_facts_of_key-facts.ensures.table ∙ ap (table_at es) c.key.ensures in
+    let own : c.find_sorted_facts_of_key-facts.result.now ≡ table_at es f.key = c.find_sorted_facts_of_key-facts.ensures.table ∙ ap (table_at es) c.key.ensures in
     let up : rises (insert (table_at es f.key) i f) ≡ true = ap (λ xs. rises (insert xs i f)) (sym own) ∙ c.in-Err.ensures.rising in
     let made : c.in_ok-table.table ≡ insert (table_at es f.key) i f = c.in_ok-table.ensures ∙ ap (λ xs. insert xs i f) own in
     record {
@@ -63,7 +63,7 @@ returns-clause-added c =
     let es = c.args.self.now.tables.entries in
     let f = c.args.fact.now in
     let i = c.in-Err.at in
-    let own : c.find_facts_of_key-facts.result.now ≡ table_at es f.key = c.find_facts_of_key-facts.ensures.table ∙ ap (table_at es) c.key.ensures in
+    let own : c.find_sorted_facts_of_key-facts.result.now ≡ table_at es f.key = c.find_sorted_facts_of_key-facts.ensures.table ∙ ap (table_at es) c.key.ensures in
     let up : rises (insert (table_at es f.key) i f) ≡ true = ap (λ xs. rises (insert xs i f)) (sym own) ∙ c.in-Err.ensures.rising in
     let made : c.in_ok-table.table ≡ insert (table_at es f.key) i f = c.in_ok-table.ensures ∙ ap (λ xs. insert xs i f) own in
     one_more es c.insert.new.self.entries f i c.args.self.now.stand up
@@ -74,7 +74,7 @@ pub returns-clause-new : goal.returns-clause-new
 returns-clause-new c =
     let es = c.args.self.now.tables.entries in
     let f = c.args.fact.now in
-    let own : c.find_facts_of_key-facts.result.now ≡ table_at es f.key = c.find_facts_of_key-facts.ensures.table ∙ ap (table_at es) c.key.ensures in
+    let own : c.find_sorted_facts_of_key-facts.result.now ≡ table_at es f.key = c.find_sorted_facts_of_key-facts.ensures.table ∙ ap (table_at es) c.key.ensures in
     is_new es f false c.args.self.now.stand (ap (list_any (eq_by_cmp fact_cmp f)) (sym own) ∙ c.in-Err.ensures.absent)
 
 pub returns-clause-former : goal.returns-clause-former

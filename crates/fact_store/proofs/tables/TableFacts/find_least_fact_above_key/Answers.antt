@@ -14,7 +14,7 @@ returns-in-Some c =
     let step : c.range.result ≡ (c.in-Some.field-0-0.now, c.in-Some.table.now) ∷ c.next.new.self =
     rest_more deref_pair c.range.result c.next.new.self c.next.result (c.in-Some.field-0-0, c.in-Some.table) c.in-Some.is
     c.next.ensures.steps in
-    c.get_fact_at_index.ensures ∙ ap (λ xs. slice_get xs 0) c.as_slice.ensures
+    c.get_sorted_fact_at_index.ensures ∙ ap (λ xs. slice_get xs 0) c.as_slice.ensures
     ∙ first_table (tables_above c.args.key.now es) c.in-Some.field-0-0.now c.in-Some.table.now
     (stand_above c.args.key.now es c.args.self.now.stand) (ap (λ ts. slice_get ts 0) (sym above ∙ step))
 

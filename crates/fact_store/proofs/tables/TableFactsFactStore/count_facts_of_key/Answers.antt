@@ -4,4 +4,4 @@ use Rattle.fact_store.proofs.tables.TableFactsFactStore.count_facts_of_key.Goals
 
 pub returns : goal.returns
 returns c =
-    ap length (c.find_facts_of_key.ensures.table ∙ sym (facts_of-tables c.args.self.now.tables.entries c.args.key.now c.args.self.now.stand))
+    ap length (c.find_sorted_facts_of_key.ensures.table ∙ sym (facts_of-tables c.args.self.now.tables.entries c.args.key.now c.args.self.now.stand))

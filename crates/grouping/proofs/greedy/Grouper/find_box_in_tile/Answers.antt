@@ -41,6 +41,6 @@ returns-clause-is c =
     let t : Target = target_over job c.args.self.now.inlining c.args.candidate.now.group c.args.spot.now.tile in
     let there : g < length c.args.hulls.now = subst (λ (n : ℕ). g < n) (sym c.requires.hulls) c.requires.candidate.there in
     let demanded = c.demand_reads_of_readers.ensures
-    ∙ (λ i. demanded_all (c.clear_bounding_box.ensures i) (flat_map (demands_by t (box t)) ((c.deref.ensures.value ∙ c.requires.candidate.read) i))) in
+    ∙ (λ i. demanded_all (c.clear_trial_bounding_box.ensures i) (flat_map (demands_by t (box t)) ((c.deref.ensures.value ∙ c.requires.candidate.read) i))) in
     c.find_stage_box.ensures.is ∙ ap (λ (hulls : List (Option Area)). cut_hull job.stages hulls g) demanded
     ∙ cut_is_box t g c.args.hulls.now c.args.job.now.well there

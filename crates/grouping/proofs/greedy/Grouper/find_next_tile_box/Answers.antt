@@ -11,5 +11,5 @@ returns-then-is_some-clause-wholes c =
 pub returns-clause-wholes : goal.returns-clause-wholes
 returns-clause-wholes c =
     one_more_whole (pipeline_in c.args.job.now) c.args.self.now c.args.candidate.now c.args.wholes.now.boxes.items
-    c.push_box-2.new.self.boxes.items c.args.spot.now c.keep_box_if_readers_whole-whole.result c.requires.wholes c.requires.next c.requires.spot
-    c.keep_box_if_readers_whole-whole.ensures c.in_ok-push_box-2.ensures
+    c.push_box-2.new.self.boxes.items c.args.spot.now c.accept_box_if_readers_whole-whole.result c.requires.wholes c.requires.next c.requires.spot
+    c.accept_box_if_readers_whole-whole.ensures c.in_ok-push_box-2.ensures

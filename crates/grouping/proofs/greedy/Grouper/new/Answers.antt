@@ -19,10 +19,10 @@ loop-number-preserved c =
     let job = pipeline_in c.args.job.now in
     let before = c.loop-number.invariant in
     let standings = c.loop-number.standings.items in
-    let new = c.in_ok-new_stored_status.field-0 in
+    let new = c.in_ok-new_stored_stage_status.field-0 in
     let more = c.in_ok-push-2.ensures.items in
     let each = one_stands_more job (initial_grouping job) standings new before.2
-    (subst (λ (k : ℕ). Stands job (initial_grouping job) k new) (sym before.1) c.in_ok-new_stored_status.ensures) in (
+    (subst (λ (k : ℕ). Stands job (initial_grouping job) k new) (sym before.1) c.in_ok-new_stored_stage_status.ensures) in (
       c.in_ok-push.ensures.items ∙ ap (λ (xs : List ℕ). xs ++ c.loop-number.number ∷ []) before.0 ∙ sym (range_more c.loop-number.number),
       one_longer standings c.push-in-loop-number.new.self.items new c.loop-number.number before.1 more,
       subst (EachStands job (initial_grouping job)) (sym {A = List StageStatus} more) each,

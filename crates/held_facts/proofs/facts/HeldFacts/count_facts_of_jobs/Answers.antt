@@ -32,10 +32,10 @@ loop-next-preserved g c =
     let here : slice_get (facts_in s) c.loop-next.passed ≡ Some f = sym c.loop-next.invariant.next ∙ ap option_copied c.in-Some.is in
     let one : c.in_ok-passed.passed ≡ c.loop-next.passed + 1 = search rules in
     let is : c.from-count.result ≡ from_bool (p f) =
-    c.from-count.ensures ∙ ap from_bool (c.is_fact_key_of_jobs.ensures ∙ ap (names_one c.args.jobs.now) c.key.ensures) in
+    c.from-count.ensures ∙ ap from_bool (c.is_fact_set_key_of_jobs.ensures ∙ ap (names_one c.args.jobs.now) c.key.ensures) in
     record {
       counted = rw one (one_counted p (facts_in s) c.loop-next.passed f c.loop-next.count _ here c.loop-next.invariant.counted (ap (λ n. c.loop-next.count + n) is));
-      few = omega (arith, one, c.from-count.ensures, at_most_one c.is_fact_key_of_jobs.result, c.loop-next.invariant.few);
+      few = omega (arith, one, c.from-count.ensures, at_most_one c.is_fact_set_key_of_jobs.result, c.loop-next.invariant.few);
       next = rw one (c.find_least_fact_above-next.ensures ∙ next_at s c.loop-next.passed f here);
     }
 

@@ -17,7 +17,7 @@ returns-then-not-is_well_shaped_fact-clause-fault g c =
       refl,
       record {
         fact = c.in-Some.fact.now;
-        alone = the_one s need (sym c.in-One.is ∙ c.classify_facts_of_key.ensures) c.in-Some.fact.now there;
+        alone = the_one s need (sym c.in-One.is ∙ c.classify_fact_count_of_key.ensures) c.in-Some.fact.now there;
         is = λ fits. true≢false (sym (c.is_well_shaped_fact.ensures.1 fits) ∙ c.if-not-is_well_shaped_fact.true);
       },
     )
@@ -28,7 +28,7 @@ returns-in_ok-clone-in-One-clause-one g c =
     let need = c.args.need.now in
     let there : slice_get (facts_of s need) 0 ≡ Some c.in-Some.fact.now = sym c.find_nth_fact_of_key.ensures ∙ ap option_copied c.in-Some.is in
     let same : c.in_ok-clone-in-One.field-0 ≡ c.in-Some.fact.now = search rules in
-    subst (λ (f : Fact). facts_of s need ≡ f ∷ []) (sym same) (the_one s need (sym c.in-One.is ∙ c.classify_facts_of_key.ensures) c.in-Some.fact.now there)
+    subst (λ (f : Fact). facts_of s need ≡ f ∷ []) (sym same) (the_one s need (sym c.in-One.is ∙ c.classify_fact_count_of_key.ensures) c.in-Some.fact.now there)
 
 pub returns-in_err-clone-in-One-clause-fault : goal.returns-in_err-clone-in-One-clause-fault
 returns-in_err-clone-in-One-clause-fault g c =
@@ -39,7 +39,7 @@ returns-in_err-clone-in-One-clause-fault g c =
     let ready : IsReady s job need =
     record {
       fact = c.in-Some.fact.now;
-      alone = the_one s need (sym c.in-One.is ∙ c.classify_facts_of_key.ensures) c.in-Some.fact.now there;
+      alone = the_one s need (sym c.in-One.is ∙ c.classify_fact_count_of_key.ensures) c.in-Some.fact.now there;
       is = c.is_well_shaped_fact.ensures.0 (cc);
     } in
     let p = err_from_is_err_and c.from_residual.result c.from_residual.ensures.1 in

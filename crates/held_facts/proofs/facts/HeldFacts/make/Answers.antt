@@ -36,15 +36,15 @@ returns-in_err-facts-clause-fault g c =
     (stopped c.args.catalog.now s inlining key (entry_of job) c.in-Some.ensures.some c.in_ok-plan.plan is c.in_err-facts.field-0.0
     (subst (λ (ks : List Key). IsNeedsFault s (pipeline_in job) ks c.in_err-facts.field-0.0) c.needs.ensures c.in_err-facts.ensures.fault))
 
-pub compute_local_fact_body-requires-clause-whole : goal.compute_local_fact_body-requires-clause-whole
-compute_local_fact_body-requires-clause-whole g c =
+pub compute_fact_body_from_held_tiles-requires-clause-whole : goal.compute_fact_body_from_held_tiles-requires-clause-whole
+compute_fact_body_from_held_tiles-requires-clause-whole g c =
     let s = c.args.self.now in
     let job = pipeline_in c.in-Some.job.now in
     subst (λ (fs : List Fact). AreWhole job (tiles_in fs)) (sym c.in_ok-facts.ensures.facts)
     (needed_whole s job c.needs.result.now c.in_ok-facts.ensures.ready)
 
-pub compute_local_fact_body-requires-clause-given : goal.compute_local_fact_body-requires-clause-given
-compute_local_fact_body-requires-clause-given g c =
+pub compute_fact_body_from_held_tiles-requires-clause-given : goal.compute_fact_body_from_held_tiles-requires-clause-given
+compute_fact_body_from_held_tiles-requires-clause-given g c =
     let s = c.args.self.now in
     let job = c.in-Some.job.now in
     let keys = c.needs.result.now in
@@ -58,8 +58,8 @@ compute_local_fact_body-requires-clause-given g c =
     needed_function (program_id_in job) (target_over (pipeline_in job) c.args.schedule.now.inlining c.from-stage.result is.area)
     job.well need (subst (λ (ks : List Key). Contains ks need) asked h))))
 
-pub invariant_of-compute_local_fact_body : goal.invariant_of-compute_local_fact_body
-invariant_of-compute_local_fact_body g c =
+pub invariant_of-compute_fact_body_from_held_tiles : goal.invariant_of-compute_fact_body_from_held_tiles
+invariant_of-compute_fact_body_from_held_tiles g c =
     let s = c.args.self.now in
     let job = c.in-Some.job.now in
     let keys = c.needs.result.now in

@@ -8,9 +8,9 @@ use Rattle.leases.proofs.desk.Desk.holder.Goals as goal
 pub returns-clause-answer : goal.returns-clause-answer
 returns-clause-answer c = λ h t s.
     let when : c.max-self.result ≡ max t c.args.now = c.max-self.ensures ∙ ap (λ k. max k c.args.now) s.clock in
-    let node : c.map.result ≡ option_map (λ (l : Lease). l.node) c.find_lease.result = search rules in
+    let node : c.map.result ≡ option_map (λ (l : Lease). l.node) c.find_lease_in_force.result = search rules in
     node ∙ ap (option_map (λ l. l.node))
-    (c.find_lease.ensures
+    (c.find_lease_in_force.ensures
     ∙ (ap (λ x. shown_lease x c.args.self.now c.args.key.now) when ∙ shown_later c.args.self.now h t _ c.args.key.now s (omega arith)))
 
 pub returns-clause-stands : goal.returns-clause-stands

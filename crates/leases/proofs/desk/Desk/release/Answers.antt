@@ -9,7 +9,7 @@ use Rattle.leases.proofs.desk.Desk.release.Goals as goal
 
 pub returns-in-Released : goal.returns-in-Released
 returns-in-Released c =
-    let answer = c.decide_by_lease-release.ensures ∙ ap (λ o. release_by o c.args.node) c.find_lease.ensures in
+    let answer = c.decide_by_lease-release.ensures ∙ ap (λ o. release_by o c.args.node) c.find_lease_in_force.ensures in
     let done = λ (h : List LeaseEntry) (t : ℕ) (s : StandsFor c.args.self.now h t).
     release_done c.args.self.now (record { clock = c.max-self.result; leases = c.remove.new.self }) h t c.args.now c.max-self.result
     c.args.node
@@ -25,7 +25,7 @@ returns-in-Released c =
 
 pub returns-in_default : goal.returns-in_default
 returns-in_default c =
-    let answer = c.decide_by_lease-release.ensures ∙ ap (λ o. release_by o c.args.node) c.find_lease.ensures in
+    let answer = c.decide_by_lease-release.ensures ∙ ap (λ o. release_by o c.args.node) c.find_lease_in_force.ensures in
     let other = not_released c.decide_by_lease-release.result c.in_default.not-Released in
     let done = λ (h : List LeaseEntry) (t : ℕ) (s : StandsFor c.args.self.now h t).
     release_done c.args.self.now (record { clock = c.max-self.result; leases = c.args.self.now.leases }) h t c.args.now c.max-self.result

@@ -111,10 +111,10 @@ gather_row-requires-clause-there g c =
     let body = function_body c.in-Some.found.now c.body.result.now c.in-Function.field-0 c.body.ensures c.in-Function.is in
     let flag = sym c.inlined.ensures ∙ c.if-inlined.true in
     rw (to_z-of_z w32 c.args.row row) (λ k h.
-    view_holds job tile.layout.now given c.args.self.now.boxes c.args.stage s there _ _ body flag c.args.row (index_at c.args.col.now (c.args.points.now.col +ℤ pos k)) (c.requires.there k h) c.in-Some-view_box.view c.in-Some-view_box.ensures.some)
+    view_holds job tile.layout.now given c.args.self.now.boxes c.args.stage s there _ _ body flag c.args.row (index_at c.args.col.now (c.args.points.now.col +ℤ pos k)) (c.requires.there k h) c.in-Some-view_inlined_box.view c.in-Some-view_inlined_box.ensures.some)
 
-pub returns-in-Some-view_box : goal.returns-in-Some-view_box
-returns-in-Some-view_box g c = λ k h.
+pub returns-in-Some-view_inlined_box : goal.returns-in-Some-view_inlined_box
+returns-in-Some-view_inlined_box g c = λ k h.
     let tile = c.args.self.now.tile in
     let job = pipeline_in tile.job.now in
     let given = g.K.TileSource.given tile.known.now in
@@ -124,11 +124,11 @@ returns-in-Some-view_box g c = λ k h.
     let body = function_body c.in-Some.found.now c.body.result.now c.in-Function.field-0 c.body.ensures c.in-Function.is in
     let flag = sym c.inlined.ensures ∙ c.if-inlined.true in
     c.gather_row.ensures k h
-    ∙ (λ i. at c.in-Some-view_box.view.values.now (place_of c.in-Some-view_box.view.area (to_z-of_z w32 c.args.row row i) (index_at c.args.col.now (c.args.points.now.col +ℤ pos k))))
-    ∙ view_reads job tile.layout.now given c.args.self.now.boxes c.args.stage s there _ _ body flag c.args.row (index_at c.args.col.now (c.args.points.now.col +ℤ pos k)) (c.requires.there k h) c.in-Some-view_box.view c.in-Some-view_box.ensures.some
+    ∙ (λ i. at c.in-Some-view_inlined_box.view.values.now (place_of c.in-Some-view_inlined_box.view.area (to_z-of_z w32 c.args.row row i) (index_at c.args.col.now (c.args.points.now.col +ℤ pos k))))
+    ∙ view_reads job tile.layout.now given c.args.self.now.boxes c.args.stage s there _ _ body flag c.args.row (index_at c.args.col.now (c.args.points.now.col +ℤ pos k)) (c.requires.there k h) c.in-Some-view_inlined_box.view c.in-Some-view_inlined_box.ensures.some
 
-pub returns-in_default-view_box : goal.returns-in_default-view_box
-returns-in_default-view_box g c = λ k h.
+pub returns-in_default-view_inlined_box : goal.returns-in_default-view_inlined_box
+returns-in_default-view_inlined_box g c = λ k h.
     let tile = c.args.self.now.tile in
     let job = pipeline_in tile.job.now in
     let given = g.K.TileSource.given tile.known.now in
@@ -136,4 +136,4 @@ returns-in_default-view_box g c = λ k h.
     let there : slice_get job.stages c.args.stage ≡ Some s = sym c.in-Some.ensures in
     let body = function_body c.in-Some.found.now c.body.result.now c.in-Function.field-0 c.body.ensures c.in-Function.is in
     let flag = sym c.inlined.ensures ∙ c.if-inlined.true in
-    absurd (some_view job tile.layout.now given c.args.self.now.boxes c.args.stage s there _ _ body flag c.args.row (index_at c.args.col.now (c.args.points.now.col +ℤ pos k)) (c.requires.there k h) c.in_default-view_box.ensures.none)
+    absurd (some_view job tile.layout.now given c.args.self.now.boxes c.args.stage s there _ _ body flag c.args.row (index_at c.args.col.now (c.args.points.now.col +ℤ pos k)) (c.requires.there k h) c.in_default-view_inlined_box.ensures.none)

@@ -86,10 +86,10 @@ read_row-requires g c =
     let body = function_body c.in-Some.found.now c.body.result.now c.in-Function.field-0 c.body.ensures c.in-Function.is in
     let flag = sym c.inlined.ensures ∙ c.if-inlined.true in
     rw (to_z-of_z w32 c.args.row row) (rw (to_z-of_z w32 c.args.first first) (λ k h.
-    view_holds job tile.layout.now given c.args.self.now.boxes c.args.stage s there _ _ body flag c.args.row (c.args.first +ℤ pos k) (c.requires k h) c.in-Some-view_box.view c.in-Some-view_box.ensures.some))
+    view_holds job tile.layout.now given c.args.self.now.boxes c.args.stage s there _ _ body flag c.args.row (c.args.first +ℤ pos k) (c.requires k h) c.in-Some-view_inlined_box.view c.in-Some-view_inlined_box.ensures.some))
 
-pub returns-in-Some-view_box : goal.returns-in-Some-view_box
-returns-in-Some-view_box g c = λ k h.
+pub returns-in-Some-view_inlined_box : goal.returns-in-Some-view_inlined_box
+returns-in-Some-view_inlined_box g c = λ k h.
     let tile = c.args.self.now.tile in
     let job = pipeline_in tile.job.now in
     let given = g.K.TileSource.given tile.known.now in
@@ -100,12 +100,12 @@ returns-in-Some-view_box g c = λ k h.
     let body = function_body c.in-Some.found.now c.body.result.now c.in-Function.field-0 c.body.ensures c.in-Function.is in
     let flag = sym c.inlined.ensures ∙ c.if-inlined.true in
     c.read_row.ensures k h
-    ∙ (λ i. at c.in-Some-view_box.view.values.now (place_of c.in-Some-view_box.view.area (to_z-of_z w32 c.args.row row i)
+    ∙ (λ i. at c.in-Some-view_inlined_box.view.values.now (place_of c.in-Some-view_inlined_box.view.area (to_z-of_z w32 c.args.row row i)
     (to_z-of_z w32 c.args.first first i +ℤ pos k)))
-    ∙ view_reads job tile.layout.now given c.args.self.now.boxes c.args.stage s there _ _ body flag c.args.row (c.args.first +ℤ pos k) (c.requires k h) c.in-Some-view_box.view c.in-Some-view_box.ensures.some
+    ∙ view_reads job tile.layout.now given c.args.self.now.boxes c.args.stage s there _ _ body flag c.args.row (c.args.first +ℤ pos k) (c.requires k h) c.in-Some-view_inlined_box.view c.in-Some-view_inlined_box.ensures.some
 
-pub returns-in_default-view_box : goal.returns-in_default-view_box
-returns-in_default-view_box g c = λ k h.
+pub returns-in_default-view_inlined_box : goal.returns-in_default-view_inlined_box
+returns-in_default-view_inlined_box g c = λ k h.
     let tile = c.args.self.now.tile in
     let job = pipeline_in tile.job.now in
     let given = g.K.TileSource.given tile.known.now in
@@ -113,4 +113,4 @@ returns-in_default-view_box g c = λ k h.
     let there : slice_get job.stages c.args.stage ≡ Some s = sym c.in-Some.ensures in
     let body = function_body c.in-Some.found.now c.body.result.now c.in-Function.field-0 c.body.ensures c.in-Function.is in
     let flag = sym c.inlined.ensures ∙ c.if-inlined.true in
-    absurd (some_view job tile.layout.now given c.args.self.now.boxes c.args.stage s there _ _ body flag c.args.row (c.args.first +ℤ pos k) (c.requires k h) c.in_default-view_box.ensures.none)
+    absurd (some_view job tile.layout.now given c.args.self.now.boxes c.args.stage s there _ _ body flag c.args.row (c.args.first +ℤ pos k) (c.requires k h) c.in_default-view_inlined_box.ensures.none)

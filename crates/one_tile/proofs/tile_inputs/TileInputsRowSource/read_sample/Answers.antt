@@ -52,10 +52,10 @@ read_sample-requires g c =
     let body = function_body c.in-Some.found.now c.body.result.now c.in-Function.field-0 c.body.ensures c.in-Function.is in
     let flag = sym c.inlined.ensures ∙ c.if-inlined.true in
     rw (to_z-of_z w32 c.args.row row) (rw (to_z-of_z w32 c.args.col col)
-    (view_holds job tile.layout.now given c.args.self.now.boxes c.args.stage s there _ _ body flag c.args.row c.args.col c.requires c.in-Some-view_box.view c.in-Some-view_box.ensures.some))
+    (view_holds job tile.layout.now given c.args.self.now.boxes c.args.stage s there _ _ body flag c.args.row c.args.col c.requires c.in-Some-view_inlined_box.view c.in-Some-view_inlined_box.ensures.some))
 
-pub returns-in-Some-view_box : goal.returns-in-Some-view_box
-returns-in-Some-view_box g c =
+pub returns-in-Some-view_inlined_box : goal.returns-in-Some-view_inlined_box
+returns-in-Some-view_inlined_box g c =
     let tile = c.args.self.now.tile in
     let job = pipeline_in tile.job.now in
     let given = g.K.TileSource.given tile.known.now in
@@ -67,9 +67,9 @@ returns-in-Some-view_box g c =
     let flag = sym c.inlined.ensures ∙ c.if-inlined.true in
     let fits : FitsSigned w32 c.read_sample.result = search rules in
     to_z-of_z w32 c.read_sample.result fits ∙ c.read_sample.ensures
-    ∙ (λ i. at c.in-Some-view_box.view.values.now (place_of c.in-Some-view_box.view.area (to_z-of_z w32 c.args.row row i)
+    ∙ (λ i. at c.in-Some-view_inlined_box.view.values.now (place_of c.in-Some-view_inlined_box.view.area (to_z-of_z w32 c.args.row row i)
     (to_z-of_z w32 c.args.col col i)))
-    ∙ view_reads job tile.layout.now given c.args.self.now.boxes c.args.stage s there _ _ body flag c.args.row c.args.col c.requires c.in-Some-view_box.view c.in-Some-view_box.ensures.some
+    ∙ view_reads job tile.layout.now given c.args.self.now.boxes c.args.stage s there _ _ body flag c.args.row c.args.col c.requires c.in-Some-view_inlined_box.view c.in-Some-view_inlined_box.ensures.some
 
 pub returns-in-None : goal.returns-in-None
 returns-in-None g c =

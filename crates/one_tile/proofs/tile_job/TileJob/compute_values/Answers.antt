@@ -12,8 +12,8 @@ use Rattle.one_tile.proofs.tile_job.TileJob.compute_values.Goals as goal
 pub compute_function_values-requires-clause-last : goal.compute_function_values-requires-clause-last
 compute_function_values-requires-clause-last g c = λ inner last is. c.in-Some.ensures.some inner last (c.steps.ensures ∙ is)
 
-pub returns-in-Some-find_step_function : goal.returns-in-Some-find_step_function
-returns-in-Some-find_step_function g c =
+pub returns-in-Some-find_tile_step_function : goal.returns-in-Some-find_tile_step_function
+returns-in-Some-find_tile_step_function g c =
     let job = pipeline_in c.args.self.now.job.now in
     let l = c.args.self.now.layout.now in
     let given = g.K.TileSource.given c.args.self.now.known.now in

@@ -31,18 +31,18 @@ returns-clause-layout c =
         needs = c.in_ok-needs.ensures
             ∙ ap (λ (bs : List (ℕ × Area)). flat_map (stage_needs job inlining bs) (range_with_len 0 (length job.stages))) c.requires.boxes;
         steps = ap (map step_view) c.in_ok-all.ensures ∙ map_push step_view c.in_ok-steps.steps.items c.args.target;
-        points = ap (λ (n : ℕ). n + c.count_area_points.result) number ∙ ap (λ (n : ℕ). points_in inner + n) c.count_area_points.ensures.number;
+        points = ap (λ (n : ℕ). n + c.count_area_points_of_tile_plan.result) number ∙ ap (λ (n : ℕ). points_in inner + n) c.count_area_points_of_tile_plan.ensures.number;
         ranges = c.in_ok-ranges.ensures.ranges
             ∙ ap (λ (ss : List TileStep). ranges_by (find_last_readers job (map step_view ss ++ step_view c.args.target ∷ [])) (map step_view ss))
             c.deref-3.ensures.value;
-        scratch = c.find_scratch_size-scratch.ensures ∙ ap size_of c.deref-4.ensures.value;
+        scratch = c.find_size_of_scratch_ranges-scratch.ensures ∙ ap size_of c.deref-4.ensures.value;
         inlining = refl;
       });
       fits = subst (λ (n : ℕ). n ≤ most_scratch) (number ∙ ap points_in kept) few;
     }
 
-pub index_steps_by_stage-requires : goal.index_steps_by_stage-requires
-index_steps_by_stage-requires c =
+pub list_step_places_by_stage-requires : goal.list_step_places_by_stage-requires
+list_step_places_by_stage-requires c =
     let job = pipeline_in c.args.job.now in
     let t = target_over job c.args.schedule.now.inlining c.args.target.stage c.args.target.area in
     let kept : map step_view c.deref-2.result.now ≡ inner_steps t =

@@ -5,8 +5,8 @@ use Rattle.overlap_tiles.proofs.MadeIsLayout.{tiles_back, numbers_fit}
 use Rattle.overlap_tiles.proofs.plan.TilePlan.of.Goals as goal
 use Rattle.tile_boxes.specs.Targets.{target_over}
 
-pub list_needed_keys-requires : goal.list_needed_keys-requires
-list_needed_keys-requires c =
+pub list_keys_of_tile_needs-requires : goal.list_keys_of_tile_needs-requires
+list_keys_of_tile_needs-requires c =
     let is = c.in_ok-layout.ensures.layout in
     numbers_fit (target_over (pipeline_in c.args.job.now) c.args.schedule.now.inlining c.args.stage is.area) c.needs.result.now
     c.args.job.now.well (c.needs.ensures ∙ is.layout.layout.needs)

@@ -7,8 +7,8 @@ use Rattle.pictures.specs.Pictures.{picture_with, samples_from}
 use Rattle.pictures.proofs.PictureOfAnswer.{planes_picture}
 use Rattle.pictures.proofs.picture.SuppliedJob.assemble_picture.Goals as goal
 
-pub build_output_picture-requires-clause-image : goal.build_output_picture-requires-clause-image
-build_output_picture-requires-clause-image g c =
+pub build_picture_from_output_planes-requires-clause-image : goal.build_picture_from_output_planes-requires-clause-image
+build_picture_from_output_planes-requires-clause-image g c =
     let job = pipeline_in c.args.self.now.job.now in
     let env = given_at job (g.K.TileSource.given c.args.self.now.known.now) in
     planes_picture job env (output_view c.args.output.now) (made_samples c.in_ok-planes.planes.items) c.requires.output
@@ -18,6 +18,6 @@ pub returns-clause-answer : goal.returns-clause-answer
 returns-clause-answer g c =
     let job = pipeline_in c.args.self.now.job.now in
     let env = given_at job (g.K.TileSource.given c.args.self.now.known.now) in
-    c.build_output_picture.ensures.picture
+    c.build_picture_from_output_planes.ensures.picture
     ∙ ap (picture_with job (output_view c.args.output.now))
     (c.in_ok-planes.ensures ∙ (λ i. map (samples_from job env (c.max.ensures i)) (c.stages.ensures i)))

@@ -6,8 +6,8 @@ use Rattle.tile_sources.proofs.GivenLines.{grid_is}
 use Rattle.pictures.specs.RowAreas.{row_area}
 use Rattle.pictures.proofs.streamed.StreamedOutput.compute_plane_strip.Goals as goal
 
-pub compute_output_tile_row_area-area-requires-clause-parted : goal.compute_output_tile_row_area-area-requires-clause-parted
-compute_output_tile_row_area-area-requires-clause-parted c =
+pub compute_output_plane_tile_row_area-area-requires-clause-parted : goal.compute_output_plane_tile_row_area-area-requires-clause-parted
+compute_output_plane_tile_row_area-area-requires-clause-parted c =
     let self = c.args.self.now in
     let is = c.requires.ready in
     subst IsGrid (sym is.parted) (grid_is (pipeline_in self.run.job.now) self.run.job.now.well self.run.stage is.stage is.function.there)

@@ -14,8 +14,8 @@ use Rattle.pictures.proofs.LentRows.{row_lent, row_samples}
 use Rattle.pictures.proofs.PictureOfAnswer.{sample_at}
 use Rattle.pictures.proofs.streamed.StreamedOutput.compute_tile_row_into_sheet.Goals as goal
 
-pub compute_output_tile_row_area-area-requires-clause-parted : goal.compute_output_tile_row_area-area-requires-clause-parted
-compute_output_tile_row_area-area-requires-clause-parted g c =
+pub compute_output_plane_tile_row_area-area-requires-clause-parted : goal.compute_output_plane_tile_row_area-area-requires-clause-parted
+compute_output_plane_tile_row_area-area-requires-clause-parted g c =
     let self = c.args.self.now in
     let is = c.requires.ready in
     subst IsGrid (sym is.parted) (grid_is (pipeline_in self.run.job.now) self.run.job.now.well self.run.stage is.stage is.function.there)
@@ -30,8 +30,8 @@ push_area_samples-requires g c =
     let grid : Grid = grid_of job is.stage in
     let made : row_numbers tiles ≡ row_values job self.run.stage grid row (tile_cols grid) =
     c.in_ok-tiles.ensures ∙ (λ i. row_values job self.run.stage (is.parted i) row (tile_cols (is.parted i))) in
-    let here : c.compute_output_tile_row_area-area.result ≡ row_area grid row =
-    c.compute_output_tile_row_area-area.ensures ∙ (λ i. row_area (is.parted i) row) in
+    let here : c.compute_output_plane_tile_row_area-area.result ≡ row_area grid row =
+    c.compute_output_plane_tile_row_area-area.ensures ∙ (λ i. row_area (is.parted i) row) in
     subst (λ (a : Area). IsGivenArea job (lent_row self.run.stage row tiles) self.run.stage a) (sym here)
     (row_lent job self.run.job.now.well self.run.stage is.stage is.function.there row tiles made)
 
@@ -45,11 +45,11 @@ returns-clause-samples g c =
     let grid : Grid = grid_of job is.stage in
     let made : row_numbers tiles ≡ row_values job self.run.stage grid row (tile_cols grid) =
     c.in_ok-tiles.ensures ∙ (λ i. row_values job self.run.stage (is.parted i) row (tile_cols (is.parted i))) in
-    let here : c.compute_output_tile_row_area-area.result ≡ row_area grid row =
-    c.compute_output_tile_row_area-area.ensures ∙ (λ i. row_area (is.parted i) row) in
+    let here : c.compute_output_plane_tile_row_area-area.result ≡ row_area grid row =
+    c.compute_output_plane_tile_row_area-area.ensures ∙ (λ i. row_area (is.parted i) row) in
     let within : row < tile_rows grid = subst (λ (d : Grid). row < tile_rows d) is.parted c.requires.row in
     let env : Valuation = given_at job (lent_row self.run.stage row tiles) in
-    let same : map (sample_at env (g.S.OutputSheet.greatest_of c.args.sheet.now) self.run.stage) (points_of c.compute_output_tile_row_area-area.result)
+    let same : map (sample_at env (g.S.OutputSheet.greatest_of c.args.sheet.now) self.run.stage) (points_of c.compute_output_plane_tile_row_area-area.result)
     ≡ samples_over job (g.S.OutputSheet.greatest_of c.args.sheet.now) self.run.stage (row_area self.run.grid row) =
     ap (λ (a : Area). map (sample_at env (g.S.OutputSheet.greatest_of c.args.sheet.now) self.run.stage) (points_of a)) here
     ∙ row_samples job self.run.job.now.well self.run.stage is.stage is.function.there row tiles made (g.S.OutputSheet.greatest_of c.args.sheet.now) within

@@ -21,8 +21,8 @@ returns-in-Some c =
       greatest = x.greatest;
       told = cc (to_z-of_z w32 x.least least, to_z-of_z w32 x.greatest greatest);
       leaves =
-          leaves_by_spans (domains_in found) access c.args.area.now c.access_footprint-taken.result d x.axis x.least x.greatest
-          c.access_footprint-taken.ensures.within c.access_footprint-taken.ensures.taken there c.in-Some.ensures;
+          leaves_by_spans (domains_in found) access c.args.area.now c.compute_access_footprint-taken.result d x.axis x.least x.greatest
+          c.compute_access_footprint-taken.ensures.within c.compute_access_footprint-taken.ensures.taken there c.in-Some.ensures;
     })
 
 pub returns-in-None : goal.returns-in-None
@@ -31,5 +31,5 @@ returns-in-None c =
     let access = c.args.access.now in
     let d = c.domain.result.now in
     let there = domain_read found access c.stage.result c.index-self-stage.result d c.requires.sound c.stage.ensures c.domain.ensures in
-    stays_by_spans (domains_in found) access c.args.area.now c.access_footprint-taken.result d c.access_footprint-taken.ensures.within c.access_footprint-taken.ensures.taken
+    stays_by_spans (domains_in found) access c.args.area.now c.compute_access_footprint-taken.result d c.compute_access_footprint-taken.ensures.within c.compute_access_footprint-taken.ensures.taken
     there c.in-None.ensures

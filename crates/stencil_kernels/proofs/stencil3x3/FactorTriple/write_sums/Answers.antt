@@ -5,5 +5,5 @@ use Rattle.stencil_kernels.proofs.stencil3x3.FactorTriple.write_sums.Goals as go
 
 pub returns-then-has_only_ones : goal.returns-then-has_only_ones
 returns-then-has_only_ones c = λ k h.
-    c.write_box_1x3_sums.ensures k h
+    c.write_three_unit_tap_sums.ensures k h
     ∙ ap (λ (ts : List ℤ). wrapped (tap_sum ts c.args.line.now k)) (sym (c.has_only_ones.ensures (search rules)))

@@ -7,7 +7,7 @@ use Rattle.stencil_kernels.proofs.stencil3x3.Kernel3x3.write_sums.Goals as goal
 
 pub returns-then-has_only_unit_factors : goal.returns-then-has_only_unit_factors
 returns-then-has_only_unit_factors c = λ k h.
-    c.write_box_3x3_sums.ensures k h
+    c.write_nine_unit_tap_sums.ensures k h
     ∙ ap (λ (ks : List (List ℤ)). wrapped (tap_sum (factors ks 0) c.args.top.now k
     +ℤ tap_sum (factors ks 1) c.args.middle.now k +ℤ tap_sum (factors ks 2) c.args.bottom.now k)) (sym (c.has_only_unit_factors.ensures (search rules)))
 

@@ -10,4 +10,4 @@ returns-in-Some-Some-Some-clause-near c =
     let s = stage_view c.in-Some-Some-Some.stage.now in
     let stage = c.args.self.now.job.now.well.stages c.args.number s
     (sym c.stage.ensures ∙ ap (option_map (λ (r : Bor KeptStage). stage_view r.now)) c.in-Some-Some-Some.is-0) in
-    c.intersect_areas.ensures.near (subst InDomainRanges (sym c.domain.ensures) (record { rows = stage.rows; cols = stage.cols }))
+    c.intersect_boxes.ensures.near (subst InDomainRanges (sym c.domain.ensures) (record { rows = stage.rows; cols = stage.cols }))

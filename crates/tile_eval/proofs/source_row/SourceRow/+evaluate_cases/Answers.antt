@@ -34,8 +34,8 @@ evaluate_cases_part-returns-then-from-to-clause-inside g t c = λ k l low high.
     c.requires.most c.evaluate_cases.auto.out
     c.slice_points-points.ensures.row c.slice_points-points.ensures.col c.evaluate_cases.ensures low high
 
-pub evaluate_cases-evaluate_after_case-requires : goal.evaluate_cases-evaluate_after_case-requires
-evaluate_cases-evaluate_after_case-requires g t c κs within =
+pub evaluate_cases-evaluate_cases_where_earlier_fails-requires : goal.evaluate_cases-evaluate_cases_where_earlier_fails-requires
+evaluate_cases-evaluate_cases_where_earlier_fails-requires g t c κs within =
     let here : length c.args.cases.now * 2 ≡ t = c.decreases in
     let fewer = fewer_cases c.args.cases.now c.in-len1-up.len_at_least in
     let below : length (take (length c.args.cases.now - 1) (drop 1 c.args.cases.now)) * 2 + 1 < t = omega (arith, here, fewer) in
@@ -71,8 +71,8 @@ evaluate_cases-evaluate_formula_part-requires-clause-room g t c =
     (sym c.formula.ensures)
     (room_less (formula_view c.case-item.result.formula) (length c.args.out.now) (length c.args.out.now) _ _ same room roomy.operands)))
 
-pub evaluate_after_case-evaluate_cases_part-requires-in-Some : goal.evaluate_after_case-evaluate_cases_part-requires-in-Some
-evaluate_after_case-evaluate_cases_part-requires-in-Some g t c κs within =
+pub evaluate_cases_where_earlier_fails-evaluate_cases_part-requires-in-Some : goal.evaluate_cases_where_earlier_fails-evaluate_cases_part-requires-in-Some
+evaluate_cases_where_earlier_fails-evaluate_cases_part-requires-in-Some g t c κs within =
     let here : length c.args.cases.now * 2 + 1 ≡ t = c.decreases in
     let fewer = fewer_cases c.args.cases.now c.in-len1-up.len_at_least in
     let below : length (take (length c.args.cases.now - 1) (drop 1 c.args.cases.now)) * 2 + 1 < t = omega (arith, here, fewer) in
@@ -84,8 +84,8 @@ evaluate_after_case-evaluate_cases_part-requires-in-Some g t c κs within =
     (length c.args.out.now) (length c.args.temps.now) c.args.cases.now c.args.otherwise.now c.requires.ready in
     (below, (search rules, (out ∙ c.requires.fits, (most, (omega arith, rw out (rw temps ready))))))
 
-pub evaluate_after_case-evaluate_formula_part-requires-clause-room : goal.evaluate_after_case-evaluate_formula_part-requires-clause-room
-evaluate_after_case-evaluate_formula_part-requires-clause-room g t c =
+pub evaluate_cases_where_earlier_fails-evaluate_formula_part-requires-clause-room : goal.evaluate_cases_where_earlier_fails-evaluate_formula_part-requires-clause-room
+evaluate_cases_where_earlier_fails-evaluate_formula_part-requires-clause-room g t c =
     let out : length c.evaluate_cases_part-in-Some.new.out ≡ length c.args.out.now = c.evaluate_cases_part-in-Some.auto.out ∙ c.evaluate_cases_part.auto.out in
     let temps : length c.evaluate_cases_part-in-Some.new.temps ≡ length c.args.temps.now =
     c.evaluate_cases_part-in-Some.auto.temps ∙ c.evaluate_cases_part.auto.temps in
@@ -98,8 +98,8 @@ evaluate_after_case-evaluate_formula_part-requires-clause-room g t c =
     (sym c.formula.ensures)
     (room_less (formula_view c.case-item.result.formula) (length c.args.out.now) (length c.args.out.now) _ _ same room roomy.operands)))
 
-pub evaluate_after_case-evaluate_formula_part-requires-clause-reads : goal.evaluate_after_case-evaluate_formula_part-requires-clause-reads
-evaluate_after_case-evaluate_formula_part-requires-clause-reads g t c = λ k l low high.
+pub evaluate_cases_where_earlier_fails-evaluate_formula_part-requires-clause-reads : goal.evaluate_cases_where_earlier_fails-evaluate_formula_part-requires-clause-reads
+evaluate_cases_where_earlier_fails-evaluate_formula_part-requires-clause-reads g t c = λ k l low high.
     let out : length c.evaluate_cases_part-in-Some.new.out ≡ length c.args.out.now = c.evaluate_cases_part-in-Some.auto.out ∙ c.evaluate_cases_part.auto.out in
     let few : k < length c.args.out.now = subst (λ (n : ℕ). k < n) out l in
     let short : k < c.args.self.now.points.len = subst (λ (n : ℕ). k < n) c.requires.fits few in

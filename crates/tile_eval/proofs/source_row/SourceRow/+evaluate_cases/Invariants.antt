@@ -7,5 +7,5 @@ decreases-evaluate_cases g l = length l.cases.now * 2
 abbrev pub decreases-evaluate_cases_part : goal.decreases-evaluate_cases_part
 decreases-evaluate_cases_part g l = length l.cases.now * 2 + 1
 
-abbrev pub decreases-evaluate_after_case : goal.decreases-evaluate_after_case
-decreases-evaluate_after_case g l = length l.cases.now * 2 + 1
+abbrev pub decreases-evaluate_cases_where_earlier_fails : goal.decreases-evaluate_cases_where_earlier_fails
+decreases-evaluate_cases_where_earlier_fails g l = length l.cases.now * 2 + 1

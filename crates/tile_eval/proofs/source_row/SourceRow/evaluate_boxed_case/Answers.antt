@@ -42,7 +42,7 @@ evaluate_formula-requires-in_default-clause-reads g c =
     (formula_view c.args.case.now.formula) c.requires.some c.requires.roomy.formula
     (λ k l. (c.requires.ready k l).reads (c.requires.inside k l))))
 
-pub copy_masked_row-requires-clause-tests : goal.copy_masked_row-requires-clause-tests
-copy_masked_row-requires-clause-tests g c =
+pub copy_row_where_mask_holds-requires-clause-tests : goal.copy_row_where_mask_holds-requires-clause-tests
+copy_row_where_mask_holds-requires-clause-tests g c =
     subst (λ (ts : List KeptTest). All (λ t. IsTest (test_view t)) ts) (sym c.tests-in_default.ensures)
     (All-from_map IsTest test_view c.args.case.now.tests.items c.requires.roomy.tests)

@@ -18,4 +18,4 @@ loop-a-preserved g c = λ j h.
     let there : j < length c.in-Some.line.now = omega arith in
     rw add-one (column_more (g.S.RowSource.samples c.args.self.now.source.now c.args.stage) c.args.kernel.now c.args.self.now.points.row
     c.args.self.now.points.col c.args.down.now c.in-Some.line.now c.loop-a.a j _ _ line.1 there (to_z-of_z w32 _ factor)
-    (c.add_scaled_row.ensures j lt _ (c.loop-a.invariant j lt)))
+    (c.add_line_times_factor.ensures j lt _ (c.loop-a.invariant j lt)))

@@ -6,7 +6,7 @@ use Rattle.tile_eval.proofs.source_row.SourceRow.write_read_samples.Goals as goa
 
 pub read_row-requires : goal.read_row-requires
 read_row-requires g c = λ k h.
-    let adds = c.has_unit_scale.ensures c.if-has_unit_scale.true in
+    let adds = c.is_index_shifting_along_row.ensures c.if-is_index_shifting_along_row.true in
     let row_fits : FitsSigned w32 c.row_at_index-own.result = search rules in
     let col_fits : FitsSigned w32 c.first_column_at_index.result = search rules in
     let row : to_z w32 (of_z w32 c.row_at_index-own.result) ≡ index_at c.args.row.now c.args.self.now.points.row =
@@ -19,9 +19,9 @@ read_row-requires g c = λ k h.
     (sym first)
     (c.requires.reads k h))
 
-pub returns-then-has_unit_scale : goal.returns-then-has_unit_scale
-returns-then-has_unit_scale g c = λ k h.
-    let adds = c.has_unit_scale.ensures c.if-has_unit_scale.true in
+pub returns-then-is_index_shifting_along_row : goal.returns-then-is_index_shifting_along_row
+returns-then-is_index_shifting_along_row g c = λ k h.
+    let adds = c.is_index_shifting_along_row.ensures c.if-is_index_shifting_along_row.true in
     let row_fits : FitsSigned w32 c.row_at_index-own.result = search rules in
     let col_fits : FitsSigned w32 c.first_column_at_index.result = search rules in
     let row : to_z w32 (of_z w32 c.row_at_index-own.result) ≡ index_at c.args.row.now c.args.self.now.points.row =

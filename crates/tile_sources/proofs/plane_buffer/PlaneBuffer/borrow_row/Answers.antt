@@ -14,11 +14,11 @@ slice_row-requires c =
     let first : FitsSigned w32 c.args.first = search rules in
     let area = c.in_ok-area.area in
     let held : HoldsPoint area c.args.row c.args.first = search rules in
-    let ends : (c.args.first +ℤ pos c.count_plane_columns_from.result) ≡ area.cols.hi +ℤ pos 1 = search rules in
-    let most : c.args.count ≤ c.count_plane_columns_from.result = omega arith in
+    let ends : (c.args.first +ℤ pos c.count_plane_buffer_columns_from.result) ≡ area.cols.hi +ℤ pos 1 = search rules in
+    let most : c.args.count ≤ c.count_plane_buffer_columns_from.result = omega arith in
     rw (to_z-of_z w32 c.args.row row) (rw (to_z-of_z w32 c.args.first first) (λ k h.
     subst (λ (a : Area). HoldsPoint a c.args.row (c.args.first +ℤ pos k)) (sym c.new-view.ensures.area)
-    (row_there area c.args.row c.args.first c.count_plane_columns_from.result c.args.count held ends most k h)))
+    (row_there area c.args.row c.args.first c.count_plane_buffer_columns_from.result c.args.count held ends most k h)))
 
 pub returns-clause-samples : goal.returns-clause-samples
 returns-clause-samples c = λ picture n wide k h.
@@ -26,9 +26,9 @@ returns-clause-samples c = λ picture n wide k h.
     let first : FitsSigned w32 c.args.first = search rules in
     let area = c.in_ok-area.area in
     let held : HoldsPoint area c.args.row c.args.first = search rules in
-    let ends : (c.args.first +ℤ pos c.count_plane_columns_from.result) ≡ area.cols.hi +ℤ pos 1 = search rules in
-    let most : c.args.count ≤ c.count_plane_columns_from.result = omega arith in
-    let there = row_there area c.args.row c.args.first c.count_plane_columns_from.result c.args.count held ends most k h in
+    let ends : (c.args.first +ℤ pos c.count_plane_buffer_columns_from.result) ≡ area.cols.hi +ℤ pos 1 = search rules in
+    let most : c.args.count ≤ c.count_plane_buffer_columns_from.result = omega arith in
+    let there = row_there area c.args.row c.args.first c.count_plane_buffer_columns_from.result c.args.count held ends most k h in
     let area_is : c.args.self.now.area ≡ Some area = search rules in
     let place : ℕ = place_of area c.args.row (c.args.first +ℤ pos k) in
     let below : place < c.points.result = omega (arith, place_below area c.args.row (c.args.first +ℤ pos k) there, c.points.ensures.number) in

@@ -13,5 +13,5 @@ returns-in-Some g c =
     same_about (g.K.TileSource.given c.args.self.now.known.now) c.args.self.now.stage c.args.self.now.grid c.args.row c.args.first _ _
     c.in-Some.block (to_z-of_z w32 c.args.row row) (to_z-of_z w32 c.args.first first) c.in-Some.ensures.some in
     slice_numbers (g.K.TileSource.given c.args.self.now.known.now) c.args.self.now.stage c.args.self.now.grid c.args.row c.args.first _ _
-    c.in-Some.block c.args.count c.borrow_row_within_tile.result about (to_z-of_z w32 c.args.row row) (to_z-of_z w32 c.args.first first)
-    c.borrow_row_within_tile.ensures.count c.borrow_row_within_tile.ensures.held c.borrow_row_within_tile.ensures.values
+    c.in-Some.block c.args.count c.borrow_row_within_supplied_tile.result about (to_z-of_z w32 c.args.row row) (to_z-of_z w32 c.args.first first)
+    c.borrow_row_within_supplied_tile.ensures.count c.borrow_row_within_supplied_tile.ensures.held c.borrow_row_within_supplied_tile.ensures.values

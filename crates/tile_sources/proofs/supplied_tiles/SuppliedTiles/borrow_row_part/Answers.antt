@@ -8,8 +8,8 @@ use Rattle.tile_sources.proofs.supplied_tiles.SuppliedTiles.borrow_row_part.Goal
 
 pub slice_row-requires : goal.slice_row-requires
 slice_row-requires g c =
-    part_held c.in-Some.block.area c.columns.result.now _ _ c.count_tile_columns_from.result c.in-Some.ensures.some.holds c.columns.ensures
-    c.count_tile_columns_from.ensures.within
+    part_held c.in-Some.block.area c.columns.result.now _ _ c.count_supplied_tile_columns_from.result c.in-Some.ensures.some.holds c.columns.ensures
+    c.count_supplied_tile_columns_from.ensures.within
 
 pub unreachable-requires : goal.unreachable-requires
 unreachable-requires g c =
@@ -28,8 +28,8 @@ returns-clause-numbers g c = λ k h.
     same_about (g.K.TileSource.given c.args.self.now.known.now) c.args.self.now.stage c.args.self.now.grid c.args.row c.args.first _ _
     c.in-Some.block (to_z-of_z w32 c.args.row row) (to_z-of_z w32 c.args.first first) c.in-Some.ensures.some in
     let numbers = slice_numbers (g.K.TileSource.given c.args.self.now.known.now) c.args.self.now.stage c.args.self.now.grid c.args.row
-    c.args.first _ _ c.in-Some.block c.count_tile_columns_from.result (Some c.slice_row.result) about (to_z-of_z w32 c.args.row row)
+    c.args.first _ _ c.in-Some.block c.count_supplied_tile_columns_from.result (Some c.slice_row.result) about (to_z-of_z w32 c.args.row row)
     (to_z-of_z w32 c.args.first first) c.slice_row.ensures.count
-    (part_held c.in-Some.block.area c.columns.result.now _ _ c.count_tile_columns_from.result c.in-Some.ensures.some.holds c.columns.ensures
-    c.count_tile_columns_from.ensures.within) c.slice_row.ensures.values in
+    (part_held c.in-Some.block.area c.columns.result.now _ _ c.count_supplied_tile_columns_from.result c.in-Some.ensures.some.holds c.columns.ensures
+    c.count_supplied_tile_columns_from.ensures.within) c.slice_row.ensures.values in
     numbers.1 k (subst (λ (n : ℕ). k < n) c.slice_row.ensures.count h)

@@ -18,11 +18,11 @@ gather_row-requires-clause-there g c =
     c.in-Some.block =
     same_about (g.K.TileSource.given c.args.self.now.known.now) c.args.self.now.stage c.args.self.now.grid c.args.row col _ _ c.in-Some.block
     (to_z-of_z w32 c.args.row row) (to_z-of_z w32 _ first ∙ c.first_column_at_index.ensures) c.in-Some.ensures.some in
-    let most : c.count_points_in_tile_columns-count.result ≤ length c.args.out.now = rw c.requires.fits c.count_points_in_tile_columns-count.ensures.most in
+    let most : c.count_first_points_in_supplied_tile-count.result ≤ length c.args.out.now = rw c.requires.fits c.count_first_points_in_supplied_tile-count.ensures.most in
     rw (to_z-of_z w32 c.args.row row) (rw c.first_points.ensures.col
     (picked_held c.in-Some.block.area c.columns.result.now c.args.row col
-    (λ (k : ℕ). index_at c.args.col.now (c.args.points.now.col +ℤ pos k)) c.count_points_in_tile_columns-count.result c.args.out.now about.holds
-    c.columns.ensures most c.count_points_in_tile_columns-count.ensures.within))
+    (λ (k : ℕ). index_at c.args.col.now (c.args.points.now.col +ℤ pos k)) c.count_first_points_in_supplied_tile-count.result c.args.out.now about.holds
+    c.columns.ensures most c.count_first_points_in_supplied_tile-count.ensures.within))
 
 pub returns-in-Some-clause-numbers : goal.returns-in-Some-clause-numbers
 returns-in-Some-clause-numbers g c = λ k h.
@@ -34,11 +34,11 @@ returns-in-Some-clause-numbers g c = λ k h.
     c.in-Some.block =
     same_about (g.K.TileSource.given c.args.self.now.known.now) c.args.self.now.stage c.args.self.now.grid c.args.row col _ _ c.in-Some.block
     (to_z-of_z w32 c.args.row row) (to_z-of_z w32 _ first ∙ c.first_column_at_index.ensures) c.in-Some.ensures.some in
-    let most : c.count_points_in_tile_columns-count.result ≤ length c.args.out.now = rw c.requires.fits c.count_points_in_tile_columns-count.ensures.most in
+    let most : c.count_first_points_in_supplied_tile-count.result ≤ length c.args.out.now = rw c.requires.fits c.count_first_points_in_supplied_tile-count.ensures.most in
     picked_number (g.K.TileSource.given c.args.self.now.known.now) c.args.self.now.stage c.args.self.now.grid c.args.row col _ c.in-Some.block f
-    c.count_points_in_tile_columns-count.result k c.args.out.now c.gather_row.new.out _ about (to_z-of_z w32 c.args.row row) most c.gather_row.auto.out h
-    (picked_held c.in-Some.block.area c.columns.result.now c.args.row col f c.count_points_in_tile_columns-count.result c.args.out.now about.holds
-    c.columns.ensures most c.count_points_in_tile_columns-count.ensures.within)
+    c.count_first_points_in_supplied_tile-count.result k c.args.out.now c.gather_row.new.out _ about (to_z-of_z w32 c.args.row row) most c.gather_row.auto.out h
+    (picked_held c.in-Some.block.area c.columns.result.now c.args.row col f c.count_first_points_in_supplied_tile-count.result c.args.out.now about.holds
+    c.columns.ensures most c.count_first_points_in_supplied_tile-count.ensures.within)
     (λ j l. c.gather_row.ensures j l
     ∙ ap (λ (x : ℤ). at c.in-Some.block.values.now
     (place_of c.in-Some.block.area (to_z w32 (of_z w32 c.args.row)) (index_at c.args.col.now (x +ℤ pos j)))) c.first_points.ensures.col)

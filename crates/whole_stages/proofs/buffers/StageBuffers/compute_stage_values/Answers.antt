@@ -19,8 +19,8 @@ use Rattle.whole_stages.specs.Known.{sample_in, AreKnownOf, IsKnownAt}
 use Rattle.whole_stages.proofs.Knowing.{known_there, reads_known, functions_known, planes_known, stage_values_is}
 use Rattle.whole_stages.proofs.buffers.StageBuffers.compute_stage_values.Goals as goal
 
-pub convert_plane-requires : goal.convert_plane-requires
-convert_plane-requires c =
+pub convert_whole_plane-requires : goal.convert_whole_plane-requires
+convert_whole_plane-requires c =
     let job : Pipeline = pipeline_in c.args.job.now in
     let s : Stage = stage_view c.in-Some.stage.now in
     let there : slice_get job.stages c.args.number ≡ Some s = sym c.in-Some.ensures in
@@ -28,8 +28,8 @@ convert_plane-requires c =
     subst (λ (p : Image). c.in-Plane.plane < length p.planes) (sym c.picture.ensures)
     (subst (IsBody job.picture s.domain) is (c.args.job.now.well.stages c.args.number s there).body).0
 
-pub evaluate_function_domain-requires : goal.evaluate_function_domain-requires
-evaluate_function_domain-requires c =
+pub evaluate_whole_function-requires : goal.evaluate_whole_function-requires
+evaluate_whole_function-requires c =
     let job : Pipeline = pipeline_in c.args.job.now in
     let s : Stage = stage_view c.in-Some.stage.now in
     let there : slice_get job.stages c.args.number ≡ Some s = sym c.in-Some.ensures in
@@ -64,11 +64,11 @@ returns-in-Plane c =
     let s : Stage = stage_view c.in-Some.stage.now in
     let there : slice_get job.stages c.args.number ≡ Some s = sym c.in-Some.ensures in
     let is : s.body ≡ plane c.in-Plane.plane = ap body_view (sym c.body.ensures ∙ c.in-Plane.is) in
-    IfOk-weaker c.convert_plane.result _ (λ (values : Vec ℤ). values.items ≡ stage_values job c.args.number) (λ values e.
+    IfOk-weaker c.convert_whole_plane.result _ (λ (values : Vec ℤ). values.items ≡ stage_values job c.args.number) (λ values e.
     e ∙ ap (λ (p : Image). raster (picture_area p) (sample_at p c.in-Plane.plane)) c.picture.ensures
     ∙ planes_known job c.args.job.now.well c.args.number s there c.in-Plane.plane is
     ∙ sym (stage_values_is job c.args.number s there))
-    c.convert_plane.ensures
+    c.convert_whole_plane.ensures
 
 pub returns-in-Function : goal.returns-in-Function
 returns-in-Function c =
@@ -80,8 +80,8 @@ returns-in-Function c =
     let otherwise = option_map formula_view f.otherwise in
     let is : s.body ≡ function cases otherwise = ap body_view (sym c.body.ensures ∙ c.in-Function.is) in
     let buffers = c.args.self.now.buffers.items in
-    IfOk-weaker c.evaluate_function_domain.result _ (λ (values : Vec ℤ). values.items ≡ stage_values job c.args.number) (λ values e.
+    IfOk-weaker c.evaluate_whole_function.result _ (λ (values : Vec ℤ). values.items ≡ stage_values job c.args.number) (λ values e.
     e ∙ ap (λ (a : Area). raster a (function_value (λ g r k. sample_in (slice_get buffers g) r k) cases otherwise)) c.domain.ensures
     ∙ functions_known job c.args.job.now.well c.args.number s there buffers c.requires.right c.requires.inputs cases otherwise is
     ∙ sym (stage_values_is job c.args.number s there))
-    c.evaluate_function_domain.ensures
+    c.evaluate_whole_function.ensures

@@ -9,7 +9,7 @@ use Rattle.worlds.proofs.network.WorldNetwork.make_fact_as_message.Goals as goal
 
 pub returns-in-Err-clause-refused : goal.returns-in-Err-clause-refused
 returns-in-Err-clause-refused g c =
-    subst (Refuses c.args.jobs.now c.args.self.now (Make c.args.n c.args.key.now) c.args.self.now) (sym c.convert_make_fault_to_step_fault.ensures)
+    subst (Refuses c.args.jobs.now c.args.self.now (Make c.args.n c.args.key.now) c.args.self.now) (sym c.convert_make_fault_to_world_step_fault.ensures)
     (not_made c.args.jobs.now _ _ c.self.view_is c.args.n
     (subst (λ x. c.args.n < x) (c.len.ensures ∙ c.self.inside.nodes.ok.0) c.if-n-len.false) c.args.key.now _ _ c.node.view_is
     c.index-node.ensures c.in-Err.fault c.in-Err.ensures.fault)

@@ -12,7 +12,7 @@ returns-clause-finishes g c =
     finishes w c.args.n c.args.job (entry_of p.job.now) p.schedule.now.inlining p.held.now c.in_ok-planned.ensures.planned
     c.in_ok-planned.ensures.held c.in_ok-planned.ensures.live (subst (λ (v : WorldView). IsWorld v.work v.network) c.self.view_is c.self.invariant)
     c.in_ok-planned.ensures.there.0 c.in_ok-keys.keys.items c.in_ok-keys.ensures.keys c.in_ok-keys.ensures.room
-    c.in_ok-list_make_and_deliver_events.field-0.items
-    (c.in_ok-list_make_and_deliver_events.ensures
+    c.in_ok-list_make_and_deliver_events_to_finish.field-0.items
+    (c.in_ok-list_make_and_deliver_events_to_finish.ensures
     ∙ ap (λ k. makings c.args.n k c.deref.result.now) (c.count_messages.ensures ∙ ap (λ (v : WorldView). length v.network.messages) c.self.view_is)
     ∙ ap (makings c.args.n (length w.network.messages)) c.deref.ensures.value)

@@ -9,12 +9,12 @@ returns-in_err-put_bytes g c =
     puts_err c.from_residual.result _ _ _ _ _ _ _ c.from_residual.ensures.0
     (rw (lower_each c.args.bytes.now)
     (breaks_more (λ byte. encode_lower (byte ∷ [])) c.args.bytes.now c.loop-byte.byte-index 0 _ _ _ _ _ _ _ _ (omega arith)
-    c.loop-byte.invariant (rw c.encode_hex_byte.ensures at c.in_err-put_bytes.ensures)))
+    c.loop-byte.invariant (rw c.encode_hex_pair.ensures at c.in_err-put_bytes.ensures)))
 
 pub loop-byte-preserved : goal.loop-byte-preserved
 loop-byte-preserved g c =
     passes_more (λ byte. encode_lower (byte ∷ [])) c.args.bytes.now c.loop-byte.byte-index 0 _ _ _ _ _ _ _ _ _ (omega arith)
-    c.loop-byte.invariant (rw c.encode_hex_byte.ensures at c.in_ok-put_bytes.ensures)
+    c.loop-byte.invariant (rw c.encode_hex_pair.ensures at c.in_ok-put_bytes.ensures)
 
 pub returns : goal.returns
 returns g c = rw (lower_each c.args.bytes.now)

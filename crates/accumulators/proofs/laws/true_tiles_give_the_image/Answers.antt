@@ -1,5 +1,0 @@
-use Rattle.pictures.proofs.TrueImage.{image_true}
-use Rattle.accumulators.proofs.laws.true_tiles_give_the_image.Goals as goal
-
-pub returns : goal.returns
-returns c = image_true

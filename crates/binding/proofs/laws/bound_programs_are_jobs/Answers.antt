@@ -1,8 +1,0 @@
-use Rattle.binding.proofs.BoundProgramsAreJobs.{one_job, bound_job_is}
-use Rattle.binding.proofs.laws.bound_programs_are_jobs.Goals as goal
-
-pub returns-clause-one : goal.returns-clause-one
-returns-clause-one c = one_job
-
-pub returns-clause-job : goal.returns-clause-job
-returns-clause-job c = bound_job_is

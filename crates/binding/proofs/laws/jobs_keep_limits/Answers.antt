@@ -1,5 +1,0 @@
-use Rattle.binding.proofs.JobsKeepLimits.{small_job}
-use Rattle.binding.proofs.laws.jobs_keep_limits.Goals as goal
-
-pub returns : goal.returns
-returns c = small_job

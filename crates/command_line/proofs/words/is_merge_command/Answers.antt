@@ -1,7 +1,0 @@
-use Rattle.command_line.proofs.AskedRequest.{one_word}
-use Rattle.command_line.proofs.words.is_merge_command.Goals as goal
-
-pub returns-in-len1 : goal.returns-in-len1
-returns-in-len1 c =
-    one_word c.args.words.now c.word-item.result c.as_str.result.now c.eq.result c.in-len1.len_at_least c.in-len1.len_below
-    c.word-item.is c.as_str.ensures.value c.eq.ensures

@@ -1,6 +1,0 @@
-use Rattle.std.proofs.Common.{map, take}
-use Rattle.command_line.specs.Asking.{AreParameters}
-use Rattle.command_line.proofs.words.parse_parameter_words.Given as goal
-
-abbrev pub invariant-loop-word : goal.invariant-loop-word
-invariant-loop-word l = AreParameters (map (λ w. w.now) (take l.word-index l.words)) l.parameters.items

@@ -1,8 +1,0 @@
-use Rattle.domains.proofs.Areas.{Contains-points_of, points_in_order}
-use Rattle.domains.proofs.laws.points_are_listed.Goals as goal
-
-pub returns-clause-all : goal.returns-clause-all
-returns-clause-all c = Contains-points_of
-
-pub returns-clause-order : goal.returns-clause-order
-returns-clause-order c = points_in_order

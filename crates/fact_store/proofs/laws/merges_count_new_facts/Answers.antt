@@ -1,5 +1,0 @@
-use Rattle.fact_store.proofs.MergeCounts.{new_and_retired}
-use Rattle.fact_store.proofs.laws.merges_count_new_facts.Goals as goal
-
-pub returns : goal.returns
-returns c = new_and_retired

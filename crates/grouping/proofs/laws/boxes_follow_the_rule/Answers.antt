@@ -1,6 +1,0 @@
-use Rattle.job.proofs.Solving.{ranked_is}
-use Rattle.tile_boxes.proofs.BoxesFollowTheRule.{box_follows}
-use Rattle.grouping.proofs.laws.boxes_follow_the_rule.Goals as goal
-
-pub returns : goal.returns
-returns c = λ t g job. box_follows t g (ranked_is t.job job)

@@ -1,5 +1,0 @@
-use Rattle.tile_boxes.proofs.BoxesHoldWhatIsRead.{has_what_it_reads}
-use Rattle.grouping.proofs.laws.boxes_hold_what_is_read.Goals as goal
-
-pub returns : goal.returns
-returns c = has_what_it_reads

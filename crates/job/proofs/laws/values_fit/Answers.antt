@@ -1,5 +1,0 @@
-use Rattle.job.proofs.Solving.{value_fits}
-use Rattle.job.proofs.laws.values_fit.Goals as goal
-
-pub returns : goal.returns
-returns c = λ job g r c is there. value_fits job is g r c there

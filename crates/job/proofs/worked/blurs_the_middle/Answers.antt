@@ -1,5 +1,0 @@
-use Rattle.job.proofs.Example.{blur_is}
-use Rattle.job.proofs.worked.blurs_the_middle.Goals as goal
-
-pub returns-clause-is_job : goal.returns-clause-is_job
-returns-clause-is_job c = blur_is

@@ -1,7 +1,0 @@
--- Reading answers one thing alone.
-use Rattle.std.proofs.Common.{◌∙◌, sym}
-use Rattle.netpbm.proofs.PictureLaws.{picture_complete}
-use Rattle.netpbm.proofs.laws.one_picture.Goals as goal
-
-pub returns : goal.returns
-returns c = λ bytes p q h k. let e = sym (picture_complete bytes p h) ∙ picture_complete bytes q k in cc

@@ -1,5 +1,0 @@
-use Rattle.std.proofs.Common.{◌≡◌, Some, map, take}
-use Rattle.pipe_checks.proofs.ranks.unwrap_all_ranks.Given as goal
-
-abbrev pub invariant-loop-rank : goal.invariant-loop-rank
-invariant-loop-rank l = map Some l.all.items ≡ take l.rank-index l.ranks

@@ -1,8 +1,0 @@
-use Rattle.pipe_tokens.proofs.Only.{only_tokens, only_starts}
-use Rattle.pipe_tokens.proofs.lexer.tokens_are_determined.Goals as goal
-
-pub returns-clause-tokens : goal.returns-clause-tokens
-returns-clause-tokens c = only_tokens
-
-pub returns-clause-starts : goal.returns-clause-starts
-returns-clause-starts c = only_starts

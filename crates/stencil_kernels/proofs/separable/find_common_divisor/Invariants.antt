@@ -1,4 +1,0 @@
-use Rattle.stencil_kernels.proofs.separable.find_common_divisor.Given as goal
-
-abbrev pub decreases-loop-b : goal.decreases-loop-b
-decreases-loop-b l = l.b

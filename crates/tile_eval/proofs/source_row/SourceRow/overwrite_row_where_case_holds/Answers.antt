@@ -1,0 +1,93 @@
+use Rattle.std.proofs.Common.{rules, arith, ℕ, ℤ, ◌≡◌, ◌+ℤ◌, ◌+◌, ◌-◌, ◌<◌, ◌≤◌, pos, length, take, drop, map, ap, ◌∙◌, sym, subst}
+use Rattle.std.specs.Prelude.{Option, Some, if◌then◌else◌}
+use Rattle.domains.specs.Area.{HoldsPoint}
+use Rattle.domains.specs.declared.area.Area.{Area}
+use Rattle.job.specs.Values.{all_passed, formula_value}
+use Rattle.job.specs.Views.{test_view, formula_view, case_view}
+use Rattle.row_loops.specs.Rows.{at}
+use Rattle.tile_eval.specs.Cases.{InBox}
+use Rattle.tile_eval.specs.inside.Cases.{IsReady}
+use Rattle.tile_eval.proofs.Covering.{cut_len, cut_at, to_after, from_after, roomy_less, part_taken, no_test}
+use Rattle.tile_eval.proofs.source_row.SourceRow.overwrite_row_where_case_holds.Goals as goal
+
+pub evaluate_boxed_case-requires-clause-inside : goal.evaluate_boxed_case-requires-clause-inside
+evaluate_boxed_case-requires-clause-inside g c = λ k h.
+    let from : ℕ = c.in-Some-find_area_interval_along_row.from in
+    let some = c.in-Some-find_area_interval_along_row.ensures.some in
+    let within : c.in-Some-find_area_interval_along_row.to ≤ length c.args.out.now = rw c.requires.fits c.in-Some-find_area_interval_along_row.ensures.some.1 in
+    let cut : k < c.in-Some-find_area_interval_along_row.to - c.in-Some-find_area_interval_along_row.from =
+    subst (λ (n : ℕ). k < n) (cut_len c.in-Some-find_area_interval_along_row.from c.in-Some-find_area_interval_along_row.to c.args.out.now some.0 within) h in
+    let l : c.in-Some-find_area_interval_along_row.from + k < length c.args.out.now = omega arith in
+    let box : c.args.case.now.area ≡ Some c.in-Some.area = search rules in
+    let short : c.in-Some-find_area_interval_along_row.from + k < c.args.self.now.points.len = omega (arith, c.requires.fits) in
+    let held : HoldsPoint c.in-Some.area c.args.self.now.points.row (c.args.self.now.points.col +ℤ pos (c.in-Some-find_area_interval_along_row.from + k)) =
+    (c.in-Some-find_area_interval_along_row.ensures.inside (c.in-Some-find_area_interval_along_row.from + k) short).1 (omega arith, omega arith) in
+    let sum : c.in-Some-find_area_interval_along_row.from + k ≡ c.in-Some-find_area_interval_along_row.from + k = omega arith in
+    subst (λ (o : Option Area). InBox o c.slice_points-points.result.row (c.slice_points-points.result.col +ℤ pos k)) (sym box)
+    (to_after (HoldsPoint c.in-Some.area) c.args.self.now.points.row c.args.self.now.points.col c.slice_points-points.result.row
+    c.slice_points-points.result.col
+    c.in-Some-find_area_interval_along_row.from k (c.in-Some-find_area_interval_along_row.from + k) c.slice_points-points.ensures.row c.slice_points-points.ensures.col sum held)
+
+pub evaluate_boxed_case-requires-clause-ready : goal.evaluate_boxed_case-requires-clause-ready
+evaluate_boxed_case-requires-clause-ready g c = λ k h.
+    let some = c.in-Some-find_area_interval_along_row.ensures.some in
+    let within : c.in-Some-find_area_interval_along_row.to ≤ length c.args.out.now = rw c.requires.fits c.in-Some-find_area_interval_along_row.ensures.some.1 in
+    let cut : k < c.in-Some-find_area_interval_along_row.to - c.in-Some-find_area_interval_along_row.from =
+    subst (λ (n : ℕ). k < n) (cut_len c.in-Some-find_area_interval_along_row.from c.in-Some-find_area_interval_along_row.to c.args.out.now some.0 within) h in
+    let l : c.in-Some-find_area_interval_along_row.from + k < length c.args.out.now = omega arith in
+    let sum : c.in-Some-find_area_interval_along_row.from + k ≡ c.in-Some-find_area_interval_along_row.from + k = omega arith in
+    to_after (IsReady (g.S.RowSource.has c.args.self.now.source.now) (case_view c.args.case.now)) c.args.self.now.points.row
+    c.args.self.now.points.col
+    c.slice_points-points.result.row c.slice_points-points.result.col c.in-Some-find_area_interval_along_row.from k (c.in-Some-find_area_interval_along_row.from + k) c.slice_points-points.ensures.row
+    c.slice_points-points.ensures.col sum
+    (c.requires.case.0 (c.in-Some-find_area_interval_along_row.from + k) l)
+
+pub evaluate_boxed_case-requires-clause-roomy : goal.evaluate_boxed_case-requires-clause-roomy
+evaluate_boxed_case-requires-clause-roomy g c =
+    let some = c.in-Some-find_area_interval_along_row.ensures.some in
+    let within : c.in-Some-find_area_interval_along_row.to ≤ length c.args.out.now = rw c.requires.fits c.in-Some-find_area_interval_along_row.ensures.some.1 in
+    let cut = cut_len c.in-Some-find_area_interval_along_row.from c.in-Some-find_area_interval_along_row.to c.args.out.now some.0 within in
+    let le : length (take (c.in-Some-find_area_interval_along_row.to - c.in-Some-find_area_interval_along_row.from) (drop c.in-Some-find_area_interval_along_row.from c.args.out.now))
+    ≤ length c.args.out.now = omega arith in
+    roomy_less (length c.args.out.now) _ (length c.args.temps.now) (case_view c.args.case.now) le c.requires.case.1
+
+pub returns-in-Some-find_area_interval_along_row : goal.returns-in-Some-find_area_interval_along_row
+returns-in-Some-find_area_interval_along_row g c = λ k h.
+    let some = c.in-Some-find_area_interval_along_row.ensures.some in
+    let within : c.in-Some-find_area_interval_along_row.to ≤ length c.args.out.now = rw c.requires.fits c.in-Some-find_area_interval_along_row.ensures.some.1 in
+    let a : ℕ = c.in-Some-find_area_interval_along_row.from in
+    let cut = cut_len c.in-Some-find_area_interval_along_row.from c.in-Some-find_area_interval_along_row.to c.args.out.now some.0 within in
+    let len : length c.evaluate_boxed_case.new.out ≡ c.in-Some-find_area_interval_along_row.to - c.in-Some-find_area_interval_along_row.from = c.evaluate_boxed_case.auto.out ∙ cut in
+    let box : c.args.case.now.area ≡ Some c.in-Some.area = search rules in
+    part_taken c.in-Some-find_area_interval_along_row.from c.in-Some-find_area_interval_along_row.to k c.args.out.now c.evaluate_boxed_case.new.out _ _ some.0 within len
+    (λ low high.
+    let sum : c.in-Some-find_area_interval_along_row.from + (k - c.in-Some-find_area_interval_along_row.from) ≡ k = omega arith in
+    let short : k - c.in-Some-find_area_interval_along_row.from < c.in-Some-find_area_interval_along_row.to - c.in-Some-find_area_interval_along_row.from = omega arith in
+    let l : k - c.in-Some-find_area_interval_along_row.from
+    < length (take (c.in-Some-find_area_interval_along_row.to - c.in-Some-find_area_interval_along_row.from) (drop c.in-Some-find_area_interval_along_row.from c.args.out.now)) = rw cut short in
+    from_after (λ r x. at c.evaluate_boxed_case.new.out (k - c.in-Some-find_area_interval_along_row.from) ≡ if all_passed (map test_view c.args.case.now.tests.items) r x
+    then formula_value (g.S.RowSource.samples c.args.self.now.source.now) (formula_view c.args.case.now.formula) r x else at
+    c.args.out.now k)
+    c.args.self.now.points.row c.args.self.now.points.col c.slice_points-points.result.row c.slice_points-points.result.col c.in-Some-find_area_interval_along_row.from (k -
+    c.in-Some-find_area_interval_along_row.from) k
+    c.slice_points-points.ensures.row c.slice_points-points.ensures.col sum
+    (c.evaluate_boxed_case.ensures (k - c.in-Some-find_area_interval_along_row.from) l
+    ∙ ap (λ (z : ℤ). if all_passed (map test_view c.args.case.now.tests.items) c.slice_points-points.result.row
+    (c.slice_points-points.result.col +ℤ pos (k - c.in-Some-find_area_interval_along_row.from))
+    then formula_value (g.S.RowSource.samples c.args.self.now.source.now) (formula_view c.args.case.now.formula) c.slice_points-points.result.row
+    (c.slice_points-points.result.col +ℤ pos (k - c.in-Some-find_area_interval_along_row.from)) else z)
+    (cut_at c.in-Some-find_area_interval_along_row.from c.in-Some-find_area_interval_along_row.to k c.args.out.now low high within)))
+    (λ out passed.
+    let few : k < c.args.self.now.points.len = omega (arith, c.requires.fits) in
+    let held : InBox (Some c.in-Some.area) c.args.self.now.points.row (c.args.self.now.points.col +ℤ pos k) =
+    subst (λ (o : Option Area). InBox o c.args.self.now.points.row (c.args.self.now.points.col +ℤ pos k)) box
+    ((c.requires.case.0 k h).passed passed) in
+    let both = (c.in-Some-find_area_interval_along_row.ensures.inside k few).0 held in out both.0 both.1)
+
+pub returns-in_default-find_area_interval_along_row : goal.returns-in_default-find_area_interval_along_row
+returns-in_default-find_area_interval_along_row g c = λ k h.
+    let box : c.args.case.now.area ≡ Some c.in-Some.area = search rules in
+    let few : k < c.args.self.now.points.len = omega (arith, c.requires.fits) in
+    no_test _ _ _ (λ passed. c.in_default-find_area_interval_along_row.ensures.none k few (subst
+    (λ (o : Option Area). InBox o c.args.self.now.points.row (c.args.self.now.points.col +ℤ pos k)) box ((c.requires.case.0 k h).passed
+    passed)))

@@ -1,4 +1,0 @@
-use Rattle.tile_fact.proofs.laws.arrays_are_digests.Goals as goal
-
-pub returns : goal.returns
-returns c = record { count = c.told-bytes; are_bytes = c.slices_are_bytes.ensures }

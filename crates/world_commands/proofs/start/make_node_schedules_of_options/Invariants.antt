@@ -1,7 +1,0 @@
-use Rattle.std.proofs.Common.{◌≡◌, map, take}
-use Rattle.world_commands.specs.WorldSayings.{inlinings}
-use Rattle.world_commands.proofs.start.make_node_schedules_of_options.Given as goal
-
-abbrev pub invariant-loop-index : goal.invariant-loop-index
-invariant-loop-index l =
-    map (λ s. s.inlining) l.schedules.items ≡ inlinings l.options.stored l.options.percent (take l.index l.catalog)

@@ -1,7 +1,0 @@
-use Rattle.std.proofs.Common.{refl}
-use Rattle.hex.specs.Hex.{encode_with}
-use Rattle.write_buffer.proofs.buffer.encode_hex_byte.Goals as goal
-
-pub returns : goal.returns
-unfolding encode_with
-returns c = rw (c.from.ensures, c.from-2.ensures) (refl)
