@@ -14,9 +14,6 @@ use std::alloc::{AllocError, Global};
 /// The rows and columns of a tile where no others are requested.
 const USUAL_SIDE: u32 = 64;
 
-/// The columns of a tile where a job is evaluated instead: with long rows there are fewer steps for each point.
-const LONG_ROW: u32 = 1024;
-
 /// The rows of a tile where low tiles recompute few points: what is stored stays in the cache until it is read.
 const LOW_SIDE: u32 = 16;
 
@@ -36,11 +33,12 @@ fn count_command_job_points(job: &Job, schedule: &Schedule) -> u64 {
     points
 }
 
-// The job in tiles of `height` rows and 1,024 columns, or as it is if these are too many.
+// The job in tiles of `height` rows and 4,096 columns, or as it is if these are too many. With long rows there are fewer steps
+// for each point, and fewer reads that cross tiles.
 fn retile_command_job(job: Job, height: u32) -> Job
     ensures { IsRetiled (pipeline_in job) (pipeline_in result) }
 {
-    let Some(sides) = TileSides::new(height, LONG_ROW) else {
+    let Some(sides) = TileSides::with_long_rows(height) else {
         return job;
     };
     match job.with_tile_sides(sides) {
@@ -67,7 +65,7 @@ impl CommandEvaluation {
 }
 
 /// The job in the tiles in which it is evaluated, and the schedule of its evaluation. A job in tiles of the usual sides gets
-/// tiles of 1,024 columns. They have 16 rows if these are not too many tiles and have at most a sixteenth more points to compute,
+/// tiles of 4,096 columns. They have 16 rows if these are not too many tiles and have at most a sixteenth more points to compute,
 /// else 64.
 ///
 /// # Errors

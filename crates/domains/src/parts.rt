@@ -18,7 +18,7 @@ pub(crate) fn count_span_parts(span: &Span, side: u32) -> u32
 // Part `i` of a span; none where there are no more than `i` parts.
 pub(crate) fn compute_nth_span_part(span: &Span, side: u32, i: u32) -> Option<Span>
     requires least { 1 ≤ side }
-    requires most { side ≤ 1024 }
+    requires most { side ≤ 4096 }
     ensures some { IfSome result (λ p. (i < part_count span.now side)
         × (p ≡ part_of span.now side i)) }
     ensures within { IfSome result IsSpan }
