@@ -14,7 +14,7 @@ use Rattle.job.specs.Totals.{totals_over}
 use Rattle.job.specs.WellFormed.{IsJob}
 use Rattle.tile_boxes.specs.Costs.{scratch, most_scratch}
 use Rattle.tile_boxes.specs.Targets.{target_over}
-use Rattle.overlap_tiles.specs.Plans.{Layout, IsTileAt, IsTileFault, IsTileLayout}
+use Rattle.overlap_tiles.specs.Plans.{TileLayout, IsTileAt, IsTileFault, IsTileLayout}
 use Rattle.overlap_tiles.specs.declared.fault.PlanFault.TheVariants.{ScratchTooBig}
 use Rattle.tile_sources.specs.KnownTiles.{KnownTiles, AreTrue}
 use Rattle.tile_run.specs.StageRuns.{GivesNeedsOf}
@@ -51,7 +51,7 @@ module _ (job : Pipeline) (g : ℕ) (way : ReductionOp) (bins : Ends) (grid : Gr
       let room = has_room inlining fault.area none tile fault.tile in let over = fault.reason in omega arith
 
   -- what is gathered from true tiles, where all is given that it needs, is what the job gathers
-  pub totals_are : (inlining : List Bool) (given : KnownTiles) → IsJob job → GivesNeedsOf job inlining given g → (l : Layout)
+  pub totals_are : (inlining : List Bool) (given : KnownTiles) → IsJob job → GivesNeedsOf job inlining given g → (l : TileLayout)
       → IsTileLayout job inlining g i j l → AreTrue job given → (xs : List ℤ) → AreLocalTotals job inlining given g i j xs
       → xs ≡ totals_over job (tile_area grid i j) g
   totals_are inlining given good needs l layout right xs local =

@@ -20,7 +20,7 @@ use pictures::assemble_image;
 use std::alloc::Global;
 use std::thread::Threads;
 use tile_run::{
-    LastReads, RunFault, StoredTiles, TiledStages, find_first_oversized_tile,
+    LastReads, RunFault, StoredTiles, TiledStages, find_key_of_first_oversized_tile,
     make_used_stored_tiles,
 };
 
@@ -46,7 +46,7 @@ pub struct Answer {
 ///
 /// Fails before anything is computed if a tile of an accumulator takes too much scratch memory. The fault names the first such
 /// tile by dependence order, row and column. Fails also where memory is refused.
-pub fn assemble_answer(
+pub fn compute_answer_from_function_tiles(
     rt: &(impl Threads + Sync),
     alloc: Global,
     job: &Job,
@@ -64,7 +64,12 @@ pub fn assemble_answer(
     ensures fault { IfErr result (IsRunFault (program_id_in job.now) (pipeline_in job.now)
         schedule.now.inlining (is_accumulator_at (pipeline_in job.now))) }
 {
-    if let Some(key) = find_first_oversized_tile(alloc, job, schedule, TiledStages::Accumulators)? {
+    if let Some(key) = find_key_of_first_oversized_tile(
+        alloc,
+        job,
+        schedule,
+        TiledStages::Accumulators,
+    )? {
         return Err(RunFault::ScratchTooBig(key));
     }
     let computed = ComputedJob {
@@ -103,10 +108,20 @@ pub fn evaluate_job(
     ensures fault { IfErr result (IsEvaluationFault (program_id_in job.now) (pipeline_in job.now)
         schedule.now.inlining) }
 {
-    if let Some(key) = find_first_oversized_tile(alloc, job, schedule, TiledStages::Functions)? {
+    if let Some(key) = find_key_of_first_oversized_tile(
+        alloc,
+        job,
+        schedule,
+        TiledStages::Functions,
+    )? {
         return Err(RunFault::ScratchTooBig(key));
     }
-    if let Some(key) = find_first_oversized_tile(alloc, job, schedule, TiledStages::Accumulators)? {
+    if let Some(key) = find_key_of_first_oversized_tile(
+        alloc,
+        job,
+        schedule,
+        TiledStages::Accumulators,
+    )? {
         return Err(RunFault::ScratchTooBig(key));
     }
     let uses = LastReads::from_schedule(alloc, job, schedule)?;
@@ -120,7 +135,7 @@ pub fn evaluate_job(
         of: computed,
         uses: &uses,
     };
-    let picture = outputs.assemble_output(rt, alloc)?;
+    let picture = outputs.assemble_output_picture_if_any(rt, alloc)?;
     let totals = computed.compute_totals(rt, alloc)?;
     Ok(Answer { picture, totals })
 }

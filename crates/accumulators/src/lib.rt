@@ -13,7 +13,7 @@ mod running;
 mod totals;
 mod totals_scratch;
 
-pub use answer::{Answer, Total, assemble_answer, evaluate_job};
+pub use answer::{Answer, Total, compute_answer_from_function_tiles, evaluate_job};
 pub use partials::partial;
 pub use pictures::{
     OutputPlane, OutputSheet, SuppliedJob, assemble_image, build_picture_from_output_planes,

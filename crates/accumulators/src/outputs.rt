@@ -34,7 +34,7 @@ impl OutputAssembly<'_> {
     /// # Errors
     ///
     /// Fails only where memory is refused.
-    pub(crate) fn assemble_output(
+    pub(crate) fn assemble_output_picture_if_any(
         &self,
         rt: &(impl Threads + Sync),
         alloc: Global,

@@ -16,14 +16,14 @@ use crate::computed::ComputedJob;
 use crate::totals_scratch::TotalsScratch;
 use domains::Grid;
 use job::{Accumulator, Body, Job};
-use overlap_tiles::{Layout, PlanFault};
+use overlap_tiles::{PlanFault, TileLayout};
 use partials::accumulate_tile_partial;
 use pictures::is_one_thread_enough_for_rows;
 use rayon::prelude::*;
-use reductions::{create_start_bins, join_lists_of_bins};
+use reductions::{create_start_bins, join_all_lists_into_bins};
 use std::alloc::{AllocError, Global};
 use std::thread::Threads;
-use tile_run::{TileJob, estimate_tile_rows_per_thread};
+use tile_run::{TileJob, estimate_least_tile_rows_per_thread};
 
 // Least number of points per bin in a row of tiles at which the rows are split among threads.
 const POINTS_OF_BIN: u64 = 16;
@@ -53,13 +53,13 @@ impl ComputedJob<'_> {
         let mut room = TotalsScratch::new(alloc);
         let mut all = Vec::new(alloc);
         for stage in 0..self.job.stages().len() {
-            self.push_accumulator_total(&mut all, rt, alloc, &mut room, stage)?;
+            self.compute_and_push_accumulator_total(&mut all, rt, alloc, &mut room, stage)?;
         }
         Ok(all)
     }
 
     // Adds the total of a stage, if it is an accumulator.
-    fn push_accumulator_total(
+    fn compute_and_push_accumulator_total(
         &self,
         all: &mut Vec<Total>,
         rt: &(impl Threads + Sync),
@@ -72,7 +72,7 @@ impl ComputedJob<'_> {
         ensures { OnOk result (map gathered all.new.items
             ≡ map gathered all.old.items ++ gathered_at (pipeline_in self.now.job.now) stage) }
     {
-        let Some(tally) = self.find_accumulation(stage) else {
+        let Some(tally) = self.find_accumulation_of_stage(stage) else {
             return Ok(());
         };
         let total = tally.compute_accumulator_total(rt, alloc, room)?;
@@ -81,7 +81,7 @@ impl ComputedJob<'_> {
     }
 
     // The stage of this number, if it is an accumulator.
-    fn find_accumulation(&self, stage: usize) -> Option<TiledAccumulation<'_>>
+    fn find_accumulation_of_stage(&self, stage: usize) -> Option<TiledAccumulation<'_>>
         requires computed { IsComputed self.now }
         requires fits { TotalsFit self.now }
         ensures stage { IfSome result (λ tally. tally.stage ≡ stage) }
@@ -90,7 +90,7 @@ impl ComputedJob<'_> {
         ensures none { IfNone result (gathered_at (pipeline_in self.now.job.now) stage ≡ []) }
     {
         let grid = self.job.grid(stage)?;
-        let accumulator = find_accumulator_for_answer(self.job, stage)?;
+        let accumulator = find_accumulator_of_stage_for_answer(self.job, stage)?;
         Some(TiledAccumulation {
             of: *self,
             stage,
@@ -101,7 +101,7 @@ impl ComputedJob<'_> {
 }
 
 // The accumulator of this number.
-fn find_accumulator_for_answer(job: &Job, stage: usize) -> Option<&Accumulator>
+fn find_accumulator_of_stage_for_answer(job: &Job, stage: usize) -> Option<&Accumulator>
     ensures some { IfSome result
         (λ accumulator. IsAccumulatorOf (pipeline_in job.now) stage accumulator.now) }
     ensures none { IfNone result (gathered_at (pipeline_in job.now) stage ≡ []) }
@@ -126,7 +126,7 @@ impl TiledAccumulation<'_> {
     {
         let accumulator = self.accumulator;
         let mut bins = create_start_bins(alloc, accumulator.fold(), accumulator.bins())?;
-        self.accumulate_tiles(rt, alloc, room, &mut bins)?;
+        self.accumulate_all_tiles_into_bins(rt, alloc, room, &mut bins)?;
         Ok(Total {
             stage: self.stage,
             lo: accumulator.bins().lo(),
@@ -135,7 +135,7 @@ impl TiledAccumulation<'_> {
     }
 
     // Joins to each bin the totals over all tiles.
-    fn accumulate_tiles(
+    fn accumulate_all_tiles_into_bins(
         &self,
         rt: &(impl Threads + Sync),
         alloc: Global,
@@ -148,26 +148,26 @@ impl TiledAccumulation<'_> {
             ≡ fold (with_tile (pipeline_in self.now.of.job.now) self.now.stage
             self.now.accumulator.now.fold self.now.grid) bins.old (tiles_of self.now.grid)) }
     {
-        let least = estimate_tile_rows_per_thread(self.of.job, self.of.schedule, self.stage);
-        if self.has_few_points_per_bin()
+        let least = estimate_least_tile_rows_per_thread(self.of.job, self.of.schedule, self.stage);
+        if self.has_few_points_per_bin_and_tile_row()
             || is_one_thread_enough_for_rows(rt, self.grid.tile_rows(), least)
         {
-            return self.accumulate_rows_in_turn(alloc, room, bins);
+            return self.accumulate_tile_rows_in_turn(alloc, room, bins);
         }
-        let all = self.compute_totals_by_row(rt, alloc, least)?;
-        join_lists_of_bins(self.accumulator.fold(), bins, &all);
+        let all = self.compute_totals_of_each_tile_row(rt, alloc, least)?;
+        join_all_lists_into_bins(self.accumulator.fold(), bins, &all);
         Ok(())
     }
 
     // Whether a row of tiles has few points per bin. Clearing and joining the bins of each row then costs more than threads gain.
-    fn has_few_points_per_bin(&self) -> bool {
+    fn has_few_points_per_bin_and_tile_row(&self) -> bool {
         let bins = u64::from(self.accumulator.bins().len());
         let rows = u64::from(self.grid.tile_rows());
         self.grid.area.points() < POINTS_OF_BIN.saturating_mul(bins).saturating_mul(rows)
     }
 
     // The totals over each row of tiles, by several threads. Each thread has at least a given number of rows.
-    fn compute_totals_by_row(
+    fn compute_totals_of_each_tile_row(
         &self,
         rt: &(impl Threads + Sync),
         alloc: Global,
@@ -188,13 +188,13 @@ impl TiledAccumulation<'_> {
                     requires { IsTally self.now × (row < tile_rows self.now.grid) }
                     ensures { IfOk result
                         (λ bins. AreTotalsOfRow self.entry.now row bins.items) }
-                { self.compute_row_totals(alloc, room, row) },
+                { self.compute_totals_of_one_tile_row(alloc, room, row) },
             )
             .collect::<Result<Vec<_>, AllocError>>(rt, alloc)?
     }
 
     // The totals over one row of tiles.
-    fn compute_row_totals(
+    fn compute_totals_of_one_tile_row(
         &self,
         alloc: Global,
         room: &mut TotalsScratch,
@@ -210,7 +210,7 @@ impl TiledAccumulation<'_> {
     }
 
     // Joins to each bin the totals over all tiles, row by row.
-    fn accumulate_rows_in_turn(
+    fn accumulate_tile_rows_in_turn(
         &self,
         alloc: Global,
         room: &mut TotalsScratch,
@@ -285,14 +285,19 @@ impl TiledAccumulation<'_> {
     }
 
     // The layout of a tile.
-    fn build_tile_layout(&self, alloc: Global, row: u32, col: u32) -> Result<Layout<'_>, AllocError>
+    fn build_tile_layout(
+        &self,
+        alloc: Global,
+        row: u32,
+        col: u32,
+    ) -> Result<TileLayout<'_>, AllocError>
         requires tally { IsTally self.now }
         requires tile { HasTile self.now.grid row col }
         ensures { IfOk result (IsTileLayout (pipeline_in self.now.of.job.now)
             self.now.of.schedule.now.inlining self.now.stage row col) }
     {
         let of = &self.of;
-        match Layout::new(alloc, of.job, of.schedule, self.stage, row, col) {
+        match TileLayout::new(alloc, of.job, of.schedule, self.stage, row, col) {
             Ok(layout) => Ok(layout),
             Err(PlanFault::NoSuchTile) => unreachable!(),
             Err(PlanFault::ScratchTooBig) => unreachable!(),

@@ -10,7 +10,7 @@ ghost use Rattle.tile_run.specs.Work.{first_too_big, is_accumulator_at, is_store
 ghost use Rattle.accumulators.specs.Answers.{all_gathered, gathered_at, IsAnswer, IsEvaluationFault};
 
 use crate::picture::{make_picture_in_bands, make_picture_in_strips};
-use crate::strip_job::count_tile_rows_for_bands;
+use crate::strip_job::count_tile_rows_of_stage_for_bands;
 use accumulators::Answer;
 use grouping::Schedule;
 use job::{Body, Job};
@@ -20,7 +20,7 @@ use std::alloc::{AllocError, Global};
 use std::thread::Threads;
 use tile_run::{
     LastReads, RunFault, TiledStages, WORK_OF_TILE, count_point_run_work,
-    estimate_tile_rows_per_thread, find_first_oversized_tile,
+    estimate_least_tile_rows_per_thread, find_key_of_first_oversized_tile,
 };
 
 /// Least work in all, in reads and operators, at which several threads pay off: about three milliseconds.
@@ -78,7 +78,7 @@ fn count_strip_rows_per_thread(rt: &impl Threads, job: &Job) -> u32 {
     match job.outputs().first() {
         Some(output) => {
             let threads = u32::try_from(current_num_threads(rt)).unwrap_or(u32::MAX);
-            count_tile_rows_for_bands(job, *output).div_ceil(threads)
+            count_tile_rows_of_stage_for_bands(job, *output).div_ceil(threads)
         }
         None => 0,
     }
@@ -88,12 +88,12 @@ fn count_strip_rows_per_thread(rt: &impl Threads, job: &Job) -> u32 {
 // holds where there is little work, in all or per sample.
 fn are_bands_as_fast_as_strips(rt: &impl Threads, job: &Job, schedule: &Schedule) -> bool {
     current_num_threads(rt) == 1
-        || are_tile_rows_too_few_for_strips(job, schedule)
-        || is_work_too_little_for_strips(job, schedule)
+        || has_no_stage_with_rows_for_two_strips(job, schedule)
+        || is_job_work_too_little_for_strips(job, schedule)
 }
 
 // Whether the work of a job is little, by an estimate.
-fn is_work_too_little_for_strips(job: &Job, schedule: &Schedule) -> bool {
+fn is_job_work_too_little_for_strips(job: &Job, schedule: &Schedule) -> bool {
     let work = estimate_work_of_all_bands(job, schedule);
     work < WORK_WORTH_THREADS
         || work < count_samples_of_all_strips(job).saturating_mul(WORK_WORTH_JOINING)
@@ -131,7 +131,7 @@ fn count_samples_of_all_strips(job: &Job) -> u64 {
 }
 
 // Whether no stage has rows of tiles for two threads.
-fn are_tile_rows_too_few_for_strips(job: &Job, schedule: &Schedule) -> bool {
+fn has_no_stage_with_rows_for_two_strips(job: &Job, schedule: &Schedule) -> bool {
     for stage in 0..job.stages().len() {
         if !are_stage_rows_too_few_for_strips(job, schedule, stage) {
             return false;
@@ -146,7 +146,7 @@ fn are_stage_rows_too_few_for_strips(job: &Job, schedule: &Schedule, stage: usiz
         Some(grid) => {
             schedule.inlined(stage)
                 || grid.tile_rows() as usize / 2
-                    < estimate_tile_rows_per_thread(job, schedule, stage)
+                    < estimate_least_tile_rows_per_thread(job, schedule, stage)
         }
         None => true,
     }
@@ -242,10 +242,10 @@ fn can_evaluate_in_bands(alloc: Global, job: &Job, schedule: &Schedule) -> Resul
     {
         return Ok(false);
     }
-    if find_first_oversized_tile(alloc, job, schedule, TiledStages::Functions)?.is_some() {
+    if find_key_of_first_oversized_tile(alloc, job, schedule, TiledStages::Functions)?.is_some() {
         return Ok(false);
     }
-    Ok(find_first_oversized_tile(alloc, job, schedule, TiledStages::Accumulators)?.is_none())
+    Ok(find_key_of_first_oversized_tile(alloc, job, schedule, TiledStages::Accumulators)?.is_none())
 }
 
 // Whether a job has accumulators.
@@ -254,7 +254,7 @@ fn has_accumulator_that_rules_out_bands(job: &Job) -> bool
     ensures { result ≡ false → all_gathered (pipeline_in job.now) ≡ [] }
 {
     for stage in 0..job.stages().len() {
-        if is_accumulator_that_rules_out_bands(job, stage) {
+        if is_band_excluding_accumulator_stage(job, stage) {
             return true;
         }
     }
@@ -262,7 +262,7 @@ fn has_accumulator_that_rules_out_bands(job: &Job) -> bool
 }
 
 // Whether the stage of this number is an accumulator.
-fn is_accumulator_that_rules_out_bands(job: &Job, stage: usize) -> bool
+fn is_band_excluding_accumulator_stage(job: &Job, stage: usize) -> bool
     ensures { result ≡ false → gathered_at (pipeline_in job.now) stage ≡ [] }
 {
     match job.stage(stage) {

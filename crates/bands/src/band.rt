@@ -8,7 +8,7 @@ ghost use Rattle.bands.specs.Kept.{kept_tiles, IsRowOf};
 
 use crate::band_run::BandRun;
 use crate::kept_rows::{KeptTileRows, create_empty_kept_tile_row};
-use crate::row_range::BandRows;
+use crate::row_range::BandRowRange;
 use crate::windows::TileRowWindows;
 use grouping::Schedule;
 use job::Job;
@@ -50,19 +50,19 @@ impl<'a> Band<'a> {
     /// # Errors
     ///
     /// Fails only where memory is refused.
-    pub(crate) fn request_reads(
+    pub(crate) fn request_reads_of_stage_rows(
         &self,
         alloc: Global,
         windows: &mut TileRowWindows,
         stage: usize,
         row: u32,
     ) -> Result<(), AllocError> {
-        windows.request_reads(
+        windows.request_reads_of_stage_rows(
             alloc,
             self.job,
             self.schedule,
             stage,
-            BandRows::from_row(row),
+            BandRowRange::from_row(row),
         )
     }
 
@@ -90,7 +90,7 @@ impl<'a> Band<'a> {
     }
 
     // Makes a row of tiles and keeps it, and returns whether it could.
-    fn make_and_keep_row(
+    fn make_and_keep_one_tile_row(
         &mut self,
         alloc: Global,
         stage: usize,
@@ -107,17 +107,17 @@ impl<'a> Band<'a> {
     }
 
     // Makes rows of tiles and keeps them, and returns whether it could.
-    fn make_and_keep_rows(
+    fn make_and_keep_tile_rows(
         &mut self,
         alloc: Global,
         stage: usize,
-        rows: BandRows,
+        rows: BandRowRange,
         scratch: &mut TileScratch,
     ) -> Result<bool, AllocError>
         ensures { self.new.job ≡ self.old.job }
     {
         for row in rows.first..rows.end {
-            if !self.make_and_keep_row(alloc, stage, row, scratch)? {
+            if !self.make_and_keep_one_tile_row(alloc, stage, row, scratch)? {
                 return Ok(false);
             }
         }
@@ -125,7 +125,7 @@ impl<'a> Band<'a> {
     }
 
     // Makes the wanted rows of a stage, and returns whether it could.
-    fn make_wanted_stage_rows(
+    fn make_wanted_tile_rows_of_stage(
         &mut self,
         alloc: Global,
         windows: &mut TileRowWindows,
@@ -137,7 +137,7 @@ impl<'a> Band<'a> {
         let Some(rows) = windows.find_rows_to_make(stage) else {
             return Ok(true);
         };
-        let is_made = self.make_and_keep_rows(alloc, stage, rows, scratch)?;
+        let is_made = self.make_and_keep_tile_rows(alloc, stage, rows, scratch)?;
         windows.mark_rows_made(stage, rows.end);
         Ok(is_made)
     }
@@ -147,7 +147,7 @@ impl<'a> Band<'a> {
     /// # Errors
     ///
     /// Fails only where memory is refused.
-    pub(crate) fn make_wanted_rows(
+    pub(crate) fn make_wanted_tile_rows_of_all_stages(
         &mut self,
         alloc: Global,
         windows: &mut TileRowWindows,
@@ -155,12 +155,12 @@ impl<'a> Band<'a> {
     ) -> Result<bool, AllocError>
         ensures { self.new.job ≡ self.old.job }
     {
-        windows.request_all_reads(alloc, self.job, self.schedule)?;
+        windows.request_reads_of_all_wanted_rows(alloc, self.job, self.schedule)?;
         for at in 0..windows.len() {
-            if !self.make_wanted_stage_rows(
+            if !self.make_wanted_tile_rows_of_stage(
                 alloc,
                 windows,
-                windows.find_stage_in_order(at),
+                windows.find_stage_in_dependence_order(at),
                 scratch,
             )? {
                 return Ok(false);
@@ -170,7 +170,13 @@ impl<'a> Band<'a> {
     }
 
     // Frees rows of tiles. Their memory is recycled for those that are made next.
-    fn free_rows(&mut self, alloc: Global, stage: usize, rows: BandRows, scratch: &mut TileScratch)
+    fn free_tile_rows_of_stage(
+        &mut self,
+        alloc: Global,
+        stage: usize,
+        rows: BandRowRange,
+        scratch: &mut TileScratch,
+    )
         ensures { self.new.job ≡ self.old.job }
     {
         for row in rows.first..rows.end {
@@ -186,7 +192,7 @@ impl<'a> Band<'a> {
     /// # Errors
     ///
     /// Fails only where memory is refused.
-    pub(crate) fn free_unread_rows(
+    pub(crate) fn free_tile_rows_no_longer_read(
         &mut self,
         alloc: Global,
         windows: &mut TileRowWindows,
@@ -194,10 +200,10 @@ impl<'a> Band<'a> {
     ) -> Result<(), AllocError>
         ensures { self.new.job ≡ self.old.job }
     {
-        let past = windows.list_rows_to_free(alloc)?;
+        let past = windows.list_rows_to_free_and_mark_freed(alloc)?;
         for at in 0..past.len() {
             let (stage, rows) = past[at];
-            self.free_rows(alloc, stage, rows, scratch);
+            self.free_tile_rows_of_stage(alloc, stage, rows, scratch);
         }
         Ok(())
     }

@@ -13,7 +13,7 @@ ghost use Rattle.bands.specs.Kept.{is_given, kept_tiles, IsRowOf};
 use crate::kept_rows::KeptTileRows;
 use grouping::Schedule;
 use job::{Job, StageKind};
-use overlap_tiles::{Layout, NeededTile, PlanFault};
+use overlap_tiles::{NeededTile, PlanFault, TileLayout};
 use std::alloc::{AllocError, Global};
 use tile_run::{TileJob, TileRow, TileScratch, TileSource};
 
@@ -60,7 +60,7 @@ impl BandRun<'_> {
         ensures { IfOk result (λ found. IfSome found (λ values.
             AreValuesOn (pipeline_in self.now.job.now) stage row col values.items)) }
     {
-        let layout = match Layout::new(alloc, self.job, self.schedule, stage, row, col) {
+        let layout = match TileLayout::new(alloc, self.job, self.schedule, stage, row, col) {
             Ok(layout) => layout,
             Err(PlanFault::Memory) => return Err(AllocError),
             Err(PlanFault::NoSuchTile | PlanFault::ScratchTooBig) => return Ok(None),
@@ -73,7 +73,7 @@ impl BandRun<'_> {
             layout: &layout,
             known: self.kept,
         };
-        let values = tile.compute_values(alloc, scratch)?;
+        let values = tile.compute_values_if_stage_is_function(alloc, scratch)?;
         Ok(Some(values))
     }
 

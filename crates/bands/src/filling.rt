@@ -5,7 +5,7 @@ ghost use Rattle.std.specs.Prelude.{◌≡◌, IfOk, IfSome, OnOk};
 ghost use Rattle.bands.specs.Filling.{AreOf};
 
 use crate::band::Band;
-use crate::row_range::BandRows;
+use crate::row_range::BandRowRange;
 use crate::strip::OutputStrip;
 use crate::windows::TileRowWindows;
 use grouping::Schedule;
@@ -23,7 +23,7 @@ pub(crate) fn create_output_strips<'a>(
     job: &'a Job,
     stages: &[usize],
     max: u16,
-    rows: BandRows,
+    rows: BandRowRange,
 ) -> Result<Option<Vec<OutputStrip<'a>>>, AllocError>
     ensures { IfOk result (λ found. IfSome found (λ strips. AreOf job.now strips.items)) }
 {
@@ -47,7 +47,7 @@ pub(crate) fn fill_output_strips(
     job: &Job,
     schedule: &Schedule,
     strips: &mut [OutputStrip<'_>],
-    rows: BandRows,
+    rows: BandRowRange,
     scratch: &mut TileScratch,
 ) -> Result<bool, AllocError>
     requires { AreOf job.now strips.old }
@@ -77,14 +77,14 @@ fn fill_tile_row_of_strips(
     ensures of { OnOk result (AreOf band.old.job.now strips.new) }
 {
     request_reads_of_strip_row(alloc, band, windows, strips, row)?;
-    if !band.make_wanted_rows(alloc, windows, scratch)? {
+    if !band.make_wanted_tile_rows_of_all_stages(alloc, windows, scratch)? {
         return Ok(false);
     }
-    if !compute_row_into_strips(alloc, band, scratch, strips, row)? {
+    if !compute_tile_row_into_each_strip(alloc, band, scratch, strips, row)? {
         return Ok(false);
     }
     mark_row_of_strips_made(windows, strips, row);
-    band.free_unread_rows(alloc, windows, scratch)?;
+    band.free_tile_rows_no_longer_read(alloc, windows, scratch)?;
     Ok(true)
 }
 
@@ -97,7 +97,7 @@ fn request_reads_of_strip_row(
     row: u32,
 ) -> Result<(), AllocError> {
     for strip in strips {
-        band.request_reads(alloc, windows, strip.stage(), row)?;
+        band.request_reads_of_stage_rows(alloc, windows, strip.stage(), row)?;
     }
     Ok(())
 }
@@ -110,7 +110,7 @@ fn mark_row_of_strips_made(windows: &mut TileRowWindows, strips: &[OutputStrip<'
 }
 
 // Makes a row of tiles of each of these outputs and adds it, and returns whether it could.
-fn compute_row_into_strips(
+fn compute_tile_row_into_each_strip(
     alloc: Global,
     band: &Band<'_>,
     scratch: &mut TileScratch,
@@ -121,7 +121,7 @@ fn compute_row_into_strips(
     ensures { OnOk result (AreOf band.now.job.now strips.new) }
 {
     for at in 0..strips.len() {
-        if !compute_row_into_strip(alloc, band, scratch, &mut strips[at], row)? {
+        if !compute_tile_row_into_strip(alloc, band, scratch, &mut strips[at], row)? {
             return Ok(false);
         }
     }
@@ -129,7 +129,7 @@ fn compute_row_into_strips(
 }
 
 // Makes a row of tiles of an output and adds it, and returns whether it could.
-fn compute_row_into_strip(
+fn compute_tile_row_into_strip(
     alloc: Global,
     band: &Band<'_>,
     scratch: &mut TileScratch,

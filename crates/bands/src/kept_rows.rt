@@ -80,7 +80,10 @@ impl KeptTileRows {
     {
         let mut stages = Vec::with_capacity(alloc, job.stages().len())?;
         for stage in 0..job.stages().len() {
-            stages.push(KeptTileRowsOfStage::new(alloc, count_tile_rows_for_bands(job, stage))?)?;
+            stages.push(KeptTileRowsOfStage::new(
+                alloc,
+                count_tile_rows_of_stage_for_bands(job, stage),
+            )?)?;
         }
         Ok(KeptTileRows { stages })
     }
@@ -99,7 +102,7 @@ impl KeptTileRows {
 }
 
 // How many rows of tiles a stage has.
-fn count_tile_rows_for_bands(job: &Job, stage: usize) -> u32 {
+fn count_tile_rows_of_stage_for_bands(job: &Job, stage: usize) -> u32 {
     match job.grid(stage) {
         Some(grid) => grid.tile_rows(),
         None => 0,

@@ -1,6 +1,6 @@
 //! The answer of a job, band by band: only rows of tiles that are still to be read are in memory of each stored function.
 //!
-//! Words: band, strip, window, kept tile row, pending samples, band run, output strip, strip job.
+//! Words: band, strip, window, kept tile row, pending samples, band run, output strip.
 #![tactic(auto)]
 
 mod answer;

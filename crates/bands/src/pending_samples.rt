@@ -45,11 +45,11 @@ impl OutputSheet for PendingSamples {
 
     ghost samples = { λ sheet. sheet.samples.items };
 
-    fn greatest_sample(&self) -> u16 {
+    fn greatest_allowed_sample(&self) -> u16 {
         self.max
     }
 
-    fn add_samples(&mut self, more: &[u16]) -> Result<(), AllocError> {
+    fn append_samples_to_sheet(&mut self, more: &[u16]) -> Result<(), AllocError> {
         self.samples.extend_from_slice(more)
     }
 }

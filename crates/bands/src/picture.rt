@@ -11,7 +11,7 @@ ghost use Rattle.job.specs.WellFormed.{IsOutput};
 ghost use Rattle.bands.specs.Filling.{AreOf};
 
 use crate::strip::OutputStrip;
-use crate::strip_job::StripJob;
+use crate::strip_job::OutputStripMaker;
 use grouping::Schedule;
 use job::{Job, Output};
 use netpbm::{PackedPlane, Picture};
@@ -35,7 +35,9 @@ pub(crate) fn make_picture_in_bands(
 {
     match job.output() {
         Some(output) => {
-            let strips = StripJob::new(job, schedule, output).make_strips_in_turn(alloc)?;
+            let strips = OutputStripMaker::new(
+                job, schedule, output,
+            ).make_strips_of_all_rows_in_this_thread(alloc)?;
             join_strips_to_picture(alloc, job, output, strips)
         }
         None => Ok(None),
@@ -61,9 +63,9 @@ pub(crate) fn make_picture_in_strips(
 {
     match job.output() {
         Some(output) => {
-            let strips = StripJob::new(job, schedule, output).make_strips_in_parallel(
-                rt, alloc, len,
-            )?;
+            let strips = OutputStripMaker::new(
+                job, schedule, output,
+            ).make_and_join_strips_in_parallel(rt, alloc, len)?;
             join_strips_to_picture(alloc, job, output, strips)
         }
         None => Ok(None),

@@ -10,7 +10,7 @@ ghost use Rattle.job.specs.Readers.{grid_at};
 ghost use Rattle.bands.specs.Kept.{IsRowOf};
 ghost use Rattle.bands.specs.Strips.{greatest_on, samples_on, HasRows};
 
-use crate::row_range::BandRows;
+use crate::row_range::BandRowRange;
 use crate::strip_sheet::StripSheet;
 use domains::Grid;
 use job::Job;
@@ -49,7 +49,7 @@ impl<'a> OutputStrip<'a> {
         job: &'a Job,
         stage: usize,
         max: u16,
-        rows: BandRows,
+        rows: BandRowRange,
     ) -> Result<Option<OutputStrip<'a>>, AllocError>
         ensures { IfOk result (λ found. IfSome found (λ strip. strip.job.now ≡ job.now)) }
     {
@@ -153,7 +153,7 @@ fn create_strip_sheet(
     alloc: Global,
     grid: &Grid,
     max: u16,
-    rows: BandRows,
+    rows: BandRowRange,
 ) -> Result<StripSheet, AllocError>
     ensures greatest { IfOk result (λ sheet. greatest_on sheet ≡ max) }
     ensures none { IfOk result (λ sheet. samples_on sheet ≡ []) }
@@ -166,7 +166,7 @@ fn create_strip_sheet(
 }
 
 // How many points these rows of tiles have at most.
-fn count_points_of_strip_rows(grid: &Grid, rows: BandRows) -> usize {
+fn count_points_of_strip_rows(grid: &Grid, rows: BandRowRange) -> usize {
     let count = rows.end.saturating_sub(rows.first);
     let height = count.saturating_mul(grid.sides.height());
     let points = u64::from(height).saturating_mul(u64::from(grid.area.cols.len()));

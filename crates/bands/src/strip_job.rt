@@ -8,7 +8,7 @@ ghost use Rattle.job.specs.WellFormed.{IsOutput};
 ghost use Rattle.bands.specs.Filling.{AreOf, PartsAreOf};
 
 use crate::filling::{create_output_strips, fill_output_strips};
-use crate::row_range::BandRows;
+use crate::row_range::BandRowRange;
 use crate::strip::OutputStrip;
 use grouping::Schedule;
 use job::{Job, Output};
@@ -19,20 +19,24 @@ use tile_run::TileScratch;
 
 /// Functions of an output of a job, and the schedule by which their rows of tiles are made.
 #[derive(Clone, Copy)]
-pub(crate) struct StripJob<'a> {
+pub(crate) struct OutputStripMaker<'a> {
     job: &'a Job,
     schedule: &'a Schedule,
     stages: &'a [usize],
     max: u16,
 }
 
-impl<'a> StripJob<'a> {
+impl<'a> OutputStripMaker<'a> {
     /// The functions of an output.
-    pub(crate) fn new(job: &'a Job, schedule: &'a Schedule, output: &'a Output) -> StripJob<'a>
+    pub(crate) fn new(
+        job: &'a Job,
+        schedule: &'a Schedule,
+        output: &'a Output,
+    ) -> OutputStripMaker<'a>
         requires { IsOutput (pipeline_in job.now) (output_view output.now) }
         ensures { result.job.now ≡ job.now }
     {
-        StripJob {
+        OutputStripMaker {
             job,
             schedule,
             stages: output.stages(),
@@ -41,18 +45,18 @@ impl<'a> StripJob<'a> {
     }
 
     // How many rows of tiles the first of the functions has.
-    fn count_output_tile_rows(&self) -> u32 {
+    fn count_tile_rows_of_first_output(&self) -> u32 {
         match self.stages.first() {
-            Some(stage) => count_tile_rows_for_bands(self.job, *stage),
+            Some(stage) => count_tile_rows_of_stage_for_bands(self.job, *stage),
             None => 0,
         }
     }
 
     // Strips of these rows of all functions, if they can be made.
-    fn make_strips(
+    fn make_strip_of_rows_for_each_output(
         &self,
         alloc: Global,
-        rows: BandRows,
+        rows: BandRowRange,
         scratch: &mut TileScratch,
     ) -> Result<Option<Vec<OutputStrip<'a>>>, AllocError>
         ensures { IfOk result (λ found. IfSome found
@@ -73,7 +77,7 @@ impl<'a> StripJob<'a> {
     /// # Errors
     ///
     /// Fails only where memory is refused.
-    pub(crate) fn make_strips_in_turn(
+    pub(crate) fn make_strips_of_all_rows_in_this_thread(
         &self,
         alloc: Global,
     ) -> Result<Option<Vec<OutputStrip<'a>>>, AllocError>
@@ -81,9 +85,9 @@ impl<'a> StripJob<'a> {
             (λ strips. AreOf self.now.job.now strips.items)) }
     {
         let mut scratch = TileScratch::new(alloc);
-        self.make_strips(
+        self.make_strip_of_rows_for_each_output(
             alloc,
-            BandRows::from_count(self.count_output_tile_rows()),
+            BandRowRange::from_count(self.count_tile_rows_of_first_output()),
             &mut scratch,
         )
     }
@@ -93,7 +97,7 @@ impl<'a> StripJob<'a> {
     /// # Errors
     ///
     /// Fails only where memory is refused.
-    pub(crate) fn make_strips_in_parallel(
+    pub(crate) fn make_and_join_strips_in_parallel(
         &self,
         rt: &(impl Threads + Sync),
         alloc: Global,
@@ -103,12 +107,12 @@ impl<'a> StripJob<'a> {
         ensures { IfOk result (λ found. IfSome found
             (λ strips. AreOf self.now.job.now strips.items)) }
     {
-        let parts = self.make_strips_of_parts(rt, alloc, len)?;
+        let parts = self.make_strips_of_each_part_in_parallel(rt, alloc, len)?;
         self.join_strips_of_parts(parts)
     }
 
     // The strips of each part of the rows, `len` of them in each part but the last.
-    fn make_strips_of_parts(
+    fn make_strips_of_each_part_in_parallel(
         &self,
         rt: &(impl Threads + Sync),
         alloc: Global,
@@ -117,7 +121,7 @@ impl<'a> StripJob<'a> {
         requires { 0 < len }
         ensures { IfOk result (λ parts. PartsAreOf self.now.job.now parts.items) }
     {
-        let count = self.count_output_tile_rows();
+        let count = self.count_tile_rows_of_first_output();
         (0..count.div_ceil(len))
             .into_par_iter()
             .with_min_len(1)
@@ -130,9 +134,9 @@ impl<'a> StripJob<'a> {
                     ensures { IfOk result (λ found. IfSome found
                         (λ strips. AreOf self.entry.now.job.now strips.items)) }
                 {
-                    self.make_strips(
+                    self.make_strip_of_rows_for_each_output(
                         alloc,
-                        BandRows::from_part_number(count, len, number),
+                        BandRowRange::from_part_number(count, len, number),
                         scratch,
                     )
                 },
@@ -158,7 +162,7 @@ impl<'a> StripJob<'a> {
             let Some(behind) = part else {
                 return Ok(None);
             };
-            if !self.append_strips_of_next_part(&mut strips, behind)? {
+            if !self.append_next_strip_to_each_strip(&mut strips, behind)? {
                 return Ok(None);
             }
         }
@@ -166,7 +170,7 @@ impl<'a> StripJob<'a> {
     }
 
     // Adds to each of these strips the next one of the same function, and returns whether it could.
-    fn append_strips_of_next_part(
+    fn append_next_strip_to_each_strip(
         &self,
         strips: &mut [OutputStrip<'_>],
         behind: Vec<OutputStrip<'_>>,
@@ -190,7 +194,7 @@ impl<'a> StripJob<'a> {
 }
 
 /// How many rows of tiles a stage has.
-pub(crate) fn count_tile_rows_for_bands(job: &Job, stage: usize) -> u32 {
+pub(crate) fn count_tile_rows_of_stage_for_bands(job: &Job, stage: usize) -> u32 {
     match job.grid(stage) {
         Some(grid) => grid.tile_rows(),
         None => 0,

@@ -64,7 +64,7 @@ impl StripSheet {
         match behind {
             StripSheet::Plane(_) => Ok(false),
             StripSheet::Apart(apart) => {
-                self.add_samples(apart.samples())?;
+                self.append_samples_to_sheet(apart.samples())?;
                 Ok(true)
             }
         }
@@ -86,17 +86,17 @@ impl OutputSheet for StripSheet {
 
     ghost samples = { samples_on };
 
-    fn greatest_sample(&self) -> u16 {
+    fn greatest_allowed_sample(&self) -> u16 {
         match self {
-            StripSheet::Plane(sheet) => sheet.greatest_sample(),
-            StripSheet::Apart(sheet) => sheet.greatest_sample(),
+            StripSheet::Plane(sheet) => sheet.greatest_allowed_sample(),
+            StripSheet::Apart(sheet) => sheet.greatest_allowed_sample(),
         }
     }
 
-    fn add_samples(&mut self, more: &[u16]) -> Result<(), AllocError> {
+    fn append_samples_to_sheet(&mut self, more: &[u16]) -> Result<(), AllocError> {
         match self {
-            StripSheet::Plane(sheet) => sheet.add_samples(more),
-            StripSheet::Apart(sheet) => sheet.add_samples(more),
+            StripSheet::Plane(sheet) => sheet.append_samples_to_sheet(more),
+            StripSheet::Apart(sheet) => sheet.append_samples_to_sheet(more),
         }
     }
 }

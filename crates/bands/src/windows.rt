@@ -2,7 +2,7 @@
 //! Which rows of tiles are kept, and which are made next. No clause specifies this: what a tile needs is looked up before it is
 //! made. If some of it is missing, the tile is not made.
 
-use crate::row_range::BandRows;
+use crate::row_range::BandRowRange;
 use grouping::{Schedule, order_stages_by_rank};
 use job::Job;
 use std::alloc::{AllocError, Global};
@@ -15,7 +15,7 @@ pub(crate) struct TileRowWindow {
     // The first row that is not made.
     next: u32,
     // The rows that are wanted.
-    wanted: Option<BandRows>,
+    wanted: Option<BandRowRange>,
     // The other stages that the rows made last read, each with the first of its rows that is read.
     reads: Vec<(usize, u32)>,
     // How many rows it has.
@@ -33,7 +33,7 @@ impl TileRowWindow {
         }
     }
 
-    fn request_rows(&mut self, rows: BandRows) {
+    fn request_rows(&mut self, rows: BandRowRange) {
         self.wanted = match self.wanted {
             Some(wanted) => Some(wanted.include_rows(rows)),
             None => Some(rows),
@@ -41,7 +41,7 @@ impl TileRowWindow {
     }
 
     // The rows that are wanted and not made.
-    fn find_rows_to_make(&self) -> Option<BandRows> {
+    fn find_rows_to_make(&self) -> Option<BandRowRange> {
         self.wanted?.drop_rows_before(self.next)
     }
 
@@ -52,7 +52,7 @@ impl TileRowWindow {
     }
 
     // Whether all rows are made, so that it reads no more.
-    fn has_made_all_rows(&self) -> bool {
+    fn has_made_every_row_of_stage(&self) -> bool {
         self.next >= self.count
     }
 }
@@ -86,21 +86,21 @@ impl TileRowWindows {
     }
 
     /// The stage at this place of the dependence order.
-    pub(crate) fn find_stage_in_order(&self, place: usize) -> usize {
+    pub(crate) fn find_stage_in_dependence_order(&self, place: usize) -> usize {
         match self.order.get(place) {
             Some(stage) => *stage,
             None => 0,
         }
     }
 
-    fn request_rows(&mut self, stage: usize, rows: BandRows) {
+    fn request_rows(&mut self, stage: usize, rows: BandRowRange) {
         if stage < self.windows.len() {
             self.windows[stage].request_rows(rows);
         }
     }
 
     /// The rows of a stage that are wanted and not made.
-    pub(crate) fn find_rows_to_make(&self, stage: usize) -> Option<BandRows> {
+    pub(crate) fn find_rows_to_make(&self, stage: usize) -> Option<BandRowRange> {
         self.windows.get(stage)?.find_rows_to_make()
     }
 
@@ -112,13 +112,13 @@ impl TileRowWindows {
     }
 
     /// Wants what these rows of a stage read.
-    pub(crate) fn request_reads(
+    pub(crate) fn request_reads_of_stage_rows(
         &mut self,
         alloc: Global,
         job: &Job,
         schedule: &Schedule,
         stage: usize,
-        rows: BandRows,
+        rows: BandRowRange,
     ) -> Result<(), AllocError> {
         let Some(region) = rows.compute_region(job, stage) else {
             return Ok(());
@@ -129,7 +129,7 @@ impl TileRowWindows {
             if schedule.inlined(*read) {
                 continue;
             }
-            if let Some(rows) = BandRows::from_area(job, *read, area) {
+            if let Some(rows) = BandRowRange::from_area(job, *read, area) {
                 self.request_rows(*read, rows);
                 reads.push((*read, rows.first))?;
             }
@@ -141,7 +141,7 @@ impl TileRowWindows {
     }
 
     /// Wants all that the wanted rows read, directly or indirectly.
-    pub(crate) fn request_all_reads(
+    pub(crate) fn request_reads_of_all_wanted_rows(
         &mut self,
         alloc: Global,
         job: &Job,
@@ -149,22 +149,22 @@ impl TileRowWindows {
     ) -> Result<(), AllocError> {
         for behind in 0..self.order.len() {
             let place = self.order.len().saturating_sub(1).saturating_sub(behind);
-            let stage = self.find_stage_in_order(place);
+            let stage = self.find_stage_in_dependence_order(place);
             if let Some(rows) = self.find_rows_to_make(stage) {
-                self.request_reads(alloc, job, schedule, stage, rows)?;
+                self.request_reads_of_stage_rows(alloc, job, schedule, stage, rows)?;
             }
         }
         Ok(())
     }
 
     // For each stage, the first row that the rows still to be made may read.
-    fn find_first_needed_rows(&self, alloc: Global) -> Result<Vec<u32>, AllocError> {
+    fn list_first_needed_row_of_each_stage(&self, alloc: Global) -> Result<Vec<u32>, AllocError> {
         let mut floors = Vec::with_capacity(alloc, self.windows.len())?;
         for window in &self.windows {
             floors.push(window.next)?;
         }
         for window in &self.windows {
-            if !window.has_made_all_rows() {
+            if !window.has_made_every_row_of_stage() {
                 lower_first_needed_window_rows(&mut floors, &window.reads);
             }
         }
@@ -172,18 +172,18 @@ impl TileRowWindows {
     }
 
     /// The rows of each stage that are read no more, to be freed one after the other.
-    pub(crate) fn list_rows_to_free(
+    pub(crate) fn list_rows_to_free_and_mark_freed(
         &mut self,
         alloc: Global,
-    ) -> Result<Vec<(usize, BandRows)>, AllocError> {
-        let floors = self.find_first_needed_rows(alloc)?;
+    ) -> Result<Vec<(usize, BandRowRange)>, AllocError> {
+        let floors = self.list_first_needed_row_of_each_stage(alloc)?;
         let mut past = Vec::new(alloc);
         for stage in 0..self.windows.len().min(floors.len()) {
             let first = self.windows[stage].first;
             if first < floors[stage] {
                 past.push((
                     stage,
-                    BandRows {
+                    BandRowRange {
                         first,
                         end: floors[stage],
                     },

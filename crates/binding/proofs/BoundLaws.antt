@@ -24,7 +24,7 @@ use Rattle.pipe_checks.specs.declared.access.Access.TheVariants as access
 use Rattle.pipe_bounds.specs.Settings.{affine_value}
 use Rattle.pipe_bounds.specs.Domains.{IsSpanFrom, IsSides, IsDomain}
 use Rattle.pipe_bounds.specs.Within.{HaveDomains}
-use Rattle.pipe_checks.specs.Names.{declared_names, stages_of}
+use Rattle.pipe_checks.specs.Names.{symbols_declared_by_items, stages_of}
 use Rattle.pipe_checks.specs.Accesses as accesses
 use Rattle.pipe_checks.specs.Accesses.{width_of, accesses_of}
 use Rattle.pipe_bounds.specs.Boxes as boxes
@@ -217,7 +217,7 @@ module _ (ds : List Declaration) (p : Program) (own : p.stages ≡ stages_of ds)
   -- ---- of functions
 
   module _ (vars : Variables) (domain : Area) (r c : ℤ) (inside : HoldsPoint domain r c) where
-    case_reads : (b : Branch) → IsSound (declared_names ds) b.value
+    case_reads : (b : Branch) → IsSound (symbols_declared_by_items ds) b.value
         → AllStay areas (IsInBox p.settings domain (branch_case (stages_of ds) vars.row_name b)) (accesses_of (stages_of ds) b.value)
         → CaseReads (IsReadable (flat_map (item_stages p) ds)) (case_of p vars domain b) r c
     case_reads b sound stays = λ box is within.
@@ -228,16 +228,16 @@ module _ (ds : List Declaration) (p : Program) (own : p.stages ≡ stages_of ds)
         all_taken (reads_in (formula_of p vars b.value)) (accesses_of (stages_of ds) b.value) (reads_same ds p own vars b.value sound) r c
         (λ m y there. stays m y there r c (here.0, bounds_hold p vars b.condition r c here.1))
 
-    cases_read : (bs : List Branch) (rest : List ReadCase) → All (IsSoundBranch (declared_names ds)) bs
+    cases_read : (bs : List Branch) (rest : List ReadCase) → All (IsSoundBranch (symbols_declared_by_items ds)) bs
         → StageStays p.settings areas domain (map (branch_case (stages_of ds) vars.row_name) bs ++ rest)
         → All (λ q. CaseReads (IsReadable (flat_map (item_stages p) ds)) q r c) (map (case_of p vars domain) bs)
     cases_read [] rest sound stays = All-nil (λ q. CaseReads (IsReadable (flat_map (item_stages p) ds)) q r c)
     cases_read (b ∷ bs) rest sound stays =
         All-cons (λ q. CaseReads (IsReadable (flat_map (item_stages p) ds)) q r c) (case_of p vars domain b)
         (map (case_of p vars domain) bs)
-        (case_reads b (All-head (IsSoundBranch (declared_names ds)) b bs sound).value
+        (case_reads b (All-head (IsSoundBranch (symbols_declared_by_items ds)) b bs sound).value
         (stays 0 (branch_case (stages_of ds) vars.row_name b) refl))
-        (cases_read bs rest (All-tail (IsSoundBranch (declared_names ds)) b bs sound) (λ n x there. stays (suc n) x there))
+        (cases_read bs rest (All-tail (IsSoundBranch (symbols_declared_by_items ds)) b bs sound) (λ n x there. stays (suc n) x there))
 
     rest_stays : (bs : List Branch) (rest : List ReadCase)
         → StageStays p.settings areas domain (map (branch_case (stages_of ds) vars.row_name) bs ++ rest)
@@ -245,14 +245,14 @@ module _ (ds : List Declaration) (p : Program) (own : p.stages ≡ stages_of ds)
     rest_stays [] rest stays = stays
     rest_stays (b ∷ bs) rest stays = rest_stays bs rest (λ n x there. stays (suc n) x there)
 
-    whole_reads : (a : Node) → IsSound (declared_names ds) a
+    whole_reads : (a : Node) → IsSound (symbols_declared_by_items ds) a
         → AllStay areas (IsInBox p.settings domain (whole_case vars.row_name (accesses_of (stages_of ds) a))) (accesses_of (stages_of ds) a)
         → EachRead (IsReadable (flat_map (item_stages p) ds)) (formula_of p vars a) r c
     whole_reads a sound stays =
         all_taken (reads_in (formula_of p vars a)) (accesses_of (stages_of ds) a) (reads_same ds p own vars a sound) r c
         (λ m y there. stays m y there r c (inside, tt))
 
-    otherwise_reads : (o : Option Node) → ForSome o (IsSound (declared_names ds))
+    otherwise_reads : (o : Option Node) → ForSome o (IsSound (symbols_declared_by_items ds))
         → StageStays p.settings areas domain (otherwise_cases (stages_of ds) vars.row_name o)
         → ForSome (option_map (formula_of p vars) o) (λ f. EachRead (IsReadable (flat_map (item_stages p) ds)) f r c)
     otherwise_reads None sound stays = λ f is. absurd (none-some f is)
@@ -260,7 +260,7 @@ module _ (ds : List Declaration) (p : Program) (own : p.stages ≡ stages_of ds)
         subst (λ g. EachRead (IsReadable (flat_map (item_stages p) ds)) g r c) (same_Some (formula_of p vars a) f is)
         (whole_reads a (sound a refl) (stays 0 (whole_case vars.row_name (accesses_of (stages_of ds) a)) refl))
 
-  function_reads : (f : Function) → IsSoundItem (declared_names ds) (tree.function f)
+  function_reads : (f : Function) → IsSoundItem (symbols_declared_by_items ds) (tree.function f)
       → StageStays p.settings areas (function_stage p f).domain (item_cases (stages_of ds) (tree.function f)) → (r c : ℤ)
       → HoldsPoint (function_stage p f).domain r c → BodyReads (IsReadable (flat_map (item_stages p) ds)) (function_stage p f).body r c
   function_reads f sound stays r c inside =
@@ -271,7 +271,7 @@ module _ (ds : List Declaration) (p : Program) (own : p.stages ≡ stages_of ds)
         otherwise_reads vars domain r c inside f.otherwise sound.1 (rest_stays vars domain r c inside f.cases others stays),
       )
 
-  accumulator_reads : (a : Accumulator) → IsSoundItem (declared_names ds) (tree.accumulator a)
+  accumulator_reads : (a : Accumulator) → IsSoundItem (symbols_declared_by_items ds) (tree.accumulator a)
       → StageStays p.settings areas (accumulator_stage p a).domain (item_cases (stages_of ds) (tree.accumulator a)) → (r c : ℤ)
       → HoldsPoint (accumulator_stage p a).domain r c
       → BodyReads (IsReadable (flat_map (item_stages p) ds)) (accumulator_stage p a).body r c
@@ -292,7 +292,7 @@ module _ (ds : List Declaration) (p : Program) (own : p.stages ≡ stages_of ds)
       StageStays p.settings areas s.domain (item_cases (stages_of ds) d) → (r c : ℤ) → HoldsPoint s.domain r c
       → BodyReads (IsReadable (flat_map (item_stages p) ds)) s.body r c
 
-  body_reads : (d : Declaration) (x : Symbol) (s : Stage) → IsStageOf p d x s → IsSoundItem (declared_names ds) d → Stays d s
+  body_reads : (d : Declaration) (x : Symbol) (s : Stage) → IsStageOf p d x s → IsSoundItem (symbols_declared_by_items ds) d → Stays d s
   body_reads (tree.param y) x s is sound = absurd is
   body_reads (tree.image i) x s is sound = subst (Stays (tree.image i)) (sym is.1) (λ stays r c inside. tt)
   body_reads (tree.table t) x s is sound = absurd is
@@ -301,7 +301,7 @@ module _ (ds : List Declaration) (p : Program) (own : p.stages ≡ stages_of ds)
   body_reads (tree.output o) x s is sound = absurd is
 
   pub stage_reads : AreInBounds p.settings ds (stages_of ds) areas → (g : ℕ) (s : Stage) (at : IsAt ds p g s)
-      → IsSoundItem (declared_names ds) at.item → (r c : ℤ) → HoldsPoint s.domain r c
+      → IsSoundItem (symbols_declared_by_items ds) at.item → (r c : ℤ) → HoldsPoint s.domain r c
       → BodyReads (IsReadable (flat_map (item_stages p) ds)) s.body r c
   stage_reads stays g s at sound =
       let own_domain = domain_at g s at in

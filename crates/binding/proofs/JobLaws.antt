@@ -31,7 +31,7 @@ use Rattle.pipe_bounds.specs.declared.params.Setting.{Setting}
 use Rattle.pipe_bounds.specs.Settings.{affine_value}
 use Rattle.pipe_bounds.specs.Domains.{IsSpanFrom, IsDomain}
 use Rattle.pipe_checks.specs.Graph.{IsRanking}
-use Rattle.pipe_checks.specs.Names.{names_of, item_names, names_from, is_stage, declared_names, stages_of, number_of}
+use Rattle.pipe_checks.specs.Names.{names_of, item_names, names_from, is_stage, symbols_declared_by_items, stages_of, number_of}
 use Rattle.pipe_checks.specs.Accesses.{is_plane, graph_of}
 use Rattle.pipe_checks.specs.Checking.{IsNamed}
 use Rattle.pipe_checks.proofs.Places.{position_within}
@@ -188,8 +188,8 @@ module _ (ds : List Declaration) (named : IsNamed ds) (p : Program) (own : p.sta
   abbrev stages : List Stage
   stages = flat_map (item_stages p) ds
 
-  sound_at : (g : ℕ) (s : Stage) (at : IsAt ds p g s) → IsSoundItem (declared_names ds) at.item
-  sound_at g s at = sound_item (declared_names ds) at.item (named.good at.declared.item at.item at.there)
+  sound_at : (g : ℕ) (s : Stage) (at : IsAt ds p g s) → IsSoundItem (symbols_declared_by_items ds) at.item
+  sound_at g s at = sound_item (symbols_declared_by_items ds) at.item (named.good at.declared.item at.item at.there)
 
   near_at : (g : ℕ) (s : Stage) → slice_get stages g ≡ Some s → InDomainRange s.domain.rows × InDomainRange s.domain.cols
   near_at g s there =
@@ -200,7 +200,7 @@ module _ (ds : List Declaration) (named : IsNamed ds) (p : Program) (own : p.sta
 
   -- ---- boxes and formulas
 
-  handed : (x : List ℕ) → IsNameOf IsTableKind (declared_names ds) x → IsEntries (entries_named p x)
+  handed : (x : List ℕ) → IsNameOf IsTableKind (symbols_declared_by_items ds) x → IsEntries (entries_named p x)
   handed x n = entries_fit p.tables x numbers (entries_named_by ds p.settings p.tables bounds.tables fit x n)
 
   boxed : (d : Declaration) (x : Symbol) (s : Stage) → IsStageOf p d x s → AreBoxed s.domain s.body
@@ -214,21 +214,21 @@ module _ (ds : List Declaration) (named : IsNamed ds) (p : Program) (own : p.sta
   boxed (tree.accumulator a) x s is = subst (λ (t : Stage). AreBoxed t.domain t.body) (sym is.2) tt
   boxed (tree.output o) x s is = absurd is
 
-  other_is : (vars : Variables) (o : Option Node) → ForSome o (IsSound (declared_names ds))
+  other_is : (vars : Variables) (o : Option Node) → ForSome o (IsSound (symbols_declared_by_items ds))
       → All IsFormula (other_formula (option_map (formula_of p vars) o))
   other_is vars None sound = All-nil IsFormula
   other_is vars (Some a) sound =
-      All-cons IsFormula (formula_of p vars a) [] (formula_is p vars small (declared_names ds) handed a (sound a refl)) (All-nil IsFormula)
+      All-cons IsFormula (formula_of p vars a) [] (formula_is p vars small (symbols_declared_by_items ds) handed a (sound a refl)) (All-nil IsFormula)
 
-  cases_are : (vars : Variables) (domain : Area) (bs : List Branch) → All (IsSoundBranch (declared_names ds)) bs
+  cases_are : (vars : Variables) (domain : Area) (bs : List Branch) → All (IsSoundBranch (symbols_declared_by_items ds)) bs
       → All IsFormula (map (λ q. q.formula) (map (case_of p vars domain) bs))
   cases_are vars domain [] sound = All-nil IsFormula
   cases_are vars domain (b ∷ bs) sound =
       All-cons IsFormula (formula_of p vars b.value) (map (λ q. q.formula) (map (case_of p vars domain) bs))
-      (formula_is p vars small (declared_names ds) handed b.value (All-head (IsSoundBranch (declared_names ds)) b bs sound).value)
-      (cases_are vars domain bs (All-tail (IsSoundBranch (declared_names ds)) b bs sound))
+      (formula_is p vars small (symbols_declared_by_items ds) handed b.value (All-head (IsSoundBranch (symbols_declared_by_items ds)) b bs sound).value)
+      (cases_are vars domain bs (All-tail (IsSoundBranch (symbols_declared_by_items ds)) b bs sound))
 
-  formulas_are : (d : Declaration) (x : Symbol) (s : Stage) → IsStageOf p d x s → IsSoundItem (declared_names ds) d
+  formulas_are : (d : Declaration) (x : Symbol) (s : Stage) → IsStageOf p d x s → IsSoundItem (symbols_declared_by_items ds) d
       → All IsFormula (formulas_of s.body)
   formulas_are (tree.param y) x s is sound = absurd is
   formulas_are (tree.image i) x s is sound = subst (λ (t : Stage). All IsFormula (formulas_of t.body)) (sym is.1) (All-nil IsFormula)
@@ -244,8 +244,8 @@ module _ (ds : List Declaration) (named : IsNamed ds) (p : Program) (own : p.sta
       let vars : Variables = variables_of a.row a.column in
       subst (λ (t : Stage). All IsFormula (formulas_of t.body)) (sym is.2)
       (All-cons IsFormula (formula_of p vars a.value) (formula_of p vars a.bin ∷ [])
-      (formula_is p vars small (declared_names ds) handed a.value sound.0)
-      (All-cons IsFormula (formula_of p vars a.bin) [] (formula_is p vars small (declared_names ds) handed a.bin sound.1) (All-nil IsFormula)))
+      (formula_is p vars small (symbols_declared_by_items ds) handed a.value sound.0)
+      (All-cons IsFormula (formula_of p vars a.bin) [] (formula_is p vars small (symbols_declared_by_items ds) handed a.bin sound.1) (All-nil IsFormula)))
   formulas_are (tree.output o) x s is sound = absurd is
 
   -- ---- bodies
@@ -287,7 +287,7 @@ module _ (ds : List Declaration) (named : IsNamed ds) (p : Program) (own : p.sta
     body_is : (g : ℕ) (s : Stage) (at : IsAt ds p g s) → IsBody picture s.domain s.body
     body_is g s at = by at.item at.is at.there (sound_at g s at) (item_domain ds p own bounds.areas bounds.domains g s at).2
       where
-        by : (d : Declaration) → IsStageOf p d at.declared s → slice_get ds at.declared.item ≡ Some d → IsSoundItem (declared_names ds) d
+        by : (d : Declaration) → IsStageOf p d at.declared s → slice_get ds at.declared.item ≡ Some d → IsSoundItem (symbols_declared_by_items ds) d
             → IsDomain p.settings d (Ok (item_domain ds p own bounds.areas bounds.domains g s at).0) → IsBody picture s.domain s.body
         by (tree.param y) is there sound h = absurd is
         by (tree.image j) is there sound h =
@@ -300,7 +300,7 @@ module _ (ds : List Declaration) (named : IsNamed ds) (p : Program) (own : p.sta
             let vars : Variables = variables_of f.row f.column in
             let domain : Area = area_of p f.row f.column in
             subst (λ (t : Stage). IsBody picture t.domain t.body) (sym is.2)
-            (All-made (λ q. All IsTest q.tests) (case_of p vars domain) (IsSoundBranch (declared_names ds))
+            (All-made (λ q. All IsTest q.tests) (case_of p vars domain) (IsSoundBranch (symbols_declared_by_items ds))
             (λ b good. tests_are p vars b.condition good.tests) f.cases sound.0)
         by (tree.accumulator a) is there sound h =
             let first : ℤ = affine_value p.settings a.bins.first in
@@ -357,7 +357,7 @@ module _ (ds : List Declaration) (named : IsNamed ds) (p : Program) (own : p.sta
       function_body (tree.accumulator a) x s is k = absurd (subst IsFuncKind is.0 k)
       function_body (tree.output o) x s is k = absurd is
 
-      function_named : (x : List ℕ) → IsNameOf IsFuncKind (declared_names ds) x → IsFunctionAt (stage_number p x)
+      function_named : (x : List ℕ) → IsNameOf IsFuncKind (symbols_declared_by_items ds) x → IsFunctionAt (stage_number p x)
       function_named x n =
           let r = stage_named ds x n.declared n.found (func_kept n.declared.kind n.kind) in
           let number : r.0 ≡ stage_number p x =
@@ -393,13 +393,13 @@ module _ (ds : List Declaration) (named : IsNamed ds) (p : Program) (own : p.sta
       first_of (One x) h = All-head IsFunctionAt (stage_number p x) [] h
       first_of (Three x y z) h = All-head IsFunctionAt (stage_number p x) (stage_number p y ∷ stage_number p z ∷ []) h
 
-      output_is : (o : OutputText) → AreFuncs (declared_names ds) o.names → 1 ≤ o.max → o.max ≤ 65535
+      output_is : (o : OutputText) → AreFuncs (symbols_declared_by_items ds) o.names → 1 ≤ o.max → o.max ≤ 65535
           → IsShaped job (record { stages = map (stage_number p) (names_in o.names); max = o.max })
           → IsOutput job (record { stages = map (stage_number p) (names_in o.names); max = o.max })
       output_is o funcs least most shaped =
           let all : All IsFunctionAt (map (stage_number p) (names_in o.names)) =
-          All-made IsFunctionAt (stage_number p) (IsNameOf IsFuncKind (declared_names ds)) function_named (names_in o.names)
-          (all_funcs (declared_names ds) o.names funcs) in
+          All-made IsFunctionAt (stage_number p) (IsNameOf IsFuncKind (symbols_declared_by_items ds)) function_named (names_in o.names)
+          (all_funcs (symbols_declared_by_items ds) o.names funcs) in
           let first = first_of o.names all in
           let g : ℕ = slice_index (map (stage_number p) (names_in o.names)) 0 in
           record {
@@ -416,7 +416,7 @@ module _ (ds : List Declaration) (named : IsNamed ds) (p : Program) (own : p.sta
       outputs_are : ShapesFit job → ForSome job.output (IsOutput job)
       outputs_are shapes = λ o is.
           let t : Tells p ds o = all_at (Tells p ds) (flat_map (item_outputs p) ds) 0 o (all_tell p ds) is in
-          let sound = sound_item (declared_names ds) (tree.output t.output) (named.good t.place (tree.output t.output) t.there) in
+          let sound = sound_item (symbols_declared_by_items ds) (tree.output t.output) (named.good t.place (tree.output t.output) t.there) in
           subst (IsOutput job) (sym t.is) (output_is t.output sound.0 sound.1.0 sound.1.1 (subst (IsShaped job) t.is (shapes o is)))
 
       -- ---- parameters

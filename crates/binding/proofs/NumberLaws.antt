@@ -10,7 +10,7 @@ use Rattle.std.proofs.lemmas.Iterator.Adapters.{position_from-zero}
 use Rattle.std.proofs.lemmas.Slice.Eq.{bytes_eq-Decides}
 use Rattle.pipe_tree.specs.Tree.{Declaration}
 use Rattle.pipe_checks.specs.declared.symbol.Symbol.{Symbol}
-use Rattle.pipe_checks.specs.Names.{is_stage, declared_names, stages_of, number_of, place_of, declared_at}
+use Rattle.pipe_checks.specs.Names.{is_stage, symbols_declared_by_items, stages_of, number_of, place_of, declared_at}
 use Rattle.pipe_checks.specs.Checking.{NoneTwice}
 use Rattle.domains.proofs.Places.{all_at}
 use Rattle.pipe_checks.proofs.Declaring.{Comes, names_come}
@@ -112,29 +112,29 @@ is_false : (b : Bool) → (b ≡ true → ⊥) → b ≡ false
 is_false true h = absurd (h refl)
 is_false false h = refl
 
-module _ (ds : List Declaration) (once : NoneTwice (declared_names ds) ds) where
-  not_again : (i j : ℕ) (x y : Symbol) → i < j → slice_get (declared_names ds) i ≡ Some y → slice_get (declared_names ds) j ≡ Some x
+module _ (ds : List Declaration) (once : NoneTwice (symbols_declared_by_items ds) ds) where
+  not_again : (i j : ℕ) (x y : Symbol) → i < j → slice_get (symbols_declared_by_items ds) i ≡ Some y → slice_get (symbols_declared_by_items ds) j ≡ Some x
       → bytes_eq y.name x.name ≡ true → ⊥
   not_again i j x y l first later same =
-      let c : Comes 0 ds x = all_at (Comes 0 ds) (declared_names ds) j x (names_come 0 ds) later in
+      let c : Comes 0 ds x = all_at (Comes 0 ds) (symbols_declared_by_items ds) j x (names_come 0 ds) later in
       once c.0 c.2 c.3 (inl (record {
         place = j;
         again = x;
         there = later;
         item = c.1 ∙ omega arith;
         before =
-            position_some (λ d. bytes_eq d.name x.name) (take j (declared_names ds)) i y
-            (taken_at (declared_names ds) j i y l (slice_get_within (declared_names ds) i y first) first) same;
+            position_some (λ d. bytes_eq d.name x.name) (take j (symbols_declared_by_items ds)) i y
+            (taken_at (symbols_declared_by_items ds) j i y l (slice_get_within (symbols_declared_by_items ds) i y first) first) same;
       }))
 
-  names_apart : AllPairs AreApart (declared_names ds)
+  names_apart : AllPairs AreApart (symbols_declared_by_items ds)
   names_apart = λ i j d l w.
-      let first = slice_get-get_or (declared_names ds) i d (omega (arith, l, w)) in
-      let later = slice_get-get_or (declared_names ds) j d w in
-      is_false _ (not_again i j (get_or (declared_names ds) j d) (get_or (declared_names ds) i d) l first later)
+      let first = slice_get-get_or (symbols_declared_by_items ds) i d (omega (arith, l, w)) in
+      let later = slice_get-get_or (symbols_declared_by_items ds) j d w in
+      is_false _ (not_again i j (get_or (symbols_declared_by_items ds) j d) (get_or (symbols_declared_by_items ds) i d) l first later)
 
   stages_apart : AllPairs AreApart (stages_of ds)
-  stages_apart = AllPairs-filter AreApart (λ d. is_stage d.kind) (declared_names ds) names_apart
+  stages_apart = AllPairs-filter AreApart (λ d. is_stage d.kind) (symbols_declared_by_items ds) names_apart
 
   -- the number of a stage's name is its place
   pub number_at : (g : ℕ) (x : Symbol) → slice_get (stages_of ds) g ≡ Some x → number_of (stages_of ds) x.name ≡ Some g
@@ -153,12 +153,12 @@ declared_found names x d = by (number_of names x) refl
     by (Some j) e there = let r = found (λ e. bytes_eq e.name x) names j e in r.3 ∙ sym r.1 ∙ there
 
 -- a name that is declared as a stage is the name of this stage
-pub stage_named : (ds : List Declaration) (x : List ℕ) (d : Symbol) → declared_at (declared_names ds) x ≡ Some d
+pub stage_named : (ds : List Declaration) (x : List ℕ) (d : Symbol) → declared_at (symbols_declared_by_items ds) x ≡ Some d
     → is_stage d.kind ≡ true → (h : ℕ) × (number_of (stages_of ds) x ≡ Some h) × (slice_get (stages_of ds) h ≡ Some d)
 stage_named ds x d there kept =
     let first : find (λ e. bytes_eq e.name x) (stages_of ds) ≡ Some d =
-    find-filter (λ e. bytes_eq e.name x) (λ e. is_stage e.kind) (declared_names ds) d
-    (declared_found (declared_names ds) x d there) kept in
+    find-filter (λ e. bytes_eq e.name x) (λ e. is_stage e.kind) (symbols_declared_by_items ds) d
+    (declared_found (symbols_declared_by_items ds) x d there) kept in
     let place = find_place (λ e. bytes_eq e.name x) (stages_of ds) d first in
     let r = found (λ e. bytes_eq e.name x) (stages_of ds) place.0 place.1 in
     (place.0, place.1, r.1 ∙ sym r.3 ∙ first)

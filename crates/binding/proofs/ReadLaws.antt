@@ -18,7 +18,7 @@ use Rattle.pipe_checks.specs.declared.access.Access.TheVariants as access
 use Rattle.pipe_checks.specs.Graph.{links_at}
 use Rattle.domains.specs.Greatest.{greatest}
 use Rattle.pipe_checks.specs.inside.Search.{rank_over}
-use Rattle.pipe_checks.specs.Names.{is_stage, declared_names, stages_of, number_of}
+use Rattle.pipe_checks.specs.Names.{is_stage, symbols_declared_by_items, stages_of, number_of}
 use Rattle.pipe_checks.specs.Accesses as accesses
 use Rattle.pipe_checks.specs.Accesses.{width_of, read_at, stencil_at, accesses_of, branch_accesses, otherwise_accesses}
 use Rattle.pipe_checks.specs.Accesses.{item_accesses, is_plane, links_of, graph_of}
@@ -63,7 +63,7 @@ kept Func h = refl
 kept Accum h = absurd h
 
 module _ (ds : List Declaration) (p : Program) (own : p.stages ≡ stages_of ds) where
-  named : (x : List ℕ) → IsNameOf IsReadableKind (declared_names ds) x
+  named : (x : List ℕ) → IsNameOf IsReadableKind (symbols_declared_by_items ds) x
       → (h : ℕ) × (number_of (stages_of ds) x ≡ Some h) × (stage_number p x ≡ h) × IsReadStage ds h
   named x n =
       let r = stage_named ds x n.declared n.found (kept n.declared.kind n.kind) in (
@@ -79,7 +79,7 @@ module _ (ds : List Declaration) (p : Program) (own : p.stages ≡ stages_of ds)
   both : (xs us : List Read) (ys vs : List Access) → AreSame xs ys → AreSame us vs → AreSame (xs ++ us) (ys ++ vs)
   both = zip_append (IsSame ds)
 
-  pub reads_same : (vars : Variables) (a : Node) → IsSound (declared_names ds) a
+  pub reads_same : (vars : Variables) (a : Node) → IsSound (symbols_declared_by_items ds) a
       → AreSame (reads_in (formula_of p vars a)) (accesses_of (stages_of ds) a)
   reads_same vars (tree.number n) h = tt
   reads_same vars (tree.variable x) h = name_reads_nothing (bytes_eq x vars.row_name) (bytes_eq x vars.column_name)
@@ -121,23 +121,23 @@ module _ (ds : List Declaration) (p : Program) (own : p.stages ≡ stages_of ds)
 
   -- ---- those of a stage
 
-  cases_same : (vars : Variables) (domain : Area) (bs : List Branch) → All (IsSoundBranch (declared_names ds)) bs
+  cases_same : (vars : Variables) (domain : Area) (bs : List Branch) → All (IsSoundBranch (symbols_declared_by_items ds)) bs
       → AreSame (flat_map reads_in (map (λ q. q.formula) (map (case_of p vars domain) bs))) (branch_accesses (stages_of ds) bs)
   cases_same vars domain [] h = tt
   cases_same vars domain (b ∷ bs) h =
       both (reads_in (formula_of p vars b.value)) (flat_map reads_in (map (λ q. q.formula) (map (case_of p vars domain) bs)))
       (accesses_of (stages_of ds) b.value) (branch_accesses (stages_of ds) bs)
-      (reads_same vars b.value (All-head (IsSoundBranch (declared_names ds)) b bs h).value)
-      (cases_same vars domain bs (All-tail (IsSoundBranch (declared_names ds)) b bs h))
+      (reads_same vars b.value (All-head (IsSoundBranch (symbols_declared_by_items ds)) b bs h).value)
+      (cases_same vars domain bs (All-tail (IsSoundBranch (symbols_declared_by_items ds)) b bs h))
 
-  otherwise_same : (vars : Variables) (o : Option Node) → ForSome o (IsSound (declared_names ds))
+  otherwise_same : (vars : Variables) (o : Option Node) → ForSome o (IsSound (symbols_declared_by_items ds))
       → AreSame (flat_map reads_in (other_formula (option_map (formula_of p vars) o))) (otherwise_accesses (stages_of ds) o)
   otherwise_same vars None h = tt
   otherwise_same vars (Some a) h =
       subst (λ (xs : List Read). AreSame xs (accesses_of (stages_of ds) a)) (sym (append-nil (reads_in (formula_of p vars a))))
       (reads_same vars a (h a refl))
 
-  pub body_same : (d : Declaration) (x : Symbol) (s : Stage) → IsStageOf p d x s → IsSoundItem (declared_names ds) d
+  pub body_same : (d : Declaration) (x : Symbol) (s : Stage) → IsStageOf p d x s → IsSoundItem (symbols_declared_by_items ds) d
       → AreSame (reads_of s.body) (item_accesses (stages_of ds) d)
   body_same (tree.param y) x s is h = absurd is
   body_same (tree.image i) x s is h = subst (λ (t : Stage). AreSame (reads_of t.body) []) (sym is.1) tt
@@ -164,7 +164,7 @@ module _ (ds : List Declaration) (p : Program) (own : p.stages ≡ stages_of ds)
 
   -- ---- ranks
 
-  module _ (once : NoneTwice (declared_names ds) ds) (each : length p.ranks ≡ length (stages_of ds)) where
+  module _ (once : NoneTwice (symbols_declared_by_items ds) ds) (each : length p.ranks ≡ length (stages_of ds)) where
     ranks_same : (xs : List Read) (ys : List Access) → AreSame xs ys
         → map (λ x. rank_of (flat_map (item_stages p) ds) (stage_read x)) xs ≡ map (slice_index p.ranks) (map accesses.stage_read ys)
     ranks_same [] [] h = refl
@@ -183,7 +183,7 @@ module _ (ds : List Declaration) (p : Program) (own : p.stages ≡ stages_of ds)
         ap (λ b. cond b 0 (greatest (map (slice_index p.ranks) (accesses.reads_of (stages_of ds) o)) + 1)) e
         ∙ ap (λ (q : Option Declaration). greatest (map (slice_index p.ranks) (accesses.reads_of (stages_of ds) q)) + 1) there
 
-    rank_is : (d : Declaration) (x : Symbol) (s : Stage) → IsStageOf p d x s → IsSoundItem (declared_names ds) d
+    rank_is : (d : Declaration) (x : Symbol) (s : Stage) → IsStageOf p d x s → IsSoundItem (symbols_declared_by_items ds) d
         → slice_get ds x.item ≡ Some d
         → rank_over (slice_index p.ranks) (links_of ds (stages_of ds) x) ≡ rank_by (flat_map (item_stages p) ds) s.body
     rank_is (tree.param y) x s is h there = absurd is
@@ -205,7 +205,7 @@ module _ (ds : List Declaration) (p : Program) (own : p.stages ≡ stages_of ds)
         ∙ ap (λ (t : Stage). rank_by (flat_map (item_stages p) ds) t.body) (sym is.2)
     rank_is (tree.output o) x s is h there = absurd is
 
-    pub ranked : (g : ℕ) (s : Stage) (at : IsAt ds p g s) → IsSoundItem (declared_names ds) at.item
+    pub ranked : (g : ℕ) (s : Stage) (at : IsAt ds p g s) → IsSoundItem (symbols_declared_by_items ds) at.item
         → slice_index p.ranks g ≡ rank_over (slice_index p.ranks) (links_at (graph_of ds) g)
         → s.rank ≡ rank_by (flat_map (item_stages p) ds) s.body
     ranked g s at sound recurs =

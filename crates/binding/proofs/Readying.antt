@@ -14,7 +14,7 @@ use Rattle.pipe_tree.specs.declared.tree.Names.TheVariants.{One, Three}
 use Rattle.pipe_tree.specs.Tree as tree
 use Rattle.pipe_tree.specs.Tree.{Node, Branch, Function, Accumulator, Declaration}
 use Rattle.pipe_checks.specs.declared.symbol.Symbol.{Symbol}
-use Rattle.pipe_checks.specs.Names.{names_of, item_names, names_from, is_stage, declared_names, stages_of, number_of}
+use Rattle.pipe_checks.specs.Names.{names_of, item_names, names_from, is_stage, symbols_declared_by_items, stages_of, number_of}
 use Rattle.pipe_checks.specs.Checking.{IsNamed}
 use Rattle.pipe_checks.proofs.Accepted.{IsTableKind, IsNameOf, IsSound, IsSoundBranch, IsSoundItem, sound_item}
 use Rattle.pipe_bounds.specs.StageBounds.{StageBounds, AreBoxes, IsBoundsOf, AreBoundsOf}
@@ -34,9 +34,9 @@ use Rattle.binding.proofs.NumberLaws.{number_at}
 
 -- ---- numbers
 
-module _ (ds : List Declaration) (given : List Table) (handed : (x : List ℕ) → IsNameOf IsTableKind (declared_names ds) x → HasEntries given x) where
+module _ (ds : List Declaration) (given : List Table) (handed : (x : List ℕ) → IsNameOf IsTableKind (symbols_declared_by_items ds) x → HasEntries given x) where
   abbrev names : List Symbol
-  names = declared_names ds
+  names = symbols_declared_by_items ds
 
   ranged : (a : Node) → IsSound names a → IsRanged given a
   ranged (tree.number n) h = omega arith

@@ -16,7 +16,7 @@ use Rattle.pipe_tree.specs.Tree.{Declaration}
 use Rattle.pipe_checks.specs.declared.symbol.Symbol.{Symbol}
 use Rattle.pipe_checks.specs.declared.symbol.SymbolKind.TheVariants.{Plane, Func, Accum}
 use Rattle.pipe_checks.specs.Graph.{links_at}
-use Rattle.pipe_checks.specs.Names.{names_of, item_names, names_from, is_stage, declared_names, stages_of, number_of}
+use Rattle.pipe_checks.specs.Names.{names_of, item_names, names_from, is_stage, symbols_declared_by_items, stages_of, number_of}
 use Rattle.pipe_checks.specs.Accesses.{links_of, graph_of}
 use Rattle.pipe_checks.specs.Checking.{NoneTwice}
 use Rattle.job.specs.Pipeline.{Stage, rank_of}
@@ -152,7 +152,7 @@ module _ (ds : List Declaration) (p : Program) where
 
   -- ---- ranks
 
-  module _ (own : p.stages ≡ stages_of ds) (once : NoneTwice (declared_names ds) ds) where
+  module _ (own : p.stages ≡ stages_of ds) (once : NoneTwice (symbols_declared_by_items ds) ds) where
     pub number_is : (g : ℕ) (x : Symbol) → slice_get (stages_of ds) g ≡ Some x → number_of p.stages x.name ≡ Some g
     number_is g x there = ap (λ (xs : List Symbol). number_of xs x.name) own ∙ number_at ds once g x there
 

@@ -8,7 +8,7 @@ use Rattle.std.proofs.lemmas.Int.{ints}
 use Rattle.std.proofs.lemmas.Bool.{false≢true, and_parts}
 use Rattle.std.proofs.lemmas.Bool.Decides.{nat_tests}
 use Rattle.std.proofs.lemmas.Option.{none-some, same_Some, slice_get-get_or}
-use Rattle.pipe_tokens.specs.Naming.{is_identifier, is_name}
+use Rattle.pipe_tokens.specs.Naming.{is_identifier, is_identifier_of_name_length}
 use Rattle.job.specs.WellFormed.{IsTable}
 use Rattle.std.proofs.lemmas.List.Elements.{filter-append}
 use Rattle.domains.proofs.Places.{all_at}
@@ -22,7 +22,7 @@ use Rattle.pipe_tree.specs.Tree.{Declaration}
 use Rattle.pipe_checks.specs.declared.symbol.Symbol.{Symbol}
 use Rattle.pipe_checks.specs.declared.symbol.SymbolKind.{SymbolKind}
 use Rattle.pipe_checks.specs.declared.symbol.SymbolKind.TheVariants.{Param, Table as TableKind, Plane, Func, Accum}
-use Rattle.pipe_checks.specs.Names.{names_of, item_names, names_from, is_table, declared_names, tables_of}
+use Rattle.pipe_checks.specs.Names.{names_of, item_names, names_from, is_table, symbols_declared_by_items, tables_of}
 use Rattle.pipe_checks.proofs.Accepted.{IsTableKind, IsNameOf}
 use Rattle.pipe_bounds.specs.declared.params.Setting.{Setting}
 use Rattle.pipe_bounds.specs.Settings.{affine_value}
@@ -131,10 +131,10 @@ module _ (ds : List Declaration) (ss : List Setting) (given : List Table) (stand
       let bins = subst (λ (t : TableText). IsBins (affine_value ss t.span.first) (affine_value ss t.span.last) (Ok span.0)) one span.1.2 in
       entries_are _ _ g.lo (length g.values) span.0 bins text.2.first text.2.last
 
-  pub entries_named_by : (x : List ℕ) → IsNameOf IsTableKind (declared_names ds) x → HasEntries given x
+  pub entries_named_by : (x : List ℕ) → IsNameOf IsTableKind (symbols_declared_by_items ds) x → HasEntries given x
   entries_named_by x n =
       let first : find (λ e. bytes_eq e.name x) (tables_of ds) ≡ Some n.declared =
-      find-filter (λ e. bytes_eq e.name x) keeps (declared_names ds) n.declared (declared_found (declared_names ds) x n.declared n.found)
+      find-filter (λ e. bytes_eq e.name x) keeps (symbols_declared_by_items ds) n.declared (declared_found (symbols_declared_by_items ds) x n.declared n.found)
       (kept n.declared.kind n.kind) in
       let text =
       find_zip (Declares 0 ds) (λ e. bytes_eq e.name x) (λ t. bytes_eq t.name x)
@@ -155,7 +155,7 @@ entries_fit given x small h =
       fit = (all_at IsSmallTable given at.0 h.table small at.1).fit;
     })
 
-name_long : (x : List ℕ) → is_name x ≡ true → (1 ≤ length x) × (length x ≤ 32)
+name_long : (x : List ℕ) → is_identifier_of_name_length x ≡ true → (1 ≤ length x) × (length x ≤ 32)
 name_long [] h = absurd (false≢true h)
 name_long (b ∷ x) h =
     let most = (and_parts (is_identifier (b ∷ x)) (nat_le (length (b ∷ x)) 32) h).1 in (omega arith, grind (arith, nat_tests, most))

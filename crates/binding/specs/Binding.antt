@@ -1,7 +1,7 @@
 -- What a program is at the values of its parameters: names become numbers of stages, extents become numbers.
 use Rattle.std.specs.Prelude.{ℕ, ◌==◌, ℤ, pos, ◌+ℤ◌, ◌-ℤ◌, ◌≡◌, Bool, false, not, ◌&&◌, if◌then◌else◌, Option, Some, None, unwrap_or}
 use Rattle.std.specs.Prelude.{List, [], ◌∷◌, map, filter, length, slice_get, slice_index, FitsSigned, All, IsTrue}
-use Rattle.pipe_tokens.specs.Naming.{is_name}
+use Rattle.pipe_tokens.specs.Naming.{is_identifier_of_name_length}
 use Rattle.std.specs.Int.{w32}
 use Rattle.std.specs.List.{flat_map, find, AllZip}
 use Rattle.std.specs.Option.{option_map, option_map_or}
@@ -65,7 +65,7 @@ AreSmall settings = (k : ℕ) (s : Setting) (v : ℤ) → slice_get settings k �
 
 -- a table has a name of the language, and each of its entries is a number of 32 bits
 pub record IsSmallTable (t : Table) : Type 0 where
-  pub named : IsTrue (is_name t.name)
+  pub named : IsTrue (is_identifier_of_name_length t.name)
   pub fit : All (FitsSigned w32) t.values
 
 abbrev pub AreSmallTables : List Table → Type 0

@@ -21,7 +21,7 @@ ghost use Rattle.pipe_print.specs.Canonical.{canonical};
 
 use crate::fault::BindFault;
 use crate::fits::check_declared_picture_shape;
-use crate::handed::{find_first_supplied_table_mismatch, prove_supplied_tables_are_small};
+use crate::handed::{find_index_of_mismatched_supplied_table, prove_supplied_tables_fit_i32};
 use crate::outputs::{find_only_declared_picture, resolve_job_parameters};
 use crate::resolve::JobResolver;
 use crate::settings::infer_parameters_from_picture;
@@ -43,7 +43,7 @@ struct JobParts {
     params: Vec<Parameter>,
 }
 
-fn to_bind_fault(fault: BoundFault) -> BindFault
+fn convert_bound_fault_to_bind_fault(fault: BoundFault) -> BindFault
     ensures { ((fault ≡ BoundFault.Memory) × (result ≡ Memory))
         ⊎ ((fault ≢ BoundFault.Memory) × (result ≡ Bounds fault)) }
 {
@@ -84,7 +84,7 @@ fn resolve_job_parts(
 }
 
 // What is found of the stages, if the program is in bounds and the tables and the picture fit.
-fn check_bounds_and_inputs_of_job_parts(
+fn find_bounds_and_check_job_part_inputs(
     alloc: Global,
     checked: &Checked,
     params: &Params,
@@ -107,18 +107,18 @@ fn check_bounds_and_inputs_of_job_parts(
 {
     match find_program_bounds(alloc, checked, params) {
         Ok(found) => {
-            if let Some(table) = find_first_supplied_table_mismatch(
+            if let Some(table) = find_index_of_mismatched_supplied_table(
                 params,
                 checked.tree().items(),
                 tables,
             ) {
                 return Err(BindFault::TableMismatch(table));
             }
-            prove_supplied_tables_are_small(tables);
+            prove_supplied_tables_fit_i32(tables);
             check_declared_picture_shape(params, image, picture)?;
             Ok(found.stages)
         }
-        Err(fault) => Err(to_bind_fault(fault)),
+        Err(fault) => Err(convert_bound_fault_to_bind_fault(fault)),
     }
 }
 
@@ -139,7 +139,7 @@ fn build_job_parts_for_image(
         picture.now f) }
 {
     let settled = infer_parameters_from_picture(alloc, image, picture, params)?;
-    let found = check_bounds_and_inputs_of_job_parts(
+    let found = find_bounds_and_check_job_part_inputs(
         alloc, checked, &settled, tables, image, picture,
     )?;
     match resolve_job_parts(alloc, checked, &settled, tables, &found) {

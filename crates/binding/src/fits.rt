@@ -35,7 +35,7 @@ fn has_declared_picture_extents(params: &Params, image: &Image, picture: &Pictur
         && is_declared_picture_side(params, &image.columns, picture.cols())
 }
 
-fn has_declared_picture_planes(image: &Image, picture: &Picture) -> bool
+fn has_declared_picture_plane_count(image: &Image, picture: &Picture) -> bool
     ensures image { IsImage picture.now }
     ensures fit { IsTrue result ↔ PlanesFit image.now picture.now }
 {
@@ -53,7 +53,7 @@ pub(crate) fn check_declared_picture_shape(
     ensures image { IsImage picture.now }
     ensures fault { IfErr result (IsPictureFault params.now image.now picture.now) }
 {
-    if !has_declared_picture_planes(image, picture) {
+    if !has_declared_picture_plane_count(image, picture) {
         return Err(BindFault::Planes);
     }
     if !has_declared_picture_extents(params, image, picture) {

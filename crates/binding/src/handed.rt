@@ -16,7 +16,7 @@ use pipe_tokens::Name;
 use pipe_tree::Item;
 
 // The last index that a table has an entry for.
-fn find_last_index_of_supplied_table(table: &Table) -> i128
+fn compute_greatest_index_of_supplied_table(table: &Table) -> i128
     ensures { result ≡ (table.now.lo +ℤ pos (length table.now.values)) -ℤ pos 1 }
 {
     i128::from(table.lo) + table.values.as_slice().len() as i128 - 1
@@ -32,7 +32,8 @@ fn is_supplied_table_as_declared(
 {
     is_same_name(&given.name, &declared.name)
         && affine_value(params, &declared.span.first) == i128::from(given.lo)
-        && affine_value(params, &declared.span.last) == find_last_index_of_supplied_table(given)
+        && affine_value(params, &declared.span.last)
+            == compute_greatest_index_of_supplied_table(given)
 }
 
 /// The first of the tables that has this name.
@@ -43,7 +44,7 @@ pub(crate) fn find_supplied_table_by_name<'a>(tables: &'a [Table], name: &Name) 
 }
 
 /// The number of the first supplied table that does not match its declaration.
-pub(crate) fn find_first_supplied_table_mismatch(
+pub(crate) fn find_index_of_mismatched_supplied_table(
     params: &Params,
     items: &[Item],
     given: &[Table],
@@ -76,7 +77,7 @@ fn prove_supplied_table_entries_fit_i32(entries: &[i32])
 }
 
 // A table has a name, and entries of 32 bits.
-fn prove_supplied_table_is_small(table: &Table)
+fn prove_supplied_table_fits_i32(table: &Table)
     ensures { IsSmallTable table.now }
 {
     let _name = table.name.as_bytes();
@@ -84,10 +85,10 @@ fn prove_supplied_table_is_small(table: &Table)
 }
 
 /// All tables have names, and entries of 32 bits.
-pub(crate) fn prove_supplied_tables_are_small(tables: &[Table])
+pub(crate) fn prove_supplied_tables_fit_i32(tables: &[Table])
     ensures { AreSmallTables tables.now }
 {
     for table in tables {
-        prove_supplied_table_is_small(table);
+        prove_supplied_table_fits_i32(table);
     }
 }

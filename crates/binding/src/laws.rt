@@ -19,7 +19,7 @@ ghost use Rattle.binding.specs.Texts.{copying, unset, two_by_two, copy, square, 
 ghost use Rattle.job.specs.Worked.{sides as sides_of};
 
 /// The stages of a job are those that its program declares, in this order.
-pub fn bind_keeps_stage_numbers()
+pub fn bind_keeps_stage_names_and_order()
     ensures { (p : Program) (items : List Declaration)
         → map (λ s. s.name) (flat_map (item_stages p) items) ≡ map (λ d. d.name) (stages_of items) }
 {}

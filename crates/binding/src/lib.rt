@@ -1,7 +1,8 @@
 //! From a checked program to a job: names become numbers of stages, parameters their values, and the picture takes its place.
 //! Otherwise the first fault is reported.
 //!
-//! Words: bind, resolve, job resolver, resolved stage, job part, declared picture, supplied table, infer parameter.
+//! Words: bind, resolve, job resolver, resolved stage, job part, declared picture, supplied table, infer parameter, sought
+//! parameter.
 #![tactic(auto)]
 
 mod bound;

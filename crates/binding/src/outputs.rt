@@ -17,19 +17,19 @@ use pipe_tree::{Image, Item, Names};
 use std::alloc::{AllocError, Global};
 
 impl JobResolver<'_> {
-    fn resolve_stage_numbers(&self, names: &Names) -> Result<Vec<usize>, AllocError>
+    fn resolve_names_to_stage_numbers(&self, names: &Names) -> Result<Vec<usize>, AllocError>
         ensures { IfOk result
             (λ v. v.items ≡ map (stage_number (program_in self.now)) (names_in names.now)) }
     {
         let mut numbers = Vec::new(self.alloc);
         match names {
             Names::One(name) => {
-                numbers.push(self.find_stage_number(name))?;
+                numbers.push(self.resolve_name_to_stage_number(name))?;
             }
             Names::Three(red, green, blue) => {
-                numbers.push(self.find_stage_number(red))?;
-                numbers.push(self.find_stage_number(green))?;
-                numbers.push(self.find_stage_number(blue))?;
+                numbers.push(self.resolve_name_to_stage_number(red))?;
+                numbers.push(self.resolve_name_to_stage_number(green))?;
+                numbers.push(self.resolve_name_to_stage_number(blue))?;
             }
         }
         Ok(numbers)
@@ -38,7 +38,10 @@ impl JobResolver<'_> {
     fn resolve_output_item(&self, output: &pipe_tree::Output) -> Result<Output, AllocError>
         ensures { IfOk result (λ o. output_view o ≡ output_of (program_in self.now) output.now) }
     {
-        Ok(Output::new(self.resolve_stage_numbers(&output.names)?, output.max))
+        Ok(Output::new(
+            self.resolve_names_to_stage_numbers(&output.names)?,
+            output.max,
+        ))
     }
 
     /// The first output, if there is one.

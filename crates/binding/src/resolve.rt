@@ -46,7 +46,7 @@ fn resolve_number_literal(number: u32) -> i32
     number as i32
 }
 
-fn resolve_variable_axis(own: &VariableNames, name: &Name) -> Axis
+fn resolve_variable_name_to_axis(own: &VariableNames, name: &Name) -> Axis
     ensures { axis_view result ≡ axis_of (variables_in own.now) name.now }
 {
     if is_same_name(name, &own.row) {
@@ -88,21 +88,23 @@ pub(crate) struct JobResolver<'a> {
 
 impl JobResolver<'_> {
     /// The number of the stage of this name.
-    pub fn find_stage_number(&self, name: &Name) -> usize
+    pub fn resolve_name_to_stage_number(&self, name: &Name) -> usize
         ensures { result ≡ stage_number (program_in self.now) name.now }
     {
         find_symbol_number(self.checked.stages(), name).unwrap_or(0)
     }
 
     /// The rank of the stage of this name.
-    pub fn find_stage_rank(&self, name: &Name) -> usize
+    pub fn resolve_name_to_stage_rank(&self, name: &Name) -> usize
         ensures { result ≡ rank_named (program_in self.now) name.now }
     {
-        self.checked.rank(self.find_stage_number(name)).unwrap_or(0)
+        self.checked
+            .rank(self.resolve_name_to_stage_number(name))
+            .unwrap_or(0)
     }
 
     /// The index of the plane of this name among the planes.
-    pub fn find_plane_number(&self, name: &Name) -> Result<usize, AllocError>
+    pub fn resolve_name_to_plane_number(&self, name: &Name) -> Result<usize, AllocError>
         ensures { IfOk result (λ n. n ≡ plane_number (program_in self.now) name.now) }
     {
         let planes = collect_declared_picture_planes(self.alloc, self.checked.stages())?;
@@ -110,12 +112,12 @@ impl JobResolver<'_> {
     }
 
     // The entries of the table of this name.
-    fn find_table_entries(&self, name: &Name) -> Result<TableEntries, AllocError>
+    fn resolve_name_to_table_entries(&self, name: &Name) -> Result<TableEntries, AllocError>
         requires { HasEntries self.now.tables.now name.now }
         ensures { IfOk result (λ e. e ≡ entries_named (program_in self.now) name.now) }
     {
         let table = find_supplied_table_by_name(self.tables, name).unwrap();
-        Ok(TableEntries::from_table(table)?.unwrap())
+        Ok(TableEntries::from_table_if_within_limits(table)?.unwrap())
     }
 
     fn resolve_variable_or_parameter(&self, own: &VariableNames, name: &Name) -> Formula
@@ -142,12 +144,12 @@ impl JobResolver<'_> {
             Expr::Number(number) => Ok(Formula::Number(resolve_number_literal(*number))),
             Expr::Name(name) => Ok(self.resolve_variable_or_parameter(own, name)),
             Expr::Read(name, row, column) => Ok(Formula::Read(
-                self.find_stage_number(name),
+                self.resolve_name_to_stage_number(name),
                 to_domain_index(row),
                 to_domain_index(column),
             )),
             Expr::Lookup(name, index) => Ok(Formula::Lookup(
-                self.find_table_entries(name)?,
+                self.resolve_name_to_table_entries(name)?,
                 self.resolve_boxed_formula(own, index)?,
             )),
             Expr::Unary(op, operand) => Ok(Formula::Unary(
@@ -176,7 +178,7 @@ impl JobResolver<'_> {
                 self.resolve_boxed_formula(own, otherwise)?,
             )),
             Expr::Stencil(name, divisor, kernel) => Ok(Formula::Stencil(
-                self.find_stage_number(name),
+                self.resolve_name_to_stage_number(name),
                 *divisor,
                 resolve_job_kernel(self.alloc, kernel)?,
             )),
@@ -202,12 +204,12 @@ impl JobResolver<'_> {
     {
         match test {
             pipe_tree::Test::Compare(name, relation, bound) => PointTest::Compare(
-                resolve_variable_axis(own, name),
+                resolve_variable_name_to_axis(own, name),
                 *relation,
                 affine_value(self.params, bound),
             ),
             pipe_tree::Test::Remainder(name, modulus, rest) => {
-                PointTest::Remainder(resolve_variable_axis(own, name), *modulus, *rest)
+                PointTest::Remainder(resolve_variable_name_to_axis(own, name), *modulus, *rest)
             }
         }
     }

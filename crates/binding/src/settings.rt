@@ -14,7 +14,7 @@ use pipe_tokens::Name;
 use pipe_tree::{Affine, Image};
 use std::alloc::{AllocError, Global};
 
-fn can_infer_parameter_from_term(name: &Option<Name>, wanted: &Name) -> bool
+fn is_name_of_sought_parameter(name: &Option<Name>, wanted: &Name) -> bool
     ensures { result ≡ option_map_or (λ x. bytes_eq x wanted.now) name.now false }
 {
     match name {
@@ -23,13 +23,13 @@ fn can_infer_parameter_from_term(name: &Option<Name>, wanted: &Name) -> bool
     }
 }
 
-fn can_infer_parameter_from_extent(extent: &Affine, name: &Name) -> bool
+fn is_extent_sought_parameter_alone(extent: &Affine, name: &Name) -> bool
     ensures { result ≡ is_exactly extent.now name.now }
 {
     match extent.terms() {
         [term] => !term.negative
             && term.factor == 1
-            && can_infer_parameter_from_term(&term.name, name),
+            && is_name_of_sought_parameter(&term.name, name),
         _ => false,
     }
 }
@@ -38,16 +38,16 @@ fn can_infer_parameter_from_extent(extent: &Affine, name: &Name) -> bool
 fn infer_parameter_from_picture_side(image: &Image, picture: &Picture, name: &Name) -> Option<i32>
     ensures { result ≡ side_of image.now picture.now name.now }
 {
-    if can_infer_parameter_from_extent(&image.rows, name) {
+    if is_extent_sought_parameter_alone(&image.rows, name) {
         return Some(picture.rows() as i32);
     }
-    if can_infer_parameter_from_extent(&image.columns, name) {
+    if is_extent_sought_parameter_alone(&image.columns, name) {
         return Some(picture.cols() as i32);
     }
     None
 }
 
-fn infer_parameter_if_unset(image: &Image, picture: &Picture, setting: &Setting) -> Option<i32>
+fn keep_value_or_infer_parameter(image: &Image, picture: &Picture, setting: &Setting) -> Option<i32>
     ensures value { result ≡ settled image.now picture.now setting.now.name setting.now.value }
     ensures small { IfSome result (FitsSigned w32) }
 {
@@ -71,7 +71,7 @@ pub(crate) fn infer_parameters_from_picture(
     for setting in params.settings() {
         settings.push(Setting {
             name: setting.name,
-            value: infer_parameter_if_unset(image, picture, setting),
+            value: keep_value_or_infer_parameter(image, picture, setting),
         })?;
     }
     Ok(Params::from_settings(settings))

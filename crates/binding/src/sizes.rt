@@ -36,7 +36,7 @@ fn count_resolved_stage_columns(pipeline: &BoundPipeline, stage: usize) -> u32
     }
 }
 
-fn is_resolved_stage_of_size(
+fn is_resolved_stage_of_exact_size(
     pipeline: &BoundPipeline,
     rows: u32,
     columns: u32,
@@ -48,7 +48,7 @@ fn is_resolved_stage_of_size(
         && count_resolved_stage_columns(pipeline, stage) == columns
 }
 
-fn are_resolved_stages_of_size(
+fn are_resolved_stages_of_exact_size(
     pipeline: &BoundPipeline,
     rows: u32,
     columns: u32,
@@ -57,7 +57,7 @@ fn are_resolved_stages_of_size(
     ensures { IsTrue result ↔ All (HasSides (pipeline_of pipeline.now) rows columns) stages.now }
 {
     for stage in stages {
-        if !is_resolved_stage_of_size(pipeline, rows, columns, *stage) {
+        if !is_resolved_stage_of_exact_size(pipeline, rows, columns, *stage) {
             return false;
         }
     }
@@ -72,7 +72,7 @@ fn can_bind_output_shape(pipeline: &BoundPipeline, output: &Output) -> bool
     let columns = count_resolved_stage_columns(pipeline, first);
     rows <= LONGEST_SIDE
         && columns <= LONGEST_SIDE
-        && are_resolved_stages_of_size(pipeline, rows, columns, output.stages())
+        && are_resolved_stages_of_exact_size(pipeline, rows, columns, output.stages())
 }
 
 fn can_bind_output_if_any(pipeline: &BoundPipeline) -> bool

@@ -20,7 +20,7 @@ use pipe_tree::{Accum, Case, Expr, Func, Image, Item, Names, Variable};
 use std::alloc::AllocError;
 
 // The names of these variables.
-fn resolve_variable_names(row: &Variable, column: &Variable) -> VariableNames
+fn resolve_variable_pair_to_names(row: &Variable, column: &Variable) -> VariableNames
     ensures { variables_in result ≡ variables_of row.now column.now }
 {
     VariableNames {
@@ -31,12 +31,12 @@ fn resolve_variable_names(row: &Variable, column: &Variable) -> VariableNames
 
 impl JobResolver<'_> {
     // What was found of the stage of this name.
-    fn find_stage_bounds(&self, name: &Name) -> &StageBounds
+    fn resolve_name_to_stage_bounds(&self, name: &Name) -> &StageBounds
         requires { stage_number (program_in self.now) name.now < length self.now.found.now }
         ensures { slice_get self.now.found.now (stage_number (program_in self.now) name.now)
             ≡ Some result.now }
     {
-        &self.found[self.find_stage_number(name)]
+        &self.found[self.resolve_name_to_stage_number(name)]
     }
 
     fn resolve_case(
@@ -83,7 +83,7 @@ impl JobResolver<'_> {
         Ok(job_cases)
     }
 
-    fn resolve_otherwise(
+    fn resolve_otherwise_if_any(
         &self,
         own: &VariableNames,
         otherwise: &Option<Expr>,
@@ -108,7 +108,12 @@ impl JobResolver<'_> {
           body = body;
         } }
     {
-        Stage::new(*name, self.find_stage_rank(name), *bounds.domain(), body)
+        Stage::new(
+            *name,
+            self.resolve_name_to_stage_rank(name),
+            *bounds.domain(),
+            body,
+        )
     }
 
     fn resolve_plane_stage(&self, image: &Image, name: &Name) -> Result<Stage, AllocError>
@@ -117,8 +122,12 @@ impl JobResolver<'_> {
         ensures { IfOk result
             (λ s. stage_view s ≡ plane_stage (program_in self.now) image.now name.now) }
     {
-        let plane = self.find_plane_number(name)?;
-        Ok(self.build_stage(name, self.find_stage_bounds(name), Body::Plane(plane)))
+        let plane = self.resolve_name_to_plane_number(name)?;
+        Ok(self.build_stage(
+            name,
+            self.resolve_name_to_stage_bounds(name),
+            Body::Plane(plane),
+        ))
     }
 
     fn resolve_function_stage(&self, func: &Func) -> Result<Stage, AllocError>
@@ -127,10 +136,10 @@ impl JobResolver<'_> {
         ensures { IfOk result
             (λ s. stage_view s ≡ function_stage (program_in self.now) (function_of func.now)) }
     {
-        let own = resolve_variable_names(&func.row, &func.column);
-        let bounds = self.find_stage_bounds(&func.name);
+        let own = resolve_variable_pair_to_names(&func.row, &func.column);
+        let bounds = self.resolve_name_to_stage_bounds(&func.name);
         let job_cases = self.resolve_cases(&own, bounds, func.cases.case_list())?;
-        let otherwise = self.resolve_otherwise(&own, &func.otherwise)?;
+        let otherwise = self.resolve_otherwise_if_any(&own, &func.otherwise)?;
         let body = Function::new(self.alloc, job_cases, otherwise)?;
         Ok(self.build_stage(&func.name, bounds, Body::Function(body)))
     }
@@ -141,8 +150,8 @@ impl JobResolver<'_> {
         ensures { IfOk result (λ s. stage_view s
             ≡ accumulator_stage (program_in self.now) (accumulator_of accum.now)) }
     {
-        let own = resolve_variable_names(&accum.row, &accum.column);
-        let bounds = self.find_stage_bounds(&accum.name);
+        let own = resolve_variable_pair_to_names(&accum.row, &accum.column);
+        let bounds = self.resolve_name_to_stage_bounds(&accum.name);
         let value = self.resolve_formula(&own, &accum.value)?;
         let bin = self.resolve_formula(&own, &accum.bin)?;
         let body = Accumulator::new(self.alloc, accum.fold, bounds.bins().unwrap(), value, bin)?;

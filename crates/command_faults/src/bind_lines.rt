@@ -6,8 +6,8 @@ ghost use Rattle.command_faults.specs.Taking.{Takes};
 
 use crate::lines::BindFaultLine;
 use crate::texts::{
-    write_fault_head, write_fault_texts, write_fault_words_and_count,
-    write_fault_words_and_integer, write_name_in_fault_line,
+    write_fault_head, write_fault_words_and_count, write_fault_words_and_integer,
+    write_name_in_fault_line, write_texts_in_fault_line,
 };
 use binding::BindFault;
 use fault_rows::Fault;
@@ -24,8 +24,8 @@ pub fn write_bind_fault_line<W: Sink>(
         (W.failures writer.old) (W.failures writer.new) }
 {
     write_bind_fault_head(writer, line.fault)?;
-    write_fault_blamed_name(writer, &line.blamed)?;
-    write_bounds_detail_of_fault_line(writer, line.fault)
+    write_fault_blamed_name_if_any(writer, &line.blamed)?;
+    write_bounds_detail_of_fault_line_if_any(writer, line.fault)
 }
 
 fn write_bind_fault_head<W: Sink>(writer: &mut W, fault: BindFault) -> Result<(), WriteFailed>
@@ -44,7 +44,7 @@ fn write_bind_fault_head<W: Sink>(writer: &mut W, fault: BindFault) -> Result<()
 }
 
 /// The name that a fault blames, if it blames one.
-fn write_fault_blamed_name<W: Sink>(
+fn write_fault_blamed_name_if_any<W: Sink>(
     writer: &mut W,
     blamed: &Option<Name>,
 ) -> Result<(), WriteFailed>
@@ -58,7 +58,7 @@ fn write_fault_blamed_name<W: Sink>(
 }
 
 /// Where a read leaves the domain of what it reads, and its least and greatest index.
-fn write_bounds_detail_of_fault_line<W: Sink>(
+fn write_bounds_detail_of_fault_line_if_any<W: Sink>(
     writer: &mut W,
     fault: BindFault,
 ) -> Result<(), WriteFailed>
@@ -92,11 +92,11 @@ fn write_out_of_bounds_read_in_fault_line<W: Sink>(
         (W.contents writer.old) (W.contents writer.new)
         (W.failures writer.old) (W.failures writer.new) }
 {
-    write_read_place_in_fault_line(writer, case, read, axis)?;
-    write_read_indices_in_fault_line(writer, least, greatest)
+    write_case_read_and_axis_in_fault_line(writer, case, read, axis)?;
+    write_index_range_in_fault_line(writer, least, greatest)
 }
 
-fn write_read_place_in_fault_line<W: Sink>(
+fn write_case_read_and_axis_in_fault_line<W: Sink>(
     writer: &mut W,
     case: usize,
     read: usize,
@@ -108,7 +108,7 @@ fn write_read_place_in_fault_line<W: Sink>(
 {
     write_fault_words_and_count(writer, b" case ", case)?;
     write_fault_words_and_count(writer, b" read ", read)?;
-    write_fault_texts(writer, &[b" ", choose_axis_word_in_fault_line(axis)])
+    write_texts_in_fault_line(writer, &[b" ", choose_axis_word_in_fault_line(axis)])
 }
 
 fn choose_axis_word_in_fault_line(axis: Axis) -> &'static [u8]
@@ -120,7 +120,7 @@ fn choose_axis_word_in_fault_line(axis: Axis) -> &'static [u8]
     }
 }
 
-fn write_read_indices_in_fault_line<W: Sink>(
+fn write_index_range_in_fault_line<W: Sink>(
     writer: &mut W,
     least: i32,
     greatest: i32,

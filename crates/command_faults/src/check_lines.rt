@@ -20,12 +20,12 @@ pub fn write_check_fault_line<W: Sink>(
         (W.failures writer.old) (W.failures writer.new) }
 {
     match line {
-        CheckFaultLine::Fault(fault) => write_check_fault_head_and_item(writer, fault),
+        CheckFaultLine::Fault(fault) => write_check_fault_head_and_item_number(writer, fault),
         CheckFaultLine::Cycle(names) => write_cycle_fault_line(writer, names.names.as_slice()),
     }
 }
 
-fn write_check_fault_head_and_item<W: Sink>(
+fn write_check_fault_head_and_item_number<W: Sink>(
     writer: &mut W,
     fault: &CheckFault,
 ) -> Result<(), WriteFailed>
@@ -33,7 +33,7 @@ fn write_check_fault_head_and_item<W: Sink>(
         (W.failures writer.old) (W.failures writer.new) }
 {
     write_check_fault_head(writer, fault)?;
-    write_item_in_check_fault_line(writer, fault)
+    write_item_number_in_check_fault_line(writer, fault)
 }
 
 fn write_check_fault_head<W: Sink>(writer: &mut W, fault: &CheckFault) -> Result<(), WriteFailed>
@@ -44,7 +44,7 @@ fn write_check_fault_head<W: Sink>(writer: &mut W, fault: &CheckFault) -> Result
 }
 
 /// The number of the item that a fault blames.
-fn write_item_in_check_fault_line<W: Sink>(
+fn write_item_number_in_check_fault_line<W: Sink>(
     writer: &mut W,
     fault: &CheckFault,
 ) -> Result<(), WriteFailed>

@@ -4,7 +4,8 @@ ghost use Rattle.command_faults.specs.FaultLines.{bad_file_text, bad_hex_text, f
 ghost use Rattle.command_faults.specs.Taking.{Takes};
 
 use crate::texts::{
-    write_fault_text, write_fault_texts, write_fault_words_and_count, write_offset_in_fault_line,
+    write_fault_words_and_count, write_offset_or_zero_in_fault_line, write_text_in_fault_line,
+    write_texts_in_fault_line,
 };
 use fact_lines::FactLinesFault;
 use fault_rows::Fault;
@@ -22,7 +23,7 @@ pub fn write_facts_fault_line<W: Sink>(
     match fault {
         FactLinesFault::BadHex { line } => write_bad_hex_fault_line(writer, line),
         FactLinesFault::BadFile { line, fault } => write_bad_file_fault_line(writer, line, fault),
-        FactLinesFault::Memory => write_fault_text(writer, b"memory"),
+        FactLinesFault::Memory => write_text_in_fault_line(writer, b"memory"),
     }
 }
 
@@ -31,7 +32,7 @@ fn write_bad_hex_fault_line<W: Sink>(writer: &mut W, line: usize) -> Result<(), 
         (W.failures writer.old) (W.failures writer.new) }
 {
     write_fault_words_and_count(writer, b"facts: line ", line)?;
-    write_fault_text(writer, b" bad hex")
+    write_text_in_fault_line(writer, b" bad hex")
 }
 
 /// The line's number, and the fault of the file that it is.
@@ -45,7 +46,7 @@ fn write_bad_file_fault_line<W: Sink>(
         (W.failures writer.old) (W.failures writer.new) }
 {
     write_bad_file_fault_head(writer, line, fault)?;
-    write_offset_in_fault_line(writer, fault.offset())
+    write_offset_or_zero_in_fault_line(writer, fault.offset())
 }
 
 fn write_bad_file_fault_head<W: Sink>(
@@ -59,5 +60,5 @@ fn write_bad_file_fault_head<W: Sink>(
 {
     write_fault_words_and_count(writer, b"facts: line ", line)?;
     write_fault_words_and_count(writer, b" ", usize::from(fault.number()))?;
-    write_fault_texts(writer, &[b" ", fault.name().as_bytes()])
+    write_texts_in_fault_line(writer, &[b" ", fault.name().as_bytes()])
 }

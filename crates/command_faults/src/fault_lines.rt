@@ -11,8 +11,8 @@ use crate::faults::StreamFault;
 use crate::lines::{FarmFaultLine, ParamFaultLine};
 use crate::script_lines::write_script_fault_line;
 use crate::texts::{
-    write_fault_head, write_fault_text, write_fault_texts, write_fault_words_and_count,
-    write_offset_in_fault_line,
+    write_fault_head, write_fault_words_and_count, write_offset_or_zero_in_fault_line,
+    write_text_in_fault_line, write_texts_in_fault_line,
 };
 use fault_rows::Fault;
 use pipe_bounds::ParamFault;
@@ -28,12 +28,12 @@ pub fn write_command_fault_line<W: Sink>(
 {
     match fault {
         StreamFault::Write => Ok(()),
-        fault => write_fault_with_line_feed(fault, writer),
+        fault => write_stream_fault_with_line_feed(fault, writer),
     }
 }
 
 /// The fault and a line feed.
-fn write_fault_with_line_feed<W: Sink>(
+fn write_stream_fault_with_line_feed<W: Sink>(
     fault: &StreamFault,
     writer: &mut W,
 ) -> Result<(), WriteFailed>
@@ -41,11 +41,11 @@ fn write_fault_with_line_feed<W: Sink>(
         (W.contents writer.old) (W.contents writer.new)
         (W.failures writer.old) (W.failures writer.new) }
 {
-    write_fault_without_line_feed(fault, writer)?;
-    write_fault_text(writer, b"\n")
+    write_stream_fault_without_line_feed(fault, writer)?;
+    write_text_in_fault_line(writer, b"\n")
 }
 
-fn write_fault_without_line_feed<W: Sink>(
+fn write_stream_fault_without_line_feed<W: Sink>(
     fault: &StreamFault,
     writer: &mut W,
 ) -> Result<(), WriteFailed>
@@ -53,9 +53,9 @@ fn write_fault_without_line_feed<W: Sink>(
         (W.failures writer.old) (W.failures writer.new) }
 {
     match fault {
-        StreamFault::Read => write_fault_text(writer, b"input failed"),
-        StreamFault::TooLong => write_fault_text(writer, b"input: too long"),
-        StreamFault::NoSeparator => write_fault_text(writer, b"input: no separator"),
+        StreamFault::Read => write_text_in_fault_line(writer, b"input failed"),
+        StreamFault::TooLong => write_text_in_fault_line(writer, b"input: too long"),
+        StreamFault::NoSeparator => write_text_in_fault_line(writer, b"input: no separator"),
         StreamFault::Program(fault) => {
             write_fault_head_and_offset(
                 writer,
@@ -81,7 +81,7 @@ fn write_fault_without_line_feed<W: Sink>(
         StreamFault::Facts(fault) => write_facts_fault_line(writer, *fault),
         StreamFault::Script(fault) => write_script_fault_line(writer, *fault),
         StreamFault::Farm(line) => write_farm_fault_line(writer, *line),
-        StreamFault::Memory => write_fault_text(writer, b"memory"),
+        StreamFault::Memory => write_text_in_fault_line(writer, b"memory"),
         StreamFault::Write => Ok(()),
     }
 }
@@ -99,7 +99,7 @@ fn write_fault_head_and_offset<W: Sink>(
         (W.failures writer.old) (W.failures writer.new) }
 {
     write_fault_head(writer, kind, number, name)?;
-    write_offset_in_fault_line(writer, offset)
+    write_offset_or_zero_in_fault_line(writer, offset)
 }
 
 fn write_farm_fault_line<W: Sink>(writer: &mut W, line: FarmFaultLine) -> Result<(), WriteFailed>
@@ -107,8 +107,8 @@ fn write_farm_fault_line<W: Sink>(writer: &mut W, line: FarmFaultLine) -> Result
         (W.failures writer.old) (W.failures writer.new) }
 {
     match line {
-        FarmFaultLine::SpawnFailed => write_fault_text(writer, b"farm: 1 SpawnFailed"),
-        FarmFaultLine::Close => write_fault_text(writer, b"farm: 3 Close"),
+        FarmFaultLine::SpawnFailed => write_text_in_fault_line(writer, b"farm: 1 SpawnFailed"),
+        FarmFaultLine::Close => write_text_in_fault_line(writer, b"farm: 3 Close"),
     }
 }
 
@@ -126,7 +126,7 @@ fn write_param_name_in_fault_line<W: Sink>(writer: &mut W, name: &String) -> Res
         (W.contents writer.old) (W.contents writer.new)
         (W.failures writer.old) (W.failures writer.new) }
 {
-    write_fault_texts(writer, &[b" ", name.as_bytes()])
+    write_texts_in_fault_line(writer, &[b" ", name.as_bytes()])
 }
 
 fn write_param_fault_head<W: Sink>(writer: &mut W, fault: ParamFault) -> Result<(), WriteFailed>

@@ -15,4 +15,4 @@ mod texts;
 pub use fault_lines::write_command_fault_line;
 pub use faults::StreamFault;
 pub use lines::{BindFaultLine, CheckFaultLine, FarmFaultLine, ParamFaultLine, StageNames};
-pub use texts::write_fault_texts;
+pub use texts::write_texts_in_fault_line;

@@ -3,7 +3,7 @@
 ghost use Rattle.command_faults.specs.FaultLines.{at_line_text, script_head, script_text};
 ghost use Rattle.command_faults.specs.Taking.{Takes};
 
-use crate::texts::{write_fault_head, write_offset_in_fault_line};
+use crate::texts::{write_fault_head, write_offset_or_zero_in_fault_line};
 use fault_rows::Fault;
 use gossip_events::ScriptFault;
 use streams::{Sink, WriteFailed};
@@ -17,7 +17,7 @@ pub fn write_script_fault_line<W: Sink>(
         (W.failures writer.old) (W.failures writer.new) }
 {
     write_script_fault_head(writer, fault)?;
-    write_script_fault_line_number(writer, fault)
+    write_script_fault_line_number_if_any(writer, fault)
 }
 
 fn write_script_fault_head<W: Sink>(writer: &mut W, fault: ScriptFault) -> Result<(), WriteFailed>
@@ -28,7 +28,7 @@ fn write_script_fault_head<W: Sink>(writer: &mut W, fault: ScriptFault) -> Resul
 }
 
 /// The number of the line that is at fault, if a single one is.
-fn write_script_fault_line_number<W: Sink>(
+fn write_script_fault_line_number_if_any<W: Sink>(
     writer: &mut W,
     fault: ScriptFault,
 ) -> Result<(), WriteFailed>
@@ -37,7 +37,7 @@ fn write_script_fault_line_number<W: Sink>(
 {
     match fault {
         ScriptFault::BadLine { line } | ScriptFault::NoSuchJob { line } => {
-            write_offset_in_fault_line(writer, Some(line))
+            write_offset_or_zero_in_fault_line(writer, Some(line))
         }
         ScriptFault::TooManyEvents | ScriptFault::Memory => Ok(()),
     }

@@ -11,7 +11,7 @@ use pipe_tokens::Name;
 use streams::{Sink, WriteFailed, write_all_bytes};
 
 /// Writes the text.
-pub fn write_fault_text<W: Sink>(writer: &mut W, text: &[u8]) -> Result<(), WriteFailed>
+pub fn write_text_in_fault_line<W: Sink>(writer: &mut W, text: &[u8]) -> Result<(), WriteFailed>
     ensures { Takes result text.now (W.contents writer.old) (W.contents writer.new)
         (W.failures writer.old) (W.failures writer.new) }
 {
@@ -19,13 +19,16 @@ pub fn write_fault_text<W: Sink>(writer: &mut W, text: &[u8]) -> Result<(), Writ
 }
 
 /// Writes the texts, one after another.
-pub fn write_fault_texts<W: Sink>(writer: &mut W, texts: &[&[u8]]) -> Result<(), WriteFailed>
+pub fn write_texts_in_fault_line<W: Sink>(
+    writer: &mut W,
+    texts: &[&[u8]],
+) -> Result<(), WriteFailed>
     ensures { Takes result (flat_map (λ t. t.now) texts.now)
         (W.contents writer.old) (W.contents writer.new)
         (W.failures writer.old) (W.failures writer.new) }
 {
     for text in texts {
-        write_fault_text(writer, text)?;
+        write_text_in_fault_line(writer, text)?;
     }
     Ok(())
 }
@@ -42,7 +45,7 @@ pub fn write_fault_head<W: Sink>(
         (W.failures writer.old) (W.failures writer.new) }
 {
     let mut digits = Buffer::new();
-    write_fault_texts(
+    write_texts_in_fault_line(
         writer,
         &[
             kind,
@@ -55,7 +58,7 @@ pub fn write_fault_head<W: Sink>(
 }
 
 /// Where a fault is; 0 for one that has no place.
-pub fn write_offset_in_fault_line<W: Sink>(
+pub fn write_offset_or_zero_in_fault_line<W: Sink>(
     writer: &mut W,
     offset: Option<usize>,
 ) -> Result<(), WriteFailed>
@@ -76,7 +79,7 @@ pub fn write_fault_words_and_count<W: Sink>(
         (W.failures writer.old) (W.failures writer.new) }
 {
     let mut digits = Buffer::new();
-    write_fault_texts(writer, &[words, digits.format(count).as_bytes()])
+    write_texts_in_fault_line(writer, &[words, digits.format(count).as_bytes()])
 }
 
 /// The words, followed by an integer.
@@ -91,7 +94,7 @@ pub fn write_fault_words_and_integer<W: Sink>(
 {
     let mut digits = Buffer::new();
     let digits = digits.format(value).as_bytes();
-    write_fault_texts(writer, &[words, digits])
+    write_texts_in_fault_line(writer, &[words, digits])
 }
 
 /// A name after a blank.
@@ -99,5 +102,5 @@ pub fn write_name_in_fault_line<W: Sink>(writer: &mut W, name: &Name) -> Result<
     ensures { Takes result (name_text name.now) (W.contents writer.old) (W.contents writer.new)
         (W.failures writer.old) (W.failures writer.new) }
 {
-    write_fault_texts(writer, &[b" ", name.as_bytes()])
+    write_texts_in_fault_line(writer, &[b" ", name.as_bytes()])
 }

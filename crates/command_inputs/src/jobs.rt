@@ -14,8 +14,8 @@ ghost use Rattle.command_inputs.specs.inside.Steps.{IsHeadBefore, IsProgramBefor
 use crate::bind_faults::convert_bind_fault_to_input_fault;
 use crate::programs::check_input_program;
 use crate::sections::{SEPARATOR, find_input_separator_line, split_into_three_input_sections};
-use crate::settings::make_params_of_input_program;
-use crate::table_lines::read_input_table_lines;
+use crate::settings::make_supplied_params_of_input_program;
+use crate::table_lines::parse_input_table_line_per_declaration;
 use binding::bind;
 use command_faults::StreamFault;
 use domains::TileSides;
@@ -39,8 +39,8 @@ pub fn read_input_job(
     ensures small { IfOk result (λ job. IsSmall (pipeline_in job)) }
     ensures fault { IfErr result (IsFaultOf input.items given.now sides) }
 {
-    let (tree, tables, picture) = read_input_program_and_picture(alloc, input)?;
-    bind_input_job(alloc, sides, given, tree, tables, picture)
+    let (tree, tables, picture) = parse_input_program_tables_and_picture(alloc, input)?;
+    check_and_bind_input_job(alloc, sides, given, tree, tables, picture)
 }
 
 /// The job of the program, its tables and the picture that an input of three sections spells; and the section between them, which
@@ -60,14 +60,14 @@ pub fn read_input_job_and_middle_section<'a>(
     let Some((text, middle, last)) = split_into_three_input_sections(input) else {
         return Err(StreamFault::NoSeparator);
     };
-    let (tree, tables, picture) = read_split_input_program_and_picture(alloc, text, last)?;
-    let job = bind_input_job(alloc, sides, given, tree, tables, picture)?;
+    let (tree, tables, picture) = parse_first_and_last_input_sections(alloc, text, last)?;
+    let job = check_and_bind_input_job(alloc, sides, given, tree, tables, picture)?;
     Ok((job, middle))
 }
 
 /// The program, its tables and the picture that the input spells. A raw picture keeps the input's bytes, so that no sample is
 /// copied.
-fn read_input_program_and_picture(
+fn parse_input_program_tables_and_picture(
     alloc: Global,
     input: Vec<u8>,
 ) -> Result<(Tree, Vec<Table>, Picture), StreamFault>
@@ -75,13 +75,13 @@ fn read_input_program_and_picture(
     ensures fault { (given : List Given) (sides : Sides)
         → IfErr result (IsFaultOf input.items given sides) }
 {
-    let (tree, tables, start) = read_input_program_and_tables(alloc, input.as_slice())?;
+    let (tree, tables, start) = parse_input_program_and_tables(alloc, input.as_slice())?;
     let picture = netpbm::read_picture_in_place(alloc, input, start)?;
     Ok((tree, tables, picture))
 }
 
 /// The program of the first section, its tables, and where the spelling of the picture starts.
-fn read_input_program_and_tables(
+fn parse_input_program_and_tables(
     alloc: Global,
     input: &[u8],
 ) -> Result<(Tree, Vec<Table>, usize), StreamFault>
@@ -90,13 +90,20 @@ fn read_input_program_and_tables(
     ensures fault { (given : List Given) (sides : Sides)
         → IfErr result (IsFaultOf input.now given sides) }
 {
-    let (tree, start) = read_input_program(alloc, input)?;
-    let (tables, length) = read_input_table_lines(alloc, tree.items(), &input[start..])?;
+    let (tree, start) = parse_input_program_without_check(alloc, input)?;
+    let (tables, length) = parse_input_table_line_per_declaration(
+        alloc,
+        tree.items(),
+        &input[start..],
+    )?;
     Ok((tree, tables, start + length))
 }
 
 /// The program of the first section, and where the last section starts.
-fn read_input_program(alloc: Global, input: &[u8]) -> Result<(Tree, usize), StreamFault>
+fn parse_input_program_without_check(
+    alloc: Global,
+    input: &[u8],
+) -> Result<(Tree, usize), StreamFault>
     ensures ok { IfOk result (λ read. IsProgramBefore input.now (content read.0) read.1) }
     ensures fault { (given : List Given) (sides : Sides)
         → IfErr result (IsFaultOf input.now given sides) }
@@ -109,7 +116,7 @@ fn read_input_program(alloc: Global, input: &[u8]) -> Result<(Tree, usize), Stre
 }
 
 /// The program of a text, and the tables and the picture that the last section spells.
-fn read_split_input_program_and_picture(
+fn parse_first_and_last_input_sections(
     alloc: Global,
     text: &[u8],
     last: &[u8],
@@ -119,13 +126,13 @@ fn read_split_input_program_and_picture(
     ensures fault { IfErr result (IsSpellingFault text.now last.now) }
 {
     let tree = parse(alloc, text)?;
-    let (tables, start) = read_input_table_lines(alloc, tree.items(), last)?;
+    let (tables, start) = parse_input_table_line_per_declaration(alloc, tree.items(), last)?;
     let picture = netpbm::read(alloc, &last[start..])?;
     Ok((tree, tables, picture))
 }
 
 /// The job of a program, its tables and a picture at the supplied values.
-fn bind_input_job(
+fn check_and_bind_input_job(
     alloc: Global,
     sides: TileSides,
     given: &[(String, i32)],
@@ -141,7 +148,7 @@ fn bind_input_job(
         (IsJobFault (content tree) tables.items picture given.now sides) }
 {
     let checked = check_input_program(alloc, tree)?;
-    let params = make_params_of_input_program(alloc, &checked, given)?;
+    let params = make_supplied_params_of_input_program(alloc, &checked, given)?;
     match bind(alloc, checked, &params, tables, picture, sides) {
         Ok(job) => Ok(job),
         Err((program, _, _, fault)) => Err(convert_bind_fault_to_input_fault(&program, fault)),

@@ -38,14 +38,14 @@ pub(crate) fn find_input_separator_line(input: &[u8]) -> Option<usize>
     ensures none { IfNone result (HasNoSeparator input.now) }
 {
     for at in 0..input.len() {
-        if is_input_separator_line(input, at) {
+        if has_input_separator_line_at_offset(input, at) {
             return Some(at);
         }
     }
     None
 }
 
-fn is_input_separator_line(input: &[u8], at: usize) -> bool
+fn has_input_separator_line_at_offset(input: &[u8], at: usize) -> bool
     requires { at < length input.now }
     ensures line { IsTrue result ↔ IsTrue (separates input.now at) }
     ensures room { IsTrue result → at + 3 ≤ length input.now }

@@ -12,7 +12,7 @@ use pipe_checks::Checked;
 use std::alloc::Global;
 
 /// The parameters with the supplied values.
-pub fn make_params_of_input_program(
+pub fn make_supplied_params_of_input_program(
     alloc: Global,
     checked: &Checked,
     given: &[(String, i32)],

@@ -12,7 +12,7 @@ use std::alloc::{AllocError, Global};
 use tables::{Table, TableFault};
 
 /// The tables at the head of a section, a line for each that the items declare, and where what follows them starts.
-pub fn read_input_table_lines(
+pub fn parse_input_table_line_per_declaration(
     alloc: Global,
     items: &[Item],
     section: &[u8],
@@ -23,10 +23,10 @@ pub fn read_input_table_lines(
         (IsTablesRefusal section.now (length (tables_of (declarations items.now)))) }
 {
     let wanted = declared_tables(alloc, items)?;
-    read_input_table_lines_by_count(alloc, wanted.len(), section)
+    parse_given_count_of_input_table_lines(alloc, wanted.len(), section)
 }
 
-fn read_input_table_lines_by_count(
+fn parse_given_count_of_input_table_lines(
     alloc: Global,
     count: usize,
     section: &[u8],
@@ -37,7 +37,7 @@ fn read_input_table_lines_by_count(
     let mut tables = Vec::new(alloc);
     let mut start = 0;
     for number in 0..count {
-        let (table, length) = read_input_table_line(alloc, &section[start..], number + 1)?;
+        let (table, length) = parse_first_input_table_line(alloc, &section[start..], number + 1)?;
         tables.push(table).map_err(AllocError::from)?;
         start += length;
     }
@@ -46,7 +46,7 @@ fn read_input_table_lines_by_count(
 
 /// The table of the line that a section begins with, and where what follows the line starts. A fault reports the line by this
 /// number.
-fn read_input_table_line(
+fn parse_first_input_table_line(
     alloc: Global,
     section: &[u8],
     line: usize,
@@ -54,7 +54,7 @@ fn read_input_table_line(
     ensures ok { IfOk result (λ read. BeginsWithTable section.now read.0 read.1) }
     ensures fault { IfErr result (IsLineRefusal section.now line) }
 {
-    let Some(end) = find_input_table_line_end(section) else {
+    let Some(end) = find_end_of_first_input_table_line(section) else {
         return Err(StreamFault::Tables(line));
     };
     match Table::read(alloc, &section[..end]) {
@@ -65,7 +65,7 @@ fn read_input_table_line(
 }
 
 /// The offset of the line feed that ends the first line.
-fn find_input_table_line_end(section: &[u8]) -> Option<usize>
+fn find_end_of_first_input_table_line(section: &[u8]) -> Option<usize>
     ensures { result ≡ position (λ byte. byte == 10) section.now }
 {
     section.iter().position(|byte| *byte == b'\n')

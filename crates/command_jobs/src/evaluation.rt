@@ -19,13 +19,13 @@ const LOW_SIDE: u32 = 16;
 
 /// A job in the tiles in which it is evaluated, and the schedule of its evaluation.
 #[derive(Debug, Drop)]
-pub struct CommandEvaluation {
+pub struct ScheduledCommandJob {
     pub job: Job,
     pub schedule: Schedule,
 }
 
 // The points that a schedule computes for functions and accumulators, as far as they can be counted.
-fn count_command_job_points(job: &Job, schedule: &Schedule) -> u64 {
+fn count_points_computed_for_command_job(job: &Job, schedule: &Schedule) -> u64 {
     let mut points = 0u64;
     for stage in 0..job.stages().len() {
         points = points.saturating_add(schedule.cost(stage).unwrap_or(0));
@@ -35,7 +35,7 @@ fn count_command_job_points(job: &Job, schedule: &Schedule) -> u64 {
 
 // The job in tiles of `height` rows and 4,096 columns, or as it is if these are too many. With long rows there are fewer steps
 // for each point, and fewer reads that cross tiles.
-fn retile_command_job(job: Job, height: u32) -> Job
+fn widen_command_job_tiles(job: Job, height: u32) -> Job
     ensures { IsRetiled (pipeline_in job) (pipeline_in result) }
 {
     let Some(sides) = TileSides::with_long_rows(height) else {
@@ -48,19 +48,19 @@ fn retile_command_job(job: Job, height: u32) -> Job
 }
 
 // Whether the first number of points is at most a sixteenth more than the second.
-fn are_low_command_job_tiles_worthwhile(low: u64, high: u64) -> bool {
+fn is_command_job_cost_at_most_16th_more(low: u64, high: u64) -> bool {
     low <= high.saturating_add(high / 16)
 }
 
-impl CommandEvaluation {
+impl ScheduledCommandJob {
     // The evaluation in the job's own tiles.
-    fn new(alloc: Global, job: Job, options: &Options) -> Result<CommandEvaluation, AllocError>
+    fn new(alloc: Global, job: Job, options: &Options) -> Result<ScheduledCommandJob, AllocError>
         ensures job { IfOk result (λ e. IsRetiled (pipeline_in job) (pipeline_in e.job)) }
         ensures schedule { IfOk result (λ e. IsEvaluationSchedule options.now.stored options.now.percent
             (pipeline_in e.job) e.schedule) }
     {
         let schedule = make_command_evaluation_schedule(alloc, &job, options)?;
-        Ok(CommandEvaluation { job, schedule })
+        Ok(ScheduledCommandJob { job, schedule })
     }
 }
 
@@ -71,27 +71,31 @@ impl CommandEvaluation {
 /// # Errors
 ///
 /// Fails only where memory is refused.
-pub fn plan_command_job_evaluation(
+pub fn choose_tiles_and_schedule_of_command_job(
     alloc: Global,
     job: Job,
     options: &Options,
-) -> Result<CommandEvaluation, AllocError>
+) -> Result<ScheduledCommandJob, AllocError>
     ensures job { IfOk result (λ e. IsRetiled (pipeline_in job) (pipeline_in e.job)) }
     ensures schedule { IfOk result (λ e. IsEvaluationSchedule options.now.stored options.now.percent
         (pipeline_in e.job) e.schedule) }
 {
     let sides = job.sides();
     if sides.height() != USUAL_SIDE || sides.width() != USUAL_SIDE {
-        return CommandEvaluation::new(alloc, job, options);
+        return ScheduledCommandJob::new(alloc, job, options);
     }
-    let high = CommandEvaluation::new(alloc, retile_command_job(job, USUAL_SIDE), options)?;
-    let most = count_command_job_points(&high.job, &high.schedule);
-    let low = CommandEvaluation::new(alloc, retile_command_job(high.job, LOW_SIDE), options)?;
-    if are_low_command_job_tiles_worthwhile(
-        count_command_job_points(&low.job, &low.schedule),
+    let high = ScheduledCommandJob::new(alloc, widen_command_job_tiles(job, USUAL_SIDE), options)?;
+    let most = count_points_computed_for_command_job(&high.job, &high.schedule);
+    let low = ScheduledCommandJob::new(
+        alloc,
+        widen_command_job_tiles(high.job, LOW_SIDE),
+        options,
+    )?;
+    if is_command_job_cost_at_most_16th_more(
+        count_points_computed_for_command_job(&low.job, &low.schedule),
         most,
     ) {
         return Ok(low);
     }
-    CommandEvaluation::new(alloc, retile_command_job(low.job, USUAL_SIDE), options)
+    ScheduledCommandJob::new(alloc, widen_command_job_tiles(low.job, USUAL_SIDE), options)
 }

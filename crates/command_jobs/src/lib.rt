@@ -9,6 +9,6 @@ mod result_reply;
 mod schedule;
 mod totals;
 
-pub use evaluation::{CommandEvaluation, plan_command_job_evaluation};
+pub use evaluation::{ScheduledCommandJob, choose_tiles_and_schedule_of_command_job};
 pub use result_reply::make_result_reply;
 pub use schedule::make_requested_schedule;

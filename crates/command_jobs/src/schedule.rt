@@ -8,7 +8,7 @@ ghost use Rattle.command_jobs.specs.RequestedSchedule.{requested_inlining, is_un
 ghost use Rattle.command_jobs.specs.Evaluation.{IsEvaluationSchedule};
 
 use command_line::Options;
-use grouping::{Schedule, inline_pointwise_functions};
+use grouping::{Schedule, extend_schedule_by_pointwise_inlining};
 use job::Job;
 use std::alloc::{AllocError, Global};
 
@@ -52,7 +52,7 @@ pub(crate) fn make_command_evaluation_schedule(
     if is_requested_schedule_unusual(options) {
         Ok(schedule)
     } else {
-        inline_pointwise_functions(alloc, job, schedule)
+        extend_schedule_by_pointwise_inlining(alloc, job, schedule)
     }
 }
 

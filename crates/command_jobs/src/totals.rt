@@ -20,13 +20,13 @@ pub fn make_total_lines(alloc: Global, job: &Job, totals: &[Total]) -> Result<Ve
 {
     let mut lines = Vec::new(alloc);
     for total in totals {
-        put_total_line(alloc, &mut lines, job, total)?;
+        put_total_line_if_of_accumulator(alloc, &mut lines, job, total)?;
     }
     Ok(lines)
 }
 
 /// The line of a total, if its stage is an accumulator.
-fn put_total_line(
+fn put_total_line_if_of_accumulator(
     alloc: Global,
     lines: &mut Vec<u8>,
     job: &Job,
@@ -60,7 +60,7 @@ fn put_total_line_of_accumulator(
 {
     lines.extend_from_slice(name.as_bytes())?;
     put_total_line_bin_ends(alloc, lines, span)?;
-    put_total_line_bins(alloc, lines, bins)?;
+    put_total_line_bin_values(alloc, lines, bins)?;
     lines.push(b'\n')?;
     Ok(())
 }
@@ -80,17 +80,21 @@ fn put_total_line_bin_ends(
 }
 
 /// Each number after a blank.
-fn put_total_line_bins(alloc: Global, lines: &mut Vec<u8>, bins: &[i64]) -> Result<(), AllocError>
+fn put_total_line_bin_values(
+    alloc: Global,
+    lines: &mut Vec<u8>,
+    bins: &[i64],
+) -> Result<(), AllocError>
     ensures { OnOk result (lines.new.items ≡ lines.old.items ++ flat_map bin_text bins.now) }
 {
     for bin in bins {
-        put_total_line_bin(alloc, lines, *bin)?;
+        put_total_line_bin_value(alloc, lines, *bin)?;
     }
     Ok(())
 }
 
 /// A blank and a number.
-fn put_total_line_bin(alloc: Global, lines: &mut Vec<u8>, bin: i64) -> Result<(), AllocError>
+fn put_total_line_bin_value(alloc: Global, lines: &mut Vec<u8>, bin: i64) -> Result<(), AllocError>
     ensures { OnOk result (lines.new.items ≡ lines.old.items ++ bin_text bin) }
 {
     let text = format!(in alloc; " {bin}")?;

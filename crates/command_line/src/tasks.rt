@@ -25,7 +25,7 @@ pub enum CommandTask {
 }
 
 /// The task that the first word requests; a farm and a world have the usual settings.
-pub fn read_command_task(words: &[String]) -> Option<CommandTask>
+pub fn read_command_task_from_first_word(words: &[String]) -> Option<CommandTask>
     ensures some { IfSome result (AsksFor words.now) }
     ensures none { IfNone result ((task : TaskType) → ¬ AsksFor words.now task) }
 {

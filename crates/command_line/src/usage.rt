@@ -32,11 +32,11 @@ fn define_job_subcommand<'a>(alloc: Global, name: &'a str) -> Result<Command<'a>
 {
     Command::new(alloc, name)
         .disable_help_flag(true)
-        .arg(define_number_option(alloc, "rows"))?
-        .arg(define_number_option(alloc, "cols"))?
-        .arg(define_number_option(alloc, "percent"))?
-        .arg(define_flag_option(alloc, "stored"))?
-        .arg(define_parameter_arguments(alloc))
+        .arg(make_number_option_definition(alloc, "rows"))?
+        .arg(make_number_option_definition(alloc, "cols"))?
+        .arg(make_number_option_definition(alloc, "percent"))?
+        .arg(make_flag_option_definition(alloc, "stored"))?
+        .arg(make_parameter_argument_definition(alloc))
 }
 
 /// The command that takes a number of nodes too.
@@ -44,7 +44,7 @@ fn define_world_subcommand<'a>(alloc: Global) -> Result<Command<'a>, AllocError>
     ensures app { IfOk result (λ c. app_of c ≡ world_app) }
     ensures local { IfOk result (λ c. (fields_of c).has_globals ≡ false) }
 {
-    define_job_subcommand(alloc, "world")?.arg(define_number_option(alloc, "nodes"))
+    define_job_subcommand(alloc, "world")?.arg(make_number_option_definition(alloc, "nodes"))
 }
 
 /// The command that takes how a farm runs too.
@@ -53,16 +53,16 @@ fn define_run_subcommand<'a>(alloc: Global) -> Result<Command<'a>, AllocError>
     ensures local { IfOk result (λ c. (fields_of c).has_globals ≡ false) }
 {
     define_job_subcommand(alloc, "run")?
-        .arg(define_number_option(alloc, "nodes"))?
-        .arg(define_number_option(alloc, "turns"))?
-        .arg(define_number_option(alloc, "capacity"))?
-        .arg(define_number_option(alloc, "lose"))?
-        .arg(define_number_option(alloc, "repeat"))?
-        .arg(define_number_option(alloc, "restart"))
+        .arg(make_number_option_definition(alloc, "nodes"))?
+        .arg(make_number_option_definition(alloc, "turns"))?
+        .arg(make_number_option_definition(alloc, "capacity"))?
+        .arg(make_number_option_definition(alloc, "lose"))?
+        .arg(make_number_option_definition(alloc, "repeat"))?
+        .arg(make_number_option_definition(alloc, "restart"))
 }
 
 /// An option that takes a number.
-fn define_number_option<'a>(alloc: Global, name: &'a str) -> Arg<'a>
+fn make_number_option_definition<'a>(alloc: Global, name: &'a str) -> Arg<'a>
     ensures rule { rule_of result ≡ number_option name.entry.now }
     ensures local { result.global ≡ false }
 {
@@ -70,7 +70,7 @@ fn define_number_option<'a>(alloc: Global, name: &'a str) -> Arg<'a>
 }
 
 /// An option that takes nothing.
-fn define_flag_option<'a>(alloc: Global, name: &'a str) -> Arg<'a>
+fn make_flag_option_definition<'a>(alloc: Global, name: &'a str) -> Arg<'a>
     ensures rule { rule_of result ≡ flag_option name.entry.now }
     ensures local { result.global ≡ false }
 {
@@ -78,7 +78,7 @@ fn define_flag_option<'a>(alloc: Global, name: &'a str) -> Arg<'a>
 }
 
 /// The words that are not options, any number of them.
-fn define_parameter_arguments<'a>(alloc: Global) -> Arg<'a>
+fn make_parameter_argument_definition<'a>(alloc: Global) -> Arg<'a>
     ensures rule { rule_of result ≡ parameter_words }
     ensures local { result.global ≡ false }
 {

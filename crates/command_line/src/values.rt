@@ -17,7 +17,7 @@ pub fn parse_option_number_or_default(given: Option<&str>, usual: u32) -> Option
 }
 
 /// Whether a flag was given: its value is then the word `true`.
-pub fn is_flag_option_given(given: Option<&str>) -> bool
+pub fn is_flag_option_text_true(given: Option<&str>) -> bool
     ensures { result ≡ is_true (option_map (λ t. t.now) given.entry) }
 {
     match given {

@@ -19,10 +19,10 @@ ghost use Rattle.farm_setup.specs.declared.setup.Faults.{Faults as FaultsType};
 
 use crate::nodes::NodesArgument;
 use crate::options::{Options, PercentArgument};
-use crate::tasks::{CommandTask, read_command_task};
+use crate::tasks::{CommandTask, read_command_task_from_first_word};
 use crate::usage::define_command_line;
 use crate::values::{
-    is_flag_option_given, parse_option_number_or_default, parse_parameter_argument,
+    is_flag_option_text_true, parse_option_number_or_default, parse_parameter_argument,
 };
 use clap::error::ErrorKind;
 use clap::{ArgMatches, Error};
@@ -122,7 +122,7 @@ fn read_job_command_request(
     if has_double_dash_argument(words) {
         return Err(CommandLineRefusal::Usage);
     }
-    let Some(named) = read_command_task(words) else {
+    let Some(named) = read_command_task_from_first_word(words) else {
         return Err(CommandLineRefusal::Usage);
     };
     let matches = define_command_line(alloc)?.try_get_matches_from(words)?;
@@ -132,7 +132,7 @@ fn read_job_command_request(
     let Some(task) = read_task_with_its_options(named, given) else {
         return Err(CommandLineRefusal::Usage);
     };
-    let Some(options) = read_schedule_options(given) else {
+    let Some(options) = read_tile_and_schedule_options(given) else {
         return Err(CommandLineRefusal::Usage);
     };
     Ok(JobRequest {
@@ -163,7 +163,7 @@ fn read_task_with_its_options(named: CommandTask, given: &ArgMatches) -> Option<
 {
     match named {
         CommandTask::Run(_) => Some(CommandTask::Run(read_farm_options(given)?)),
-        CommandTask::World(_) => Some(CommandTask::World(read_node_count_option(given)?)),
+        CommandTask::World(_) => Some(CommandTask::World(read_world_node_count_option(given)?)),
         task => Some(task),
     }
 }
@@ -175,10 +175,10 @@ fn read_farm_options(given: &ArgMatches) -> Option<FarmSetup>
         → ¬ AreFarmOptions (rows_of (found_of given.now)) farm) }
 {
     let usual = FarmSetup::with_defaults();
-    let count = read_number_option(given, "nodes", u32::from(usual.nodes))?;
+    let count = read_number_option_or_default(given, "nodes", u32::from(usual.nodes))?;
     let nodes = u8::try_from(count).ok()?;
-    let turns = read_number_option(given, "turns", usual.turns)?;
-    let capacity = read_number_option(given, "capacity", usual.capacity)?;
+    let turns = read_number_option_or_default(given, "turns", usual.turns)?;
+    let capacity = read_number_option_or_default(given, "capacity", usual.capacity)?;
     FarmSetup::new(nodes, turns, capacity, read_farm_fault_options(given)?)
 }
 
@@ -190,19 +190,19 @@ fn read_farm_fault_options(given: &ArgMatches) -> Option<Faults>
 {
     let usual = FarmSetup::with_defaults().faults;
     Some(Faults {
-        lose: read_number_option(given, "lose", usual.lose)?,
-        repeat: read_number_option(given, "repeat", usual.repeat)?,
-        restart: read_number_option(given, "restart", usual.restart)?,
+        lose: read_number_option_or_default(given, "lose", usual.lose)?,
+        repeat: read_number_option_or_default(given, "repeat", usual.repeat)?,
+        restart: read_number_option_or_default(given, "restart", usual.restart)?,
     })
 }
 
 /// How many nodes the world is to have; usual if the option is absent.
-fn read_node_count_option(given: &ArgMatches) -> Option<NodesArgument>
+fn read_world_node_count_option(given: &ArgMatches) -> Option<NodesArgument>
     ensures some { IfSome result (λ nodes. HasOwn (rows_of (found_of given.now)) (World nodes)) }
     ensures none { IfNone result ((nodes : ℕ)
         → ¬ HasOwn (rows_of (found_of given.now)) (World nodes)) }
 {
-    NodesArgument::new(read_number_option(
+    NodesArgument::new(read_number_option_or_default(
         given,
         "nodes",
         u32::from(NodesArgument::with_defaults().get()),
@@ -210,24 +210,24 @@ fn read_node_count_option(given: &ArgMatches) -> Option<NodesArgument>
 }
 
 /// How the command is to be run; absent options have their usual values.
-fn read_schedule_options(given: &ArgMatches) -> Option<Options>
+fn read_tile_and_schedule_options(given: &ArgMatches) -> Option<Options>
     ensures some { IfSome result (AreOptions (rows_of (found_of given.now))) }
     ensures none { IfNone result ((options : OptionsType)
         → ¬ AreOptions (rows_of (found_of given.now)) options) }
 {
     let usual = Options::with_defaults();
-    let rows = read_number_option(given, "rows", usual.sides.height())?;
-    let cols = read_number_option(given, "cols", usual.sides.width())?;
-    let percent = read_number_option(given, "percent", usual.percent.get())?;
+    let rows = read_number_option_or_default(given, "rows", usual.sides.height())?;
+    let cols = read_number_option_or_default(given, "cols", usual.sides.width())?;
+    let percent = read_number_option_or_default(given, "percent", usual.percent.get())?;
     Some(Options {
         sides: TileSides::new(rows, cols)?,
         percent: PercentArgument::new(percent)?,
-        stored: read_flag_option(given, "stored"),
+        stored: is_flag_option_set_by_name(given, "stored"),
     })
 }
 
 /// The number of the option of this name.
-fn read_number_option(given: &ArgMatches, name: &str, usual: u32) -> Option<u32>
+fn read_number_option_or_default(given: &ArgMatches, name: &str, usual: u32) -> Option<u32>
     ensures some { IfSome result
         (IsChosen (first_of name.now (rows_of (found_of given.now))) usual) }
     ensures none { IfNone result ((n : ℕ)
@@ -237,10 +237,10 @@ fn read_number_option(given: &ArgMatches, name: &str, usual: u32) -> Option<u32>
 }
 
 /// Whether the flag of this name was given.
-fn read_flag_option(given: &ArgMatches, name: &str) -> bool
+fn is_flag_option_set_by_name(given: &ArgMatches, name: &str) -> bool
     ensures { result ≡ is_true (first_of name.now (rows_of (found_of given.now))) }
 {
-    is_flag_option_given(given.get_str(name))
+    is_flag_option_text_true(given.get_str(name))
 }
 
 /// The values of parameters.

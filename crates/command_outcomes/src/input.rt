@@ -5,7 +5,7 @@ ghost use Rattle.command_outcomes.specs.Outcomes.{CountsRead, CountsWritten, IsO
 
 use command_faults::StreamFault;
 use std::alloc::Global;
-use streams::{Source, SourceFault, read_all_bytes};
+use streams::{Source, SourceFault, read_all_bytes_within_limit};
 
 /// The most bytes of an input.
 const MAX_INPUT: usize = 536_870_912;
@@ -22,7 +22,7 @@ pub fn read_command_input_bytes<R: Source>(
     ensures fault { IfErr result (IsOfReader (R.remaining reader.old)) }
     ensures no_write { CountsWritten result 0 0 }
 {
-    match read_all_bytes(alloc, reader, MAX_INPUT) {
+    match read_all_bytes_within_limit(alloc, reader, MAX_INPUT) {
         Ok(input) => Ok(input),
         Err(SourceFault::Failed) => Err(StreamFault::Read),
         Err(SourceFault::TooLong) => Err(StreamFault::TooLong),

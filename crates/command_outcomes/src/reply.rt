@@ -36,11 +36,11 @@ pub fn write_job_reply<W: Sink>(reply: &JobReply, writer: &mut W) -> Result<(), 
     ensures { Takes result (reply_bytes reply.now) (W.contents writer.old) (W.contents writer.new)
         (W.failures writer.old) (W.failures writer.new) }
 {
-    write_job_reply_picture(&reply.picture, writer)?;
+    write_job_reply_picture_if_any(&reply.picture, writer)?;
     write_all_bytes(writer, reply.lines.as_slice())
 }
 
-fn write_job_reply_picture<W: Sink>(
+fn write_job_reply_picture_if_any<W: Sink>(
     picture: &Option<Picture>,
     writer: &mut W,
 ) -> Result<(), WriteFailed>

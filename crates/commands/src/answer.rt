@@ -5,7 +5,7 @@ ghost use Rattle.command_jobs.specs.Results.{result_bytes};
 ghost use Rattle.command_outcomes.specs.Replies.{reply_bytes};
 ghost use Rattle.job.specs.Kept.{pipeline_in};
 
-use command_jobs::{make_result_reply, plan_command_job_evaluation};
+use command_jobs::{choose_tiles_and_schedule_of_command_job, make_result_reply};
 use command_line::Options;
 use command_outcomes::JobReply;
 use job::Job;
@@ -22,7 +22,7 @@ pub fn compute_eval_reply(
 ) -> Result<JobReply, AllocError>
     ensures { IfOk result (λ reply. reply_bytes reply ≡ result_bytes (pipeline_in job)) }
 {
-    let planned = plan_command_job_evaluation(rt.alloc(), job, options)?;
+    let planned = choose_tiles_and_schedule_of_command_job(rt.alloc(), job, options)?;
     match bands::evaluate_in_bands_or_whole(rt, rt.alloc(), &planned.job, &planned.schedule) {
         Ok(answer) => make_result_reply(rt.alloc(), &planned.job, answer),
         Err(RunFault::Memory) => Err(AllocError),

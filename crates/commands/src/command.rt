@@ -12,7 +12,7 @@ ghost use Rattle.commands.specs.Sayings.{refusing_by, saying_by};
 ghost use Rattle.fact_commands.specs.declared.finding.AuditFinding.TheVariants.{AFalse, NoFalse};
 ghost use Rattle.command_faults.specs.declared.faults.StreamFault.TheVariants.{Memory, Read};
 
-use crate::finding::make_run_command_finding_without_audit;
+use crate::finding::map_run_command_success_to_no_false;
 use crate::task_stream::{check_stream, eval_stream, plan_stream};
 use command_faults::{StreamFault, write_command_fault_line};
 use command_line::{CommandLineRefusal, CommandRequest, CommandTask, read_command_request};
@@ -80,20 +80,20 @@ pub fn run_command<H: AllocGlobal + Threads + Wait + Sync, R: Source, W: Sink>(
     ensures read { result ≢ 4 → R.failures reader.new ≡ R.failures reader.old }
 {
     match read_command_request(rt.alloc(), words) {
-        Ok(request) => run_command_to_exit_status(rt, &request, reader, writer),
+        Ok(request) => run_command_request_to_exit_status(rt, &request, reader, writer),
         Err(CommandLineRefusal::Usage) => {
-            report_usage_of_run_command(writer);
+            print_usage_line_in_run_command(writer);
             1
         }
         Err(CommandLineRefusal::Memory) => {
-            report_fault_of_run_command(&StreamFault::Memory, writer);
+            print_fault_line_in_run_command(&StreamFault::Memory, writer);
             5
         }
     }
 }
 
 /// Runs the requested command, and returns its status.
-fn run_command_to_exit_status<H: AllocGlobal + Threads + Wait + Sync, R: Source, W: Sink>(
+fn run_command_request_to_exit_status<H: AllocGlobal + Threads + Wait + Sync, R: Source, W: Sink>(
     rt: &H,
     request: &CommandRequest,
     reader: &mut R,
@@ -130,18 +130,18 @@ fn run_command_to_exit_status<H: AllocGlobal + Threads + Wait + Sync, R: Source,
     ensures known { result ≤ 6 }
     ensures read { result ≢ 4 → R.failures reader.new ≡ R.failures reader.old }
 {
-    match run_command_to_audit_finding(rt, request, reader, writer) {
+    match run_command_request_to_audit_finding(rt, request, reader, writer) {
         Ok(AuditFinding::NoFalse) => 0,
         Ok(AuditFinding::AFalse) => 6,
         Err(fault) => {
-            report_fault_of_run_command(&fault, writer);
+            print_fault_line_in_run_command(&fault, writer);
             fault.exit_status()
         }
     }
 }
 
 /// Runs the requested command.
-fn run_command_to_audit_finding<H: AllocGlobal + Threads + Wait + Sync, R: Source, W: Sink>(
+fn run_command_request_to_audit_finding<H: AllocGlobal + Threads + Wait + Sync, R: Source, W: Sink>(
     rt: &H,
     request: &CommandRequest,
     reader: &mut R,
@@ -153,30 +153,30 @@ fn run_command_to_audit_finding<H: AllocGlobal + Threads + Wait + Sync, R: Sourc
     ensures write { CountsWritten result (W.failures writer.old) (W.failures writer.new) }
 {
     match request {
-        CommandRequest::Merge => make_run_command_finding_without_audit(merge_stream(
+        CommandRequest::Merge => map_run_command_success_to_no_false(merge_stream(
             rt, reader, writer,
         )),
         CommandRequest::Job(request) => {
             let options = &request.options;
             let parameters = request.parameters.as_slice();
             match request.task {
-                CommandTask::Eval => make_run_command_finding_without_audit(eval_stream(
+                CommandTask::Eval => map_run_command_success_to_no_false(eval_stream(
                     rt, options, parameters, reader, writer,
                 )),
-                CommandTask::Check => make_run_command_finding_without_audit(check_stream(
+                CommandTask::Check => map_run_command_success_to_no_false(check_stream(
                     rt, options, parameters, reader, writer,
                 )),
-                CommandTask::Plan => make_run_command_finding_without_audit(plan_stream(
+                CommandTask::Plan => map_run_command_success_to_no_false(plan_stream(
                     rt, options, parameters, reader, writer,
                 )),
                 CommandTask::Run(farm) => {
-                    make_run_command_finding_without_audit(run_stream(
+                    map_run_command_success_to_no_false(run_stream(
                         rt, &farm, options, parameters, reader, writer,
                     ))
                 }
                 CommandTask::Audit => audit_stream(rt, options, parameters, reader, writer),
                 CommandTask::World(nodes) => {
-                    make_run_command_finding_without_audit(world_stream(
+                    map_run_command_success_to_no_false(world_stream(
                         rt, nodes, options, parameters, reader, writer,
                     ))
                 }
@@ -186,7 +186,7 @@ fn run_command_to_audit_finding<H: AllocGlobal + Threads + Wait + Sync, R: Sourc
 }
 
 /// Writes the fault's line, if the writer takes it.
-fn report_fault_of_run_command<W: Sink>(fault: &StreamFault, writer: &mut W)
+fn print_fault_line_in_run_command<W: Sink>(fault: &StreamFault, writer: &mut W)
     ensures { Puts (line_of fault.now) (W.contents writer.old) (W.contents writer.new)
         (W.failures writer.old) (W.failures writer.new) }
 {
@@ -194,7 +194,7 @@ fn report_fault_of_run_command<W: Sink>(fault: &StreamFault, writer: &mut W)
 }
 
 /// Writes the usage line, if the writer takes it.
-fn report_usage_of_run_command<W: Sink>(writer: &mut W)
+fn print_usage_line_in_run_command<W: Sink>(writer: &mut W)
     ensures { Puts usage_line (W.contents writer.old) (W.contents writer.new)
         (W.failures writer.old) (W.failures writer.new) }
 {

@@ -7,7 +7,7 @@ use command_faults::StreamFault;
 use fact_commands::AuditFinding;
 
 /// The finding of a command that judges nothing.
-pub fn make_run_command_finding_without_audit(
+pub fn map_run_command_success_to_no_false(
     done: Result<(), StreamFault>,
 ) -> Result<AuditFinding, StreamFault>
     ensures { result ≡ none_false done }

@@ -19,13 +19,13 @@ pub fn make_plan_lines(alloc: Global, job: &Job, schedule: &Schedule) -> Result<
 {
     let mut lines = Vec::new(alloc);
     for number in 0..job.stages().len() {
-        put_plan_line(alloc, &mut lines, job, schedule, number)?;
+        put_plan_line_of_stage_unless_plane(alloc, &mut lines, job, schedule, number)?;
     }
     Ok(lines)
 }
 
 /// The line of the stage of this number, if it has tiles.
-fn put_plan_line(
+fn put_plan_line_of_stage_unless_plane(
     alloc: Global,
     lines: &mut Vec<u8>,
     job: &Job,
@@ -43,7 +43,7 @@ fn put_plan_line(
                 alloc,
                 lines,
                 &name,
-                find_plan_line_cost(job, schedule, number),
+                find_plan_line_cost_of_stage(job, schedule, number),
             )
         }
         _ => Ok(()),
@@ -51,7 +51,7 @@ fn put_plan_line(
 }
 
 /// What the stage of this number costs by the schedule.
-fn find_plan_line_cost(job: &Job, schedule: &Schedule, number: usize) -> Option<u64>
+fn find_plan_line_cost_of_stage(job: &Job, schedule: &Schedule, number: usize) -> Option<u64>
     requires schedule { IsScheduleOf (pipeline_in job.now) schedule.now }
     requires there { number < length (pipeline_in job.now).stages }
     ensures { result ≡ cost (pipeline_in job.now) schedule.now.inlining number }

@@ -17,14 +17,19 @@ pub fn make_check_lines(alloc: Global, job: &Job) -> Result<Vec<u8>, AllocError>
         (λ lines. lines.items ≡ check_bytes (program_text_in job.now) (pipeline_in job.now)) }
 {
     let mut lines = Vec::new(alloc);
-    put_check_line_of_identity(alloc, &mut lines, b"program", job.program_id().as_bytes())?;
-    put_check_line_of_identity(alloc, &mut lines, b"input", job.input_id().as_bytes())?;
+    put_check_line_of_word_and_identity(
+        alloc,
+        &mut lines,
+        b"program",
+        job.program_id().as_bytes(),
+    )?;
+    put_check_line_of_word_and_identity(alloc, &mut lines, b"input", job.input_id().as_bytes())?;
     put_check_lines_of_stages(alloc, &mut lines, job)?;
     Ok(lines)
 }
 
 /// A word and an identity.
-fn put_check_line_of_identity(
+fn put_check_line_of_word_and_identity(
     alloc: Global,
     lines: &mut Vec<u8>,
     word: &[u8],
@@ -66,12 +71,12 @@ fn put_check_line_of_stage(
 {
     match job.stage(number) {
         Some(stage) => {
-            put_check_line_stage_head(alloc, lines, number, stage)?;
+            put_check_line_number_kind_and_name(alloc, lines, number, stage)?;
             put_check_line_domain_and_tiles(
                 alloc,
                 lines,
                 stage.domain(),
-                count_check_line_tiles(job, number),
+                count_check_line_tiles_of_stage(job, number),
             )
         }
         None => Ok(()),
@@ -79,7 +84,7 @@ fn put_check_line_of_stage(
 }
 
 /// The number of a stage, its kind and its name.
-fn put_check_line_stage_head(
+fn put_check_line_number_kind_and_name(
     alloc: Global,
     lines: &mut Vec<u8>,
     number: usize,
@@ -137,7 +142,7 @@ fn put_check_line_domain_span(
 }
 
 /// How many tiles the stage of this number has.
-fn count_check_line_tiles(job: &Job, number: usize) -> u64
+fn count_check_line_tiles_of_stage(job: &Job, number: usize) -> u64
     ensures { result ≡ length (tiles (pipeline_in job.now) number) }
 {
     match job.grid(number) {

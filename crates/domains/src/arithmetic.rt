@@ -86,7 +86,7 @@ pub fn floor_rem(a: i32, divisor: i32) -> i32
 /// `sum + other`, wrapped at 64 bits.
 #[inline]
 #[tactic(auto, using(std::proofs::lemmas::Int::wraps))]
-pub fn wrapping_add_long(sum: i64, other: i64) -> i64
+pub fn add_wrapping_at_64_bits(sum: i64, other: i64) -> i64
     ensures { result ≡ wrapped_long (sum +ℤ other) }
 {
     sum.wrapping_add(other)
@@ -94,8 +94,8 @@ pub fn wrapping_add_long(sum: i64, other: i64) -> i64
 
 /// `sum + v`, where `v` is widened first, wrapped at 64 bits.
 #[inline]
-pub fn wrapping_add_int32_to_long(sum: i64, v: i32) -> i64
+pub fn add_int32_wrapping_at_64_bits(sum: i64, v: i32) -> i64
     ensures { result ≡ wrapped_long (sum +ℤ v) }
 {
-    wrapping_add_long(sum, i64::from(v))
+    add_wrapping_at_64_bits(sum, i64::from(v))
 }

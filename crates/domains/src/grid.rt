@@ -169,8 +169,16 @@ impl Grid {
             ↔ MeetsTile self.now area.now i j) }
         ensures order { IfOk result (λ tiles. AllPairs IsBefore tiles.items) }
     {
-        let rows = parts::find_meeting_span_parts(&self.area.rows, self.sides.height(), &area.rows);
-        let cols = parts::find_meeting_span_parts(&self.area.cols, self.sides.width(), &area.cols);
+        let rows = parts::find_range_of_meeting_span_parts(
+            &self.area.rows,
+            self.sides.height(),
+            &area.rows,
+        );
+        let cols = parts::find_range_of_meeting_span_parts(
+            &self.area.cols,
+            self.sides.width(),
+            &area.cols,
+        );
         let mut tiles = Vec::new(alloc);
         for i in rows.0..rows.1 {
             push_tiles_of_grid_row(&mut tiles, i, cols)?;

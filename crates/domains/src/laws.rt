@@ -12,7 +12,7 @@ ghost use Rattle.domains.specs.declared.area.Area.{Area};
 ghost use Rattle.domains.specs.declared.grid.Grid.{Grid};
 
 /// To wrap a number is to take the one number of the type that differs from it by a multiple of 2^32, or of 2^64.
-pub fn wrapping_is_congruence()
+pub fn wrapping_gives_the_one_congruent_number()
     ensures at_32 { (n : ℤ) → IsWrapped w32 (pos (2 ^ 32)) n (wrapped n) }
     ensures only_at_32 { (n r : ℤ) → IsWrapped w32 (pos (2 ^ 32)) n r → r ≡ wrapped n }
     ensures at_64 { (n : ℤ) → IsWrapped w64 (pos (2 ^ 64)) n (wrapped_long n) }

@@ -58,7 +58,7 @@ pub(crate) fn find_span_part_index(span: &Span, side: u32, v: i32) -> Option<u32
 }
 
 // The first of the parts that have a number in common with `other`, and the one after the last of them.
-pub(crate) fn find_meeting_span_parts(span: &Span, side: u32, other: &Span) -> (u32, u32)
+pub(crate) fn find_range_of_meeting_span_parts(span: &Span, side: u32, other: &Span) -> (u32, u32)
     requires { 1 ≤ side }
     ensures parts { (k : ℕ) → k < part_count span.now side
         → IsTrue (spans_meet (part_of span.now side k) other.now)

@@ -7,7 +7,7 @@ use Rattle.identity.specs.declared.job_ids.JobId.{JobId}
 use Rattle.job.specs.declared.job.Job.{Job}
 use Rattle.job.specs.Kept.{pipeline_in}
 use Rattle.whole_stages.specs.Known.{IsServed}
-use Rattle.whole_stages.specs.declared.true_stages.WholeStages.{WholeStages}
+use Rattle.whole_stages.specs.declared.true_stages.ComputedWholeStages.{ComputedWholeStages}
 use Rattle.tile_fact.specs.declared.fact.Fact.{Fact}
 use Rattle.fact_audit.specs.declared.verdict.Verdict.{Verdict}
 use Rattle.fact_audit.specs.Verdicts.{IsJobVerdict, IsVerdict}
@@ -17,7 +17,7 @@ use Rattle.fact_audit.proofs.Pairing.{IsBegun, partner}
 
 -- ---- what is computed of one job
 
-pub stages_serve : {E : Type 0} (facts : List Fact) (job : Job) (named : List ℕ) (told : Result WholeStages E)
+pub stages_serve : {E : Type 0} (facts : List Fact) (job : Job) (named : List ℕ) (told : Result ComputedWholeStages E)
     → IfOk told (λ found. found.job.now ≡ job)
     → IfOk told (λ found. All (IsServed (pipeline_in job) found.known.buffers.items) named)
     → AreNamed (ids_of (entry_of job)) facts named → IfOk told (AreStagesFor facts (entry_of job))
@@ -31,7 +31,7 @@ stages_serve facts job named (Err e) same served names = tt
 
 -- ---- what is computed of all
 
-pub all_ready : (catalog : List Entry) (facts : List Fact) (known : List WholeStages) (n : ℕ) → length catalog ≤ n
+pub all_ready : (catalog : List Entry) (facts : List Fact) (known : List ComputedWholeStages) (n : ℕ) → length catalog ≤ n
     → IsBegun (AreStagesFor facts) catalog known n → AreReady catalog facts known
 all_ready catalog facts known n all begun k fact at i stands =
     let within = slice_get_within catalog i stands.0 stands.1 in
@@ -45,19 +45,19 @@ all_ready catalog facts known n all begun k fact at i stands =
 
 -- ---- a fact
 
-pub stages_for : (catalog : List Entry) (known : List WholeStages) (fact : Fact) (i : ℕ) (ids : JobId) → IsReady catalog known fact
+pub stages_for : (catalog : List Entry) (known : List ComputedWholeStages) (fact : Fact) (i : ℕ) (ids : JobId) → IsReady catalog known fact
     → ids ≡ ids_in fact.key
     → StandsAt catalog ids i → HasStagesFor catalog known fact i
 stages_for catalog known fact i ids ready same stands = ready i (subst (λ (them : JobId). StandsAt catalog them i) same stands)
 
-pub serves : (catalog : List Entry) (known : List WholeStages) (fact : Fact) (i : ℕ) (stages : WholeStages)
+pub serves : (catalog : List Entry) (known : List ComputedWholeStages) (fact : Fact) (i : ℕ) (stages : ComputedWholeStages)
     → HasStagesFor catalog known fact i → slice_get known i ≡ Some stages
     → (slice_get catalog i ≡ Some (entry_of stages.job.now)) × IsServedFor stages fact
 serves catalog known fact i stages has there =
-    subst (λ (s : WholeStages). (slice_get catalog i ≡ Some (entry_of s.job.now)) × IsServedFor s fact)
+    subst (λ (s : ComputedWholeStages). (slice_get catalog i ≡ Some (entry_of s.job.now)) × IsServedFor s fact)
     (same_Some has.stages stages (sym has.there ∙ there)) (has.job, has.served)
 
-pub by_stages : (catalog : List Entry) (known : List WholeStages) (fact : Fact) (i : ℕ) (ids : JobId) (stages : WholeStages) (v : Verdict)
+pub by_stages : (catalog : List Entry) (known : List ComputedWholeStages) (fact : Fact) (i : ℕ) (ids : JobId) (stages : ComputedWholeStages) (v : Verdict)
     → IsCatalog catalog → IsReady catalog known fact → ids ≡ ids_in fact.key → StandsAt catalog ids i → slice_get known i ≡ Some stages
     → IsJobVerdict (pipeline_in stages.job.now) fact v → IsVerdict catalog fact v
 by_stages catalog known fact i ids stages v is ready same stands there says =

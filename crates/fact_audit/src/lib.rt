@@ -12,5 +12,5 @@ mod verdict;
 
 pub use several::audit_facts;
 pub use shape::is_well_shaped_fact;
-pub use single::{audit, find_job_of_fact_key};
+pub use single::{audit, borrow_job_of_fact_key};
 pub use verdict::Verdict;

@@ -12,7 +12,7 @@ use identity::{JobId, Key};
 use job::Job;
 use std::alloc::{AllocError, Global};
 use tile_fact::Fact;
-use whole_stages::WholeStages;
+use whole_stages::ComputedWholeStages;
 
 /// Judges facts by the jobs of a catalog: for each in order, the verdict of [`audit`](crate::audit). The stages of each job that
 /// facts name, and what these read, are computed whole, each once. All are kept until the last verdict. For a fact of no job
@@ -40,7 +40,7 @@ pub fn audit_facts(
 fn judge_fact_among_jobs(
     alloc: Global,
     catalog: &Catalog,
-    known: &[WholeStages<'_>],
+    known: &[ComputedWholeStages<'_>],
     fact: &Fact,
 ) -> Result<Verdict, AllocError>
     requires { IsReady catalog.now known.now fact.now }
@@ -57,7 +57,7 @@ fn compute_audited_stages_by_job<'a>(
     alloc: Global,
     catalog: &'a Catalog,
     facts: &[Fact],
-) -> Result<Vec<WholeStages<'a>>, AllocError>
+) -> Result<Vec<ComputedWholeStages<'a>>, AllocError>
     ensures { IfOk result (λ known. AreReady catalog.now facts.now known.items) }
 {
     let mut known = Vec::with_capacity(alloc, catalog.len())?;
@@ -75,11 +75,11 @@ fn compute_audited_stages_of_job<'a>(
     alloc: Global,
     job: &'a Job,
     facts: &[Fact],
-) -> Result<WholeStages<'a>, AllocError>
+) -> Result<ComputedWholeStages<'a>, AllocError>
     ensures { IfOk result (AreStagesFor facts.now (entry_of job.now)) }
 {
     let stages = list_audited_stage_numbers(alloc, &compute_catalog_job_ids(job), facts)?;
-    WholeStages::from_job(alloc, job, &stages)
+    ComputedWholeStages::from_job(alloc, job, &stages)
 }
 
 // The stages that facts name of the job of these identities.
@@ -93,7 +93,7 @@ fn list_audited_stage_numbers(
     let mut stages = Vec::new(alloc);
     for fact in facts {
         let key = fact.key();
-        if is_key_of_audited_job(key, ids) {
+        if is_key_with_ids_of_audited_job(key, ids) {
             stages.push(usize::from(key.stage))?;
         }
     }
@@ -101,7 +101,7 @@ fn list_audited_stage_numbers(
 }
 
 // Whether the key names the job of these identities.
-fn is_key_of_audited_job(key: &Key, ids: &JobId) -> bool
+fn is_key_with_ids_of_audited_job(key: &Key, ids: &JobId) -> bool
     ensures { IsTrue result ↔ ids.now ≡ ids_in key.now }
 {
     ids.program.as_bytes() == key.program.as_bytes() && ids.input.as_bytes() == key.input.as_bytes()

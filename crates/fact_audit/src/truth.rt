@@ -12,7 +12,7 @@ use crate::verdict::Verdict;
 use reductions::compute_true_partial;
 use std::alloc::{AllocError, Global};
 use tile_fact::{Body, Fact};
-use whole_stages::WholeStages;
+use whole_stages::ComputedWholeStages;
 
 /// The verdict on a fact by its job, whose stages were computed whole.
 ///
@@ -21,7 +21,7 @@ use whole_stages::WholeStages;
 /// Fails only where memory is refused.
 pub(crate) fn judge_fact_by_stages(
     alloc: Global,
-    stages: &WholeStages<'_>,
+    stages: &ComputedWholeStages<'_>,
     fact: &Fact,
 ) -> Result<Verdict, AllocError>
     requires { IsServed (pipeline_in stages.now.job.now) stages.now.known.buffers.items
@@ -40,7 +40,7 @@ pub(crate) fn judge_fact_by_stages(
 // Whether a fact is true of the job.
 fn is_true_fact_of_job(
     alloc: Global,
-    stages: &WholeStages<'_>,
+    stages: &ComputedWholeStages<'_>,
     fact: &Fact,
 ) -> Result<bool, AllocError>
     requires { IsServed (pipeline_in stages.now.job.now) stages.now.known.buffers.items

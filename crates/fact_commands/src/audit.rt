@@ -6,7 +6,7 @@ ghost use Rattle.fact_commands.specs.FactSayings.{IsSaidOfAudit};
 ghost use Rattle.fact_commands.specs.Auditing.{SaysVerdicts};
 ghost use Rattle.fact_commands.specs.Verdicts.{audit_lines};
 
-use crate::fact_input::read_audit_input;
+use crate::fact_input::read_job_and_facts_of_audit_input;
 use crate::finding::{AuditFinding, make_finding_of_audit_verdicts};
 use command_faults::StreamFault;
 use command_inputs::make_catalog_of_input_job;
@@ -40,7 +40,7 @@ pub fn judge_facts_of_audit_input(
         (λ judged. length judged.verdicts.items ≡ length judged.facts.items) }
     ensures fault { IfErr result (IsAuditFault input.items given.now options.now.sides) }
 {
-    let (job, contents) = read_audit_input(alloc, options.sides, given, input)?;
+    let (job, contents) = read_job_and_facts_of_audit_input(alloc, options.sides, given, input)?;
     let FactFileContents { retired, facts } = contents;
     let catalog = make_catalog_of_input_job(alloc, job)?;
     let verdicts = audit_facts(alloc, &catalog, &facts)?;

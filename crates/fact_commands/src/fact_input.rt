@@ -16,7 +16,7 @@ use std::alloc::Global;
 
 /// The job of the program, its tables and the picture that the input spells, and what the fact files between them hold together.
 /// A bad line is reported only if the program and the picture have a job.
-pub fn read_audit_input(
+pub fn read_job_and_facts_of_audit_input(
     alloc: Global,
     sides: TileSides,
     given: &[(String, i32)],
@@ -34,7 +34,10 @@ pub fn read_audit_input(
 }
 
 /// What the fact files of which the input consists hold together.
-pub fn read_merge_input(alloc: Global, input: Vec<u8>) -> Result<FactFileContents, StreamFault>
+pub fn join_fact_files_of_merge_input(
+    alloc: Global,
+    input: Vec<u8>,
+) -> Result<FactFileContents, StreamFault>
     ensures join { IfOk result
         (λ contents. IsJoin input.items contents.retired.items contents.facts.items) }
     ensures fault { IfErr result (IsMergeFault input.items) }

@@ -11,6 +11,6 @@ mod finding;
 mod merges;
 
 pub use audits::audit_stream;
-pub use fact_input::{read_audit_input, read_merge_input};
+pub use fact_input::{join_fact_files_of_merge_input, read_job_and_facts_of_audit_input};
 pub use finding::AuditFinding;
 pub use merges::merge_stream;

@@ -8,11 +8,12 @@ ghost use Rattle.command_outcomes.specs.Outcomes.{CountsRead, CountsWritten, Wri
 ghost use Rattle.fact_commands.specs.FactFaults.{refusing_merge};
 ghost use Rattle.fact_commands.specs.Merging.{saying_join};
 
-use crate::fact_input::read_merge_input;
+use crate::fact_input::join_fact_files_of_merge_input;
 use command_faults::StreamFault;
 use command_outcomes::read_command_input_bytes;
 use fact_lines::{
-    FactFileContents, FactFileCounts, count_fact_file_line_contents, write_fact_file_line,
+    FactFileContents, FactFileCounts, count_facts_and_jobs_for_fact_file_line,
+    write_fact_file_line_to_sink,
 };
 use std::alloc::Global;
 use streams::{Sink, Source};
@@ -37,7 +38,7 @@ pub fn merge_stream<H: AllocGlobal, R: Source, W: Sink>(
 {
     let input = read_command_input_bytes(rt.alloc(), reader)?;
     let (contents, counts) = join_and_count_merge_input(rt.alloc(), input)?;
-    Ok(write_fact_file_line(&contents.retired, &contents.facts, counts, writer)?)
+    Ok(write_fact_file_line_to_sink(&contents.retired, &contents.facts, counts, writer)?)
 }
 
 /// The join of the files, and its counts. The input is freed.
@@ -51,8 +52,8 @@ fn join_and_count_merge_input(
         (λ counted. AreCounts counted.1 counted.0.retired.items counted.0.facts.items) }
     ensures fault { IfErr result (IsMergeFault input.items) }
 {
-    let contents = read_merge_input(alloc, input)?;
-    match count_fact_file_line_contents(&contents.retired, &contents.facts) {
+    let contents = join_fact_files_of_merge_input(alloc, input)?;
+    match count_facts_and_jobs_for_fact_file_line(&contents.retired, &contents.facts) {
         Some(counts) => Ok((contents, counts)),
         None => Err(StreamFault::Memory),
     }

@@ -11,7 +11,7 @@ use streams::{Sink, WriteFailed};
 use write_buffer::WriteBuffer;
 
 /// Puts the digits of the magic, and of the retired jobs where there are any.
-pub fn put_hex_fact_file_head<W: Sink>(
+pub fn put_hex_fact_file_magic_and_retired_jobs<W: Sink>(
     buffer: &mut WriteBuffer,
     writer: &mut W,
     count: u32,
@@ -26,11 +26,11 @@ pub fn put_hex_fact_file_head<W: Sink>(
         buffer.put_hex(writer, b"PTF1")
     } else {
         buffer.put_hex_slices(writer, &[b"PTF2", &count.to_be_bytes()])?;
-        put_hex_retired_jobs(buffer, writer, retired)
+        put_hex_retired_job_ids_without_count(buffer, writer, retired)
     }
 }
 
-fn put_hex_retired_jobs<W: Sink>(
+fn put_hex_retired_job_ids_without_count<W: Sink>(
     buffer: &mut WriteBuffer,
     writer: &mut W,
     jobs: &[JobId],
@@ -40,12 +40,12 @@ fn put_hex_retired_jobs<W: Sink>(
         (W.failures writer.old) (W.failures writer.new) }
 {
     for job in jobs {
-        put_hex_retired_job(buffer, writer, job)?;
+        put_hex_retired_job_id(buffer, writer, job)?;
     }
     Ok(())
 }
 
-fn put_hex_retired_job<W: Sink>(
+fn put_hex_retired_job_id<W: Sink>(
     buffer: &mut WriteBuffer,
     writer: &mut W,
     job: &JobId,

@@ -31,7 +31,7 @@ pub fn join_fact_file_lines(alloc: Global, text: &[u8]) -> Result<FactFileConten
     let FactFileContents {
         mut retired,
         mut facts,
-    } = read_fact_file_lines(alloc, text)?;
+    } = collect_contents_of_fact_file_lines(alloc, text)?;
     sort_without_repeats(&mut retired);
     sort_without_repeats(&mut facts);
     remove_facts_retired_by_fact_lines(&retired, &mut facts);
@@ -39,7 +39,10 @@ pub fn join_fact_file_lines(alloc: Global, text: &[u8]) -> Result<FactFileConten
 }
 
 // The retired jobs and the facts of all files in the order of the text.
-fn read_fact_file_lines(alloc: Global, text: &[u8]) -> Result<FactFileContents, FactLinesFault>
+fn collect_contents_of_fact_file_lines(
+    alloc: Global,
+    text: &[u8],
+) -> Result<FactFileContents, FactLinesFault>
     ensures found { IfOk result
         (λ contents. Gathers (lines text.now) contents.retired.items contents.facts.items) }
     ensures fault { IfErr result (IsFault text.now) }

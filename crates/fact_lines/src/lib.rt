@@ -15,5 +15,6 @@ pub use contents::FactFileContents;
 pub use fault::FactLinesFault;
 pub use join::join_fact_file_lines;
 pub use writing::{
-    FactFileCounts, count_fact_file_line_contents, put_fact_file_line, write_fact_file_line,
+    FactFileCounts, count_facts_and_jobs_for_fact_file_line, put_fact_file_line,
+    write_fact_file_line_to_sink,
 };

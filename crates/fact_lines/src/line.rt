@@ -49,12 +49,12 @@ fn decode_fact_file_line(
     };
     match decode(alloc, &bytes) {
         Ok(file) => Ok(file),
-        Err(fault) => Err(attach_fact_line_to_fault(number, fault)),
+        Err(fault) => Err(attach_fact_line_number_to_fault(number, fault)),
     }
 }
 
 // How a fault of the file on the line of this number is reported.
-fn attach_fact_line_to_fault(number: usize, fault: FactFault) -> FactLinesFault
+fn attach_fact_line_number_to_fault(number: usize, fault: FactFault) -> FactLinesFault
     ensures { result ≡ told number fault }
 {
     match fault {

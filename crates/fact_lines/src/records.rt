@@ -52,7 +52,7 @@ fn put_hex_fact_record<W: Sink>(
         (W.contents writer.old) (W.contents writer.new)
         (W.failures writer.old) (W.failures writer.new) }
 {
-    put_hex_fact_record_label(buffer, writer, fact)?;
+    put_hex_fact_record_key_kind_and_count(buffer, writer, fact)?;
     match fact.body() {
         Body::Tile(samples) => put_hex_fact_samples(buffer, writer, samples.as_slice()),
         Body::Partial(bins) => put_hex_fact_bins(buffer, writer, bins.as_slice()),
@@ -60,7 +60,7 @@ fn put_hex_fact_record<W: Sink>(
 }
 
 // What comes before the numbers.
-fn put_hex_fact_record_label<W: Sink>(
+fn put_hex_fact_record_key_kind_and_count<W: Sink>(
     buffer: &mut WriteBuffer,
     writer: &mut W,
     fact: &Fact,

@@ -8,7 +8,7 @@ ghost use Rattle.hex.specs.Hex.{encode_lower};
 ghost use Rattle.tile_fact.specs.FactFile.{fact_file};
 ghost use Rattle.fact_lines.specs.Written.{AreCounts, written};
 
-use crate::head::put_hex_fact_file_head;
+use crate::head::put_hex_fact_file_magic_and_retired_jobs;
 use crate::records::put_hex_fact_count_and_records;
 use identity::JobId;
 use streams::{Sink, WriteFailed};
@@ -23,7 +23,10 @@ pub struct FactFileCounts {
 }
 
 /// How many there are, if a fact file can count them: none if there are more than 4,294,967,295 of either.
-pub fn count_fact_file_line_contents(retired: &[JobId], facts: &[Fact]) -> Option<FactFileCounts>
+pub fn count_facts_and_jobs_for_fact_file_line(
+    retired: &[JobId],
+    facts: &[Fact],
+) -> Option<FactFileCounts>
     ensures { MatchOption result ((2 ^ 32 ≤ length retired.now) ⊎ (2 ^ 32 ≤ length facts.now))
         (λ counts. AreCounts counts retired.now facts.now) }
 {
@@ -34,7 +37,7 @@ pub fn count_fact_file_line_contents(retired: &[JobId], facts: &[Fact]) -> Optio
 
 /// Writes the file of the retired jobs and the facts in lower-case hexadecimal digits, and LF. No memory is allocated: the digits
 /// go through a buffer of fixed size.
-pub fn write_fact_file_line<W: Sink>(
+pub fn write_fact_file_line_to_sink<W: Sink>(
     retired: &[JobId],
     facts: &[Fact],
     counts: FactFileCounts,
@@ -82,6 +85,6 @@ fn put_hex_fact_file<W: Sink>(
         (W.contents writer.old) (W.contents writer.new)
         (W.failures writer.old) (W.failures writer.new) }
 {
-    put_hex_fact_file_head(buffer, writer, counts.retired, retired)?;
+    put_hex_fact_file_magic_and_retired_jobs(buffer, writer, counts.retired, retired)?;
     put_hex_fact_count_and_records(buffer, writer, counts.facts, facts)
 }

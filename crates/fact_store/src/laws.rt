@@ -23,7 +23,7 @@ pub fn fact_sets_are_their_facts()
 {}
 
 /// The facts of a key are those of the set that have it, and what a set lacks of another is what only the other has.
-pub fn fact_set_selections_are_exact()
+pub fn fact_set_key_and_lacked_facts_are_exact()
     ensures of_key { (s : FactSet) (key : Key) (f : Fact) →
         Contains (facts_of s key) f ↔ ((holds s f ≡ true) × (f.key ≡ key)) }
     ensures lacked { (s t : FactSet) (f : Fact) →

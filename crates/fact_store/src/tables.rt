@@ -106,7 +106,7 @@ impl FactStore for TableFacts {
 
     // A copy is stored, so that the fact itself is available if memory runs out.
     fn add_fact(&mut self, fact: Fact) -> Result<bool, AllocFailed<Fact>> {
-        match self.add_fact_copy(&fact) {
+        match self.add_fact_copy_and_get_former_entry(&fact) {
             Ok(former) => Ok(former.is_some()),
             Err(_) => Err(AllocFailed { value: fact }),
         }
@@ -115,7 +115,7 @@ impl FactStore for TableFacts {
     // The facts of the other store are added in their order. If memory runs out, what was added is removed again.
     fn join_facts(&mut self, other: &TableFacts) -> Result<usize, AllocError> {
         let mut undo = Vec::new(self.alloc);
-        match self.add_fact_tables_with_undo(&other.tables, &mut undo) {
+        match self.add_facts_of_tables_and_note_undo(&other.tables, &mut undo) {
             Ok(new) => Ok(new),
             Err(fault) => {
                 restore_table_facts_of_keys(&mut self.tables, undo);
@@ -178,7 +178,10 @@ impl TableFacts {
     }
 
     // Adds a copy of a fact, and returns the former entry of its key; none if the fact is there already.
-    fn add_fact_copy(&mut self, fact: &Fact) -> Result<Option<(Key, Option<KeyFacts>)>, AllocError>
+    fn add_fact_copy_and_get_former_entry(
+        &mut self,
+        fact: &Fact,
+    ) -> Result<Option<(Key, Option<KeyFacts>)>, AllocError>
         ensures added { OnOk result
             (set_in self.new.tables.entries ≡ with_fact (set_in self.old.tables.entries) fact.now) }
         ensures new { IfOk result
@@ -201,7 +204,7 @@ impl TableFacts {
     }
 
     // Adds a copy of a fact, and returns whether it is new. The former entry of its key is noted.
-    fn add_fact_copy_with_undo(
+    fn add_fact_copy_and_note_undo(
         &mut self,
         fact: &Fact,
         undo: &mut Vec<(Key, Option<KeyFacts>)>,
@@ -214,7 +217,7 @@ impl TableFacts {
             ≡ undone undo.old.items self.old.tables.entries }
     {
         undo.reserve(1)?;
-        match self.add_fact_copy(fact)? {
+        match self.add_fact_copy_and_get_former_entry(fact)? {
             Some(former) => {
                 undo.push_reserved(former);
                 Ok(true)
@@ -224,7 +227,7 @@ impl TableFacts {
     }
 
     // Adds copies of facts, and returns how many are new. If memory runs out, some are added.
-    fn add_fact_copies_with_undo(
+    fn add_fact_copies_and_note_undo(
         &mut self,
         facts: &[Fact],
         undo: &mut Vec<(Key, Option<KeyFacts>)>,
@@ -239,14 +242,14 @@ impl TableFacts {
     {
         let mut new: usize = 0;
         for fact in facts {
-            new += usize::from(self.add_fact_copy_with_undo(fact, undo)?);
+            new += usize::from(self.add_fact_copy_and_note_undo(fact, undo)?);
         }
         Ok(new)
     }
 
     // Adds copies of the facts of tables, and returns how many are new. Facts that are too many to count would not fit into
     // memory.
-    fn add_fact_tables_with_undo(
+    fn add_facts_of_tables_and_note_undo(
         &mut self,
         tables: &BTreeMap<Key, KeyFacts>,
         undo: &mut Vec<(Key, Option<KeyFacts>)>,
@@ -262,7 +265,7 @@ impl TableFacts {
     {
         let mut new: usize = 0;
         for (_, table) in tables {
-            let more = self.add_fact_copies_with_undo(table.as_slice(), undo)?;
+            let more = self.add_fact_copies_and_note_undo(table.as_slice(), undo)?;
             new = new.checked_add(more).ok_or(AllocError)?;
         }
         if new > isize::MAX as usize {

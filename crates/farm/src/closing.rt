@@ -23,7 +23,7 @@ use std::vec;
 /// # Errors
 ///
 /// `Close` where receipts do not match a node's history, before `Memory` of a worker.
-pub fn close_farm_nodes_and_check_memory<C: NamedCatalog>(
+pub fn close_farm_nodes_to_list_or_memory_fault<C: NamedCatalog>(
     alloc: Global,
     nodes: Vec<FarmNode<C>>,
     ends: Vec<WorkerReceipts>,
@@ -33,7 +33,7 @@ pub fn close_farm_nodes_and_check_memory<C: NamedCatalog>(
     ensures memory { IfOk result (λ _. list_any (λ end. end.memory) ends.items ≡ false) }
 {
     let memory = has_any_farm_worker_lacked_memory(&ends);
-    fail_if_farm_worker_lacked_memory(memory, close_each_farm_node(alloc, nodes, ends))
+    fail_closing_if_farm_worker_lacks_memory(memory, close_each_farm_node(alloc, nodes, ends))
 }
 
 // Whether one of these workers ran out of memory.
@@ -44,7 +44,7 @@ fn has_any_farm_worker_lacked_memory(ends: &[WorkerReceipts]) -> bool
 }
 
 // The result of closing all nodes, by whether some worker ran out of memory.
-fn fail_if_farm_worker_lacked_memory<T: Drop>(
+fn fail_closing_if_farm_worker_lacks_memory<T: Drop>(
     memory: bool,
     closing: Result<T, FarmFault>,
 ) -> Result<T, FarmFault>
@@ -70,7 +70,7 @@ fn close_each_farm_node<C: NamedCatalog>(
     let mut closed: Vec<ClosedNode> = Vec::new(alloc);
     let mut rest = ends.into_iter();
     for node in nodes {
-        let mine = take_worker_receipts_of_node(alloc, &mut rest)?;
+        let mine = take_worker_receipts_of_next_node(alloc, &mut rest)?;
         let one = close_farm_node(node.live, mine)?;
         closed.reserve(1)?;
         closed.push_reserved(one);
@@ -79,7 +79,7 @@ fn close_each_farm_node<C: NamedCatalog>(
 }
 
 // The seats of one node's workers, with their receipts.
-fn take_worker_receipts_of_node(
+fn take_worker_receipts_of_next_node(
     alloc: Global,
     rest: &mut vec::IntoIter<WorkerReceipts>,
 ) -> Result<Vec<(Seat, Vec<Receipt>)>, AllocError>
@@ -112,7 +112,7 @@ fn close_farm_node<C: NamedCatalog>(
 }
 
 /// The facts of the keys that any of the nodes holds at the end. A retirement at one node excludes no fact of another.
-pub fn collect_facts_of_closed_farm_nodes(
+pub fn join_facts_of_closed_farm_nodes_by_keys(
     alloc: Global,
     keys: &[Key],
     closed: &[ClosedNode],
@@ -121,14 +121,14 @@ pub fn collect_facts_of_closed_farm_nodes(
 {
     let mut all = HeldFacts::new(alloc);
     for one in closed {
-        let lent = lend_facts_of_closed_farm_node(alloc, keys, one.state().held())?;
+        let lent = select_facts_of_closed_farm_node_by_keys(alloc, keys, one.state().held())?;
         all.merge(&lent)?;
     }
     Ok(all)
 }
 
 // The held facts of the keys. Of some keys nothing may be held.
-fn lend_facts_of_closed_farm_node(
+fn select_facts_of_closed_farm_node_by_keys(
     alloc: Global,
     keys: &[Key],
     held: &HeldFacts,

@@ -6,10 +6,14 @@ ghost use Rattle.farm.specs.Reports.{IsSoundEnd, all_held};
 ghost use Rattle.farm_answers.specs.Answering.{IsAnswerOf, IsPlanned, missing_work};
 ghost use Rattle.netpbm.specs.Image.{IsImage};
 
-use crate::closing::{close_farm_nodes_and_check_memory, collect_facts_of_closed_farm_nodes};
+use crate::closing::{
+    close_farm_nodes_to_list_or_memory_fault, join_facts_of_closed_farm_nodes_by_keys,
+};
 use crate::fault::FarmFault;
 use crate::hand::{WorkerReceipts, WorkerSeat};
-use crate::node::{FarmNode, WORKERS, open_farm_nodes, open_ports_to_farm_node_mailboxes};
+use crate::node::{
+    FarmNode, WORKERS, open_farm_nodes_and_worker_seats, open_ports_to_farm_node_mailboxes,
+};
 use crate::report::FarmReport;
 use crate::threads::run_and_join_farm_threads;
 use crate::worker::FarmWorker;
@@ -66,10 +70,10 @@ impl Farm {
             schedule,
             keys: &keys,
         };
-        let closed = open_run_and_close_farm_nodes::<Brand, G, R>(
+        let closed = run_farm_to_closed_farm_nodes::<Brand, G, R>(
             rt, alloc, catalog, &plan, setup, gate,
         )?;
-        let held = collect_facts_of_closed_farm_nodes(alloc, &keys, &closed)?;
+        let held = join_facts_of_closed_farm_nodes_by_keys(alloc, &keys, &closed)?;
         let done = complete_farm_answer(alloc, catalog, job, schedule, held)?;
         Ok(FarmReport {
             answer: done.answer,
@@ -96,7 +100,7 @@ struct FarmSharedState<'a, C: NamedCatalog> {
 }
 
 // The ends of all nodes, after their workers have gone through all turns.
-fn open_run_and_close_farm_nodes<
+fn run_farm_to_closed_farm_nodes<
     'a,
     C: NamedCatalog + Send + Sync + 'static,
     G: Gate + Sync,
@@ -113,7 +117,7 @@ fn open_run_and_close_farm_nodes<
     ensures sound { IfOk result (λ closed. All (IsSoundEnd C.catalog) closed.items) }
     ensures count { IfOk result (λ closed. length closed.items ≡ setup.now.nodes) }
 {
-    let (nodes, seats) = open_farm_nodes::<C>(alloc, catalog, setup)?;
+    let (nodes, seats) = open_farm_nodes_and_worker_seats::<C>(alloc, catalog, setup)?;
     let shared = FarmSharedState {
         work: FarmWork::new(catalog, plan.job, plan.schedule, plan.keys),
         desk: LiveDesk::new(alloc),
@@ -122,7 +126,7 @@ fn open_run_and_close_farm_nodes<
     let workers = make_farm_workers(alloc, setup, &shared, seats)?;
     let ends = run_farm_workers(rt, alloc, workers, gate)?;
     let FarmSharedState { nodes, .. } = shared;
-    close_farm_nodes_and_check_memory(alloc, nodes, ends)
+    close_farm_nodes_to_list_or_memory_fault(alloc, nodes, ends)
 }
 
 // Runs all workers in threads of their own.

@@ -51,7 +51,11 @@ pub struct WorkerSeat<'a, C: NamedCatalog> {
 }
 
 impl<'a, C: NamedCatalog> WorkerSeat<'a, C> {
-    pub fn lend_node_facts<R: Wait>(&mut self, rt: &R, keys: &[Key]) -> Result<Vec<Fact>, LendFault>
+    pub fn lend_node_facts_of_keys<R: Wait>(
+        &mut self,
+        rt: &R,
+        keys: &[Key],
+    ) -> Result<Vec<Fact>, LendFault>
         ensures { IfOk result (λ facts. All (IsTrueFact C.catalog) facts.items) }
     {
         let WorkerReceipts { seat, receipts, .. } = &mut self.end;

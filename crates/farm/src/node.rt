@@ -38,7 +38,7 @@ impl<C: NamedCatalog> FarmNode<C> {
 }
 
 /// All nodes, each with the seats of its workers.
-pub fn open_farm_nodes<C: NamedCatalog>(
+pub fn open_farm_nodes_and_worker_seats<C: NamedCatalog>(
     alloc: Global,
     catalog: &Catalog,
     setup: &FarmSetup,

@@ -43,8 +43,8 @@ impl<'s, 'a, C: NamedCatalog, R: Wait, G: Gate> WorkerPlace for WorkerSite<'s, '
 
     ghost needs_of = { λ plan. plan.needs };
 
-    fn enter_turn(&mut self, worker: u8, turn: u32) {
-        self.gate.enter_turn(worker, turn);
+    fn announce_turn(&mut self, worker: u8, turn: u32) {
+        self.gate.announce_turn(worker, turn);
     }
 
     fn receive_parcel_updates(&mut self, node: u8) -> Option<Vec<Update>> {
@@ -71,7 +71,7 @@ impl<'s, 'a, C: NamedCatalog, R: Wait, G: Gate> WorkerPlace for WorkerSite<'s, '
         self.hand.node.state(self.rt)
     }
 
-    fn check_work_key_readiness(
+    fn find_readiness_of_work_key(
         &mut self,
         held: &NodeState,
         key: &Key,
@@ -103,7 +103,7 @@ impl<'s, 'a, C: NamedCatalog, R: Wait, G: Gate> WorkerPlace for WorkerSite<'s, '
     }
 
     fn lend_needed_facts(&mut self, plan: &TilePlan<'a>) -> Result<Option<Vec<Fact>>, AllocError> {
-        match self.hand.lend_node_facts(self.rt, plan.needs()) {
+        match self.hand.lend_node_facts_of_keys(self.rt, plan.needs()) {
             Ok(facts) => Ok(Some(facts)),
             Err(LendFault::NotHeld(_)) => Ok(None),
             Err(LendFault::Memory) => Err(AllocError),
@@ -111,7 +111,7 @@ impl<'s, 'a, C: NamedCatalog, R: Wait, G: Gate> WorkerPlace for WorkerSite<'s, '
     }
 
     fn compute_fact(&mut self, facts: &[Fact], key: &Key) -> Result<Option<Fact>, AllocError> {
-        self.work.make_fact(self.alloc, facts, key)
+        self.work.make_fact_from_true_facts(self.alloc, facts, key)
     }
 
     fn report_fact(&mut self, worker: u8, turn: u32, fact: &Fact) {

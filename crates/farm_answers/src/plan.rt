@@ -52,14 +52,18 @@ impl FarmAnswerPlan<'_> {
     {
         let mut held = held;
         for key in keys {
-            let fact = self.make_fact(&held, key)?;
+            let fact = self.make_fact_of_key_from_held_facts(&held, key)?;
             held.hold_fact(fact)?;
         }
         Ok(held)
     }
 
     /// The fact of a key, which is made unless memory is refused.
-    fn make_fact(&self, held: &HeldFacts, key: &Key) -> Result<Fact, AllocError>
+    fn make_fact_of_key_from_held_facts(
+        &self,
+        held: &HeldFacts,
+        key: &Key,
+    ) -> Result<Fact, AllocError>
         requires { CanMake self.now.catalog.now held.now self.now.schedule.now.inlining key.now }
         ensures key { IfOk result (λ fact. fact.key ≡ key.now) }
         ensures is_true { IfOk result (IsTrueFact self.now.catalog.now) }

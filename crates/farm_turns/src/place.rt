@@ -35,7 +35,7 @@ pub trait WorkerPlace {
     ghost needs_of: { Self.Plan → List KeyOf };
 
     /// A worker enters a turn.
-    fn enter_turn(&mut self, worker: u8, turn: u32)
+    fn announce_turn(&mut self, worker: u8, turn: u32)
         ensures { Calls has_log self.old self.new (Entered worker turn) };
 
     /// The updates of a parcel from a node's mailbox. There are none where it is empty.
@@ -66,7 +66,7 @@ pub trait WorkerPlace {
         ensures { OnOk result (Calls has_log self.old self.new Looked) };
 
     /// The readiness of a key by a copy.
-    fn check_work_key_readiness(
+    fn find_readiness_of_work_key(
         &mut self,
         held: &Self::HeldState,
         key: &Key,

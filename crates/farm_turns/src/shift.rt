@@ -81,15 +81,15 @@ impl<'a, P: WorkerPlace> WorkerShift<'a, P> {
         ensures turned { OnOk result ((g : Progress) → IsAt P.has_log self.old.place self.old.counts g
             → HasTurned P.has_log self.new.place self.new.counts self.old.rules turn g) }
     {
-        self.place.enter_turn(self.rules.number, turn);
-        self.receive_parcels()?;
+        self.place.announce_turn(self.rules.number, turn);
+        self.receive_parcels_into_node()?;
         self.lease_and_make_one_tile(turn)?;
         self.keep_node_state_if_due(turn)?;
         self.restart_node_if_due(turn)
     }
 
     // Takes parcels from the mailbox of its node, and gives them to the node.
-    fn receive_parcels(&mut self) -> Result<(), AllocError>
+    fn receive_parcels_into_node(&mut self) -> Result<(), AllocError>
         ensures rules { self.new.rules ≡ self.old.rules }
         ensures received { OnOk result ((g : Progress) → IsAt P.has_log self.old.place self.old.counts g
             → (parcels : List (List UpdateOf)) × (length parcels ≤ self.old.rules.setup.capacity)
@@ -124,7 +124,7 @@ impl<'a, P: WorkerPlace> WorkerShift<'a, P> {
             → (finding : WorkOutcome) × IsWorkOutcome self.old.rules g finding
             × IsAt P.has_log self.new.place self.new.counts (after_working self.old.rules turn g finding)) }
     {
-        if let Some((key, plan)) = self.pick_and_lease_work_key(turn)? {
+        if let Some((key, plan)) = self.lease_first_open_work_key(turn)? {
             let done = self.make_and_share_tile(turn, &key, &plan);
             self.release_work_key(turn, &key);
             done?;
@@ -143,7 +143,7 @@ impl<'a, P: WorkerPlace> WorkerShift<'a, P> {
     }
 
     // The first key that can be made and is leased to the worker, by a copy of what its node holds.
-    fn pick_and_lease_work_key(&mut self, turn: u32) -> Result<Option<(Key, P::Plan)>, AllocError>
+    fn lease_first_open_work_key(&mut self, turn: u32) -> Result<Option<(Key, P::Plan)>, AllocError>
         ensures rules { self.new.rules ≡ self.old.rules }
         ensures none { IfOk result (λ found. IfNone found
             ((g : Progress) → IsAt P.has_log self.old.place self.old.counts g
@@ -163,7 +163,7 @@ impl<'a, P: WorkerPlace> WorkerShift<'a, P> {
         }
         let held = self.copy_held_state()?;
         for key in &keys[start..] {
-            if let Some(plan) = self.plan_and_lease_work_key(turn, &held, key)? {
+            if let Some(plan) = self.plan_and_lease_work_key_if_open(turn, &held, key)? {
                 return Ok(Some((*key, plan)));
             }
         }
@@ -182,7 +182,7 @@ impl<'a, P: WorkerPlace> WorkerShift<'a, P> {
     }
 
     // How the tile of a key is made, if it can be made and is leased to the worker.
-    fn plan_and_lease_work_key(
+    fn plan_and_lease_work_key_if_open(
         &mut self,
         turn: u32,
         held: &P::HeldState,
@@ -199,7 +199,7 @@ impl<'a, P: WorkerPlace> WorkerShift<'a, P> {
             → IsAt P.has_log self.new.place self.new.counts
             (after_picking self.old.rules turn g key.now (P.needs_of plan)))) }
     {
-        let standing = self.place.check_work_key_readiness(held, key)?;
+        let standing = self.place.find_readiness_of_work_key(held, key)?;
         if let KeyReadiness::Known = standing {
             if self.counts.settling {
                 self.counts.settled += 1;
@@ -252,13 +252,17 @@ impl<'a, P: WorkerPlace> WorkerShift<'a, P> {
             (after_sending_below self.old.rules fact.now g self.old.rules.setup.nodes)) }
     {
         for node in 0..self.rules.setup.nodes {
-            self.send_fact_to_node_unless_lost(node, fact)?;
+            self.send_fact_to_node_unless_own_or_lost(node, fact)?;
         }
         Ok(())
     }
 
     // Puts a parcel with the fact into a node's mailbox, if it is another node, and the parcel is not lost.
-    fn send_fact_to_node_unless_lost(&mut self, node: u8, fact: &Fact) -> Result<(), AllocError>
+    fn send_fact_to_node_unless_own_or_lost(
+        &mut self,
+        node: u8,
+        fact: &Fact,
+    ) -> Result<(), AllocError>
         requires { P.is_true fact.now }
         ensures rules { self.new.rules ≡ self.old.rules }
         ensures sent { OnOk result ((g : Progress) → IsAt P.has_log self.old.place self.old.counts g

@@ -6,7 +6,7 @@ use tile_fact::Fact;
 /// lock of the farm is held at a call.
 pub trait Gate {
     /// A worker enters a turn. Workers count from 0, turns from 1.
-    fn enter_turn(&self, worker: u8, turn: u32);
+    fn announce_turn(&self, worker: u8, turn: u32);
 
     /// A worker has made a fact, which it has not given to its node yet.
     fn report_fact(&self, worker: u8, turn: u32, fact: &Fact);
@@ -17,7 +17,7 @@ pub trait Gate {
 pub struct OpenGate;
 
 impl Gate for OpenGate {
-    fn enter_turn(&self, _worker: u8, _turn: u32) {}
+    fn announce_turn(&self, _worker: u8, _turn: u32) {}
 
     fn report_fact(&self, _worker: u8, _turn: u32, _fact: &Fact) {}
 }

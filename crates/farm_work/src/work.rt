@@ -68,7 +68,7 @@ impl<'a, C: NamedCatalog> FarmWork<'a, C> {
         if !is_farm_work_fact_missing(held, key) {
             return Ok(None);
         }
-        let Some(plan) = self.plan_tile(alloc, key)? else {
+        let Some(plan) = self.plan_tile_if_it_exists_and_fits(alloc, key)? else {
             return Ok(None);
         };
         if is_any_farm_work_fact_missing(held, plan.needs()) {
@@ -78,7 +78,11 @@ impl<'a, C: NamedCatalog> FarmWork<'a, C> {
     }
 
     // How a tile is made, if there is such a tile and it fits into scratch memory.
-    fn plan_tile(&self, alloc: Global, key: &Key) -> Result<Option<TilePlan<'a>>, AllocError>
+    fn plan_tile_if_it_exists_and_fits(
+        &self,
+        alloc: Global,
+        key: &Key,
+    ) -> Result<Option<TilePlan<'a>>, AllocError>
         ensures { IfOk result (λ found. IfSome found (IsTilePlan
             (program_id_in self.now.job.now) (pipeline_in self.now.job.now)
             self.now.schedule.now.inlining key.now.stage key.now.row key.now.col)) }
@@ -93,7 +97,7 @@ impl<'a, C: NamedCatalog> FarmWork<'a, C> {
 
     /// The fact of a tile, made from true facts, if these are all that it needs. The fact is true too. It is none only if these
     /// facts make none.
-    pub fn make_fact(
+    pub fn make_fact_from_true_facts(
         &self,
         alloc: Global,
         facts: &[Fact],

@@ -15,7 +15,7 @@ use Rattle.fact_audit.specs.TrueFacts.{BodyIsTrue}
 use Rattle.fact_store.proofs.KeyLaws.{in_facts_of}
 use Rattle.tile_boxes.proofs.Lists.{AllPairs-head}
 use Rattle.tile_boxes.specs.Schedules.{is_function_stage, is_inlined}
-use Rattle.tile_boxes.specs.Targets.{can_have_box, target_over}
+use Rattle.tile_boxes.specs.Targets.{is_function_other_than_target, target_over}
 use Rattle.identity.specs.declared.key.Key.{Key}
 use Rattle.job.proofs.Solving.{ranked_is}
 use Rattle.job.specs.Answers.{Tile}
@@ -45,7 +45,7 @@ module _ (job : Pipeline) (inlining : List Bool) (g : ℕ) (area : Area) (m : Ti
   -- a needed tile is one of a stored function
   pub needed_is_work : IsWork job inlining m
   needed_is_work =
-      let stored = and_parts (can_have_box (target_over job inlining g area) m.stage) (not (is_inlined inlining m.stage)) is.stored in
+      let stored = and_parts (is_function_other_than_target (target_over job inlining g area) m.stage) (not (is_inlined inlining m.stage)) is.stored in
       let function = and_parts (is_function_stage job m.stage) (not (m.stage == g)) stored.0 in
       record {
         tile = subst (λ (o : Option Grid). IsSomeAnd o (λ d. HasTile d m.row m.col)) (sym is.there) is.meets.there;

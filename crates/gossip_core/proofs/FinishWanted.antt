@@ -14,7 +14,7 @@ use Rattle.job.specs.Answers.{Tile, height_of, is_output, width_of}
 use Rattle.job.specs.Pipeline.{Body, plane, function, accumulator, Output, Pipeline, Stage}
 use Rattle.job.specs.WellFormed.{IsFunction, IsJob, IsOutputPlane}
 use Rattle.held_facts.proofs.WantedTiles.{IsWantedTile}
-use Rattle.overlap_tiles.specs.Work.{IsWork, is_accumulator_at, is_work_stage}
+use Rattle.overlap_tiles.specs.Work.{IsWork, is_accumulator_at, is_stored_or_accumulator_work_stage}
 
 among : (xs : List ℕ) (g : ℕ) → list_any (λ h. h == g) xs ≡ true → Contains xs g
 among xs g e =
@@ -53,7 +53,7 @@ wanted_is_work job inlining t good stores is = record {
   made = by (is_output job t.stage) refl is.wanted;
 }
   where
-    by : (b : Bool) → is_output job t.stage ≡ b → (b || is_accumulator_at job t.stage) ≡ true → is_work_stage job inlining t.stage ≡ true
+    by : (b : Bool) → is_output job t.stage ≡ b → (b || is_accumulator_at job t.stage) ≡ true → is_stored_or_accumulator_work_stage job inlining t.stage ≡ true
     by true out one =
         stored (is_function_stage job t.stage) (is_inlined inlining t.stage) (is_accumulator_at job t.stage)
         (output_is_function job t.stage good out) (λ i. true≢false (sym out ∙ stores t.stage i))

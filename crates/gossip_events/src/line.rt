@@ -10,10 +10,10 @@ ghost use Rattle.gossip_events.specs.declared.order.ScriptRequestFault.TheVarian
 
 use crate::event::Event;
 use crate::fault::ScriptFault;
-use crate::naming::resolve_script_request;
+use crate::naming::resolve_script_request_to_event;
 use crate::order::{ScriptRequest, ScriptRequestFault};
 use crate::order_words::parse_script_request_words;
-use crate::words::split_script_words;
+use crate::words::split_script_line_into_words;
 use catalog::Catalog;
 use std::alloc::{AllocError, Global};
 
@@ -35,7 +35,7 @@ pub fn parse_script_line_into_events(
     ensures fault { IfErr result
         (IsLineFault jobs.now number (length events.old.items) line.now) }
 {
-    if is_skipped_script_line(line) {
+    if is_script_line_empty_or_comment(line) {
         return Ok(());
     }
     if events.len() == MAX_EVENTS {
@@ -53,7 +53,7 @@ pub fn parse_script_line_into_events(
 }
 
 // Whether the line is passed over.
-fn is_skipped_script_line(line: &[u8]) -> bool
+fn is_script_line_empty_or_comment(line: &[u8]) -> bool
     ensures { result ≡ is_passed_over line.now }
 {
     match line {
@@ -87,8 +87,8 @@ fn parse_event_line(alloc: Global, jobs: &Catalog, line: &[u8]) -> Result<Event,
     ensures bad { IfErr result (λ fault. fault ≡ faults.Bad → IsBadLine line.now) }
     ensures lacks { IfErr result (λ fault. fault ≡ faults.NoSuchJob → LacksJob jobs.now line.now) }
 {
-    let order = parse_script_request(alloc, line)?;
-    match resolve_script_request(alloc, jobs, order) {
+    let order = parse_script_request_of_line(alloc, line)?;
+    match resolve_script_request_to_event(alloc, jobs, order) {
         Ok(Some(event)) => Ok(event),
         Ok(None) => Err(ScriptLineFault::NoSuchJob),
         Err(_) => Err(ScriptLineFault::Memory),
@@ -96,11 +96,14 @@ fn parse_event_line(alloc: Global, jobs: &Catalog, line: &[u8]) -> Result<Event,
 }
 
 // What the line requests.
-fn parse_script_request(alloc: Global, line: &[u8]) -> Result<ScriptRequest, ScriptRequestFault>
+fn parse_script_request_of_line(
+    alloc: Global,
+    line: &[u8],
+) -> Result<ScriptRequest, ScriptRequestFault>
     ensures some { IfOk result (SpellsOrder (words line.now)) }
     ensures none { IfErr result (λ fault. fault ≡ NoRequest
         → (order : OrderType) → ¬ SpellsOrder (words line.now) order) }
 {
-    let words = split_script_words(alloc, line)?;
+    let words = split_script_line_into_words(alloc, line)?;
     parse_script_request_words(alloc, &words)
 }

@@ -18,7 +18,7 @@ use std::alloc::{AllocError, Global};
 /// # Errors
 ///
 /// Fails only where memory is refused.
-pub fn resolve_script_request(
+pub fn resolve_script_request_to_event(
     alloc: Global,
     jobs: &Catalog,
     order: ScriptRequest,
@@ -28,15 +28,15 @@ pub fn resolve_script_request(
         ((event : EventType) → ¬ IsAsked jobs.now order event)) }
 {
     match order {
-        ScriptRequest::Make { node, place } => match resolve_script_tile_name(jobs, &place) {
+        ScriptRequest::Make { node, place } => match resolve_script_tile_name_to_key(jobs, &place) {
             Some(key) => Ok(Some(Event::Make { node, key })),
             None => Ok(None),
         },
-        ScriptRequest::Retire { node, job } => match find_ids_of_script_job(jobs, job) {
+        ScriptRequest::Retire { node, job } => match find_job_id_of_script_job_number(jobs, job) {
             Some(ids) => Ok(Some(Event::Retire { node, ids })),
             None => Ok(None),
         },
-        ScriptRequest::Send { node, to, places } => match resolve_script_tile_names(
+        ScriptRequest::Send { node, to, places } => match resolve_script_tile_names_to_keys(
             alloc,
             jobs,
             places.as_slice(),
@@ -49,7 +49,7 @@ pub fn resolve_script_request(
 }
 
 // The keys of the tiles, one each, if the catalog has their jobs.
-fn resolve_script_tile_names(
+fn resolve_script_tile_names_to_keys(
     alloc: Global,
     jobs: &Catalog,
     places: &[TileName],
@@ -60,7 +60,7 @@ fn resolve_script_tile_names(
 {
     let mut keys = Vec::new(alloc);
     for place in places {
-        let Some(key) = resolve_script_tile_name(jobs, place) else {
+        let Some(key) = resolve_script_tile_name_to_key(jobs, place) else {
             return Ok(None);
         };
         keys.push(key).map_err(AllocError::from)?;
@@ -69,11 +69,11 @@ fn resolve_script_tile_names(
 }
 
 // The key of the tile, if the catalog has its job.
-fn resolve_script_tile_name(jobs: &Catalog, place: &TileName) -> Option<Key>
+fn resolve_script_tile_name_to_key(jobs: &Catalog, place: &TileName) -> Option<Key>
     ensures some { IfSome result (IsKeyOf jobs.now place.now) }
     ensures none { IfNone result ((key : KeyType) → ¬ IsKeyOf jobs.now place.now key) }
 {
-    let ids = find_ids_of_script_job(jobs, place.job)?;
+    let ids = find_job_id_of_script_job_number(jobs, place.job)?;
     Some(Key {
         program: ids.program,
         input: ids.input,
@@ -84,7 +84,7 @@ fn resolve_script_tile_name(jobs: &Catalog, place: &TileName) -> Option<Key>
 }
 
 // The identities of the catalog's job of this number.
-fn find_ids_of_script_job(jobs: &Catalog, job: u32) -> Option<JobId>
+fn find_job_id_of_script_job_number(jobs: &Catalog, job: u32) -> Option<JobId>
     ensures some { IfSome result (AreIdsAt jobs.now job) }
     ensures none { IfNone result ((ids : IdsType) → ¬ AreIdsAt jobs.now job ids) }
 {

@@ -11,7 +11,7 @@ use crate::event::Event;
 use crate::order::{ScriptRequest, ScriptRequestFault};
 use crate::place::{parse_script_tile_name, parse_script_tile_names};
 use crate::verb::{EventVerb, parse_event_verb};
-use crate::words::{parse_script_node, parse_script_number};
+use crate::words::{parse_script_node_number, parse_script_number};
 use std::alloc::Global;
 
 /// What the words of a line request.
@@ -66,7 +66,7 @@ fn parse_script_make_request(
     let [first, second] = words else {
         return Err(ScriptRequestFault::NoRequest);
     };
-    let Some(node) = parse_script_node(first) else {
+    let Some(node) = parse_script_node_number(first) else {
         return Err(ScriptRequestFault::NoRequest);
     };
     Ok(ScriptRequest::Make {
@@ -99,7 +99,10 @@ fn parse_script_send_request(
     let [first, second, keys @ ..] = words else {
         return Err(ScriptRequestFault::NoRequest);
     };
-    let (Some(node), Some(to)) = (parse_script_node(first), parse_script_node(second)) else {
+    let (Some(node), Some(to)) = (
+        parse_script_node_number(first),
+        parse_script_node_number(second),
+    ) else {
         return Err(ScriptRequestFault::NoRequest);
     };
     Ok(ScriptRequest::Send {
@@ -148,7 +151,10 @@ fn parse_event_node_and_number(words: &[&[u8]]) -> Option<(u8, u32)>
         (λ w. SpellsNode w m) (λ w. SpellsNumber w n)) }
 {
     match words {
-        [first, second] => Some((parse_script_node(first)?, parse_script_number(second)?)),
+        [first, second] => Some((
+            parse_script_node_number(first)?,
+            parse_script_number(second)?,
+        )),
         _ => None,
     }
 }
@@ -159,7 +165,7 @@ fn parse_lone_event_node(words: &[&[u8]]) -> Option<u8>
     ensures none { IfNone result ((n : ℕ) → ¬ IsLoneNode (map (λ w. w.now) words.now) n) }
 {
     match words {
-        [word] => parse_script_node(word),
+        [word] => parse_script_node_number(word),
         _ => None,
     }
 }

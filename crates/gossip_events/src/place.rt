@@ -7,7 +7,9 @@ ghost use Rattle.gossip_events.specs.declared.places.TileName.{TileName as Place
 
 use crate::order::ScriptRequestFault;
 use crate::places::{TileName, TileNames};
-use crate::words::{parse_script_number, parse_script_stage, split_script_tile_name};
+use crate::words::{
+    parse_script_number, parse_script_stage_number, split_script_tile_name_at_colons,
+};
 use std::alloc::{AllocError, Global};
 
 /// The tile that a word `JOB:STAGE:ROW:COL` names.
@@ -16,7 +18,7 @@ pub fn parse_script_tile_name(alloc: Global, word: &[u8]) -> Result<TileName, Sc
     ensures none { IfErr result (λ fault. fault ≡ NoRequest
         → (place : PlaceType) → ¬ SpellsPlace word.now place) }
 {
-    let parts = split_script_tile_name(alloc, word)?;
+    let parts = split_script_tile_name_at_colons(alloc, word)?;
     match parse_script_tile_name_parts(&parts) {
         Some(place) => Ok(place),
         None => Err(ScriptRequestFault::NoRequest),
@@ -34,7 +36,7 @@ fn parse_script_tile_name_parts(parts: &[&[u8]]) -> Option<TileName>
     };
     Some(TileName {
         job: parse_script_number(job)?,
-        stage: parse_script_stage(of_stage)?,
+        stage: parse_script_stage_number(of_stage)?,
         row: parse_script_number(row)?,
         col: parse_script_number(col)?,
     })

@@ -7,14 +7,17 @@ ghost use Rattle.gossip_events.specs.Scripts.{SpellsNode, SpellsNumber, SpellsSt
 use std::alloc::{AllocError, Global};
 
 /// The words of a line, separated by single blanks.
-pub fn split_script_words<'a>(alloc: Global, line: &'a [u8]) -> Result<Vec<&'a [u8]>, AllocError>
+pub fn split_script_line_into_words<'a>(
+    alloc: Global,
+    line: &'a [u8],
+) -> Result<Vec<&'a [u8]>, AllocError>
     ensures { IfOk result (λ found. map (λ w. w.now) found.items ≡ words line.now) }
 {
     line.split(|byte| *byte == b' ').collect(alloc)
 }
 
 /// The parts of a word, separated by single colons.
-pub fn split_script_tile_name<'a>(
+pub fn split_script_tile_name_at_colons<'a>(
     alloc: Global,
     word: &'a [u8],
 ) -> Result<Vec<&'a [u8]>, AllocError>
@@ -37,7 +40,7 @@ pub fn parse_script_number(word: &[u8]) -> Option<u32>
 }
 
 /// The node that the word names.
-pub fn parse_script_node(word: &[u8]) -> Option<u8>
+pub fn parse_script_node_number(word: &[u8]) -> Option<u8>
     ensures some { IfSome result (SpellsNode word.now) }
     ensures none { IfNone result ((n : ℕ) → ¬ SpellsNode word.now n) }
 {
@@ -45,7 +48,7 @@ pub fn parse_script_node(word: &[u8]) -> Option<u8>
 }
 
 /// The stage that the word names.
-pub fn parse_script_stage(word: &[u8]) -> Option<u16>
+pub fn parse_script_stage_number(word: &[u8]) -> Option<u16>
     ensures some { IfSome result (SpellsStage word.now) }
     ensures none { IfNone result ((n : ℕ) → ¬ SpellsStage word.now n) }
 {

@@ -11,7 +11,7 @@ use Rattle.tile_boxes.specs.Schedules.{is_inlined}
 use Rattle.tile_boxes.specs.Costs.{cost_of, stage_cost, cost}
 use Rattle.grouping.specs.Greedy.{Grouping}
 use Rattle.grouping.specs.inside.Standings.{AllStand}
-use Rattle.grouping.specs.inside.Trials.{find_kept_cost}
+use Rattle.grouping.specs.inside.Trials.{find_kept_cost_of_stored_stage}
 use Rattle.grouping.specs.declared.standing.StageStatus.{StageStatus}
 use Rattle.tile_boxes.proofs.TilesAreTargets.{gridded}
 use Rattle.grouping.proofs.InlinedStands.{points_kept}
@@ -43,7 +43,7 @@ none_without_tiles job inlining g = by (slice_get job.stages g)
 
 -- of another stage it is kept
 pub kept_is_cost : (job : Pipeline) (c : Grouping) (standings : List StageStatus) (g : ℕ) (grid : Grid) → AllStand job c standings
-    → is_inlined c.inlining g ≡ false → grid_at job g ≡ Some grid → Some (find_kept_cost (slice_get standings g)) ≡ cost job c.inlining g
+    → is_inlined c.inlining g ≡ false → grid_at job g ≡ Some grid → Some (find_kept_cost_of_stored_stage (slice_get standings g)) ≡ cost job c.inlining g
 kept_is_cost job c standings g grid stand stored at =
     let of = gridded job g grid at in
     let tiles : (has_tiles of.stage.body && not (is_inlined c.inlining g)) ≡ true = (λ i. of.tiles i && not (stored i)) in

@@ -25,9 +25,9 @@ use Rattle.job.proofs.TotalLaws.{map_same}
 use Rattle.tile_boxes.specs.Order.{ComesBefore, greatest_rank, order_stages_by_rank, backward}
 use Rattle.tile_boxes.specs.Schedules.{is_inlined, is_function_stage}
 use Rattle.tile_boxes.specs.Demands.{hull_of_all, areas_of}
-use Rattle.tile_boxes.specs.Targets.{Target, IsTarget, stage_demands, demands_by, cut_to, can_have_box, box_by, box_within, box, target_over}
+use Rattle.tile_boxes.specs.Targets.{Target, IsTarget, stage_demands, demands_by, cut_to, is_function_other_than_target, box_by, box_within, box, target_over}
 use Rattle.tile_boxes.specs.Costs.{tile_targets, scratch, most_scratch, points, stage_cost, cost_of, has_scratch, stage_fits}
-use Rattle.tile_boxes.specs.Tallies.{list_tile_areas, count_inlined_points}
+use Rattle.tile_boxes.specs.Tallies.{list_tile_areas, count_points_of_inlined_stage_or_zero}
 use Rattle.grouping.specs.Greedy.{cost_or_zero}
 use Rattle.grouping.specs.inside.Standings.{areas_at, scratch_by_tile, boxes_by_tile, NoneInlinedBelow}
 use Rattle.grouping.specs.inside.Trials.{count_box_points}
@@ -130,31 +130,31 @@ before_differs stages x y (inl low) = apart stages x y low
 before_differs stages x y (inr both) = let low = both.1 in grind (arith, nat_tests)
 
 inner_stays : (t : Target) (g x : ℕ) → IsJob t.job → NoneInlinedBelow t.job t.inlining g → nat_eq x g ≡ false
-    → count_inlined_points (with_one t g) x ≡ count_inlined_points t x
+    → count_points_of_inlined_stage_or_zero (with_one t g) x ≡ count_points_of_inlined_stage_or_zero t x
 inner_stays t g x h behind other = by (is_inlined t.inlining x) refl
   where
     flag : is_inlined (slice_set t.inlining g true) x ≡ is_inlined t.inlining x
     flag = other_flag t.inlining g x other
 
-    by : (b : Bool) → is_inlined t.inlining x ≡ b → count_inlined_points (with_one t g) x ≡ count_inlined_points t x
-    by true e = let stays = box_stays t g x h (behind x e) in (λ i. if flag i && can_have_box t x then count_box_points (stays i) else 0)
+    by : (b : Bool) → is_inlined t.inlining x ≡ b → count_points_of_inlined_stage_or_zero (with_one t g) x ≡ count_points_of_inlined_stage_or_zero t x
+    by true e = let stays = box_stays t g x h (behind x e) in (λ i. if flag i && is_function_other_than_target t x then count_box_points (stays i) else 0)
     by false e =
         let off : is_inlined (slice_set t.inlining g true) x ≡ false = flag ∙ e in
-        (λ i. if off i && can_have_box t x then count_box_points (box (with_one t g) x) else 0)
-        ∙ sym (λ i. if e i && can_have_box t x then count_box_points (box t x) else 0)
+        (λ i. if off i && is_function_other_than_target t x then count_box_points (box (with_one t g) x) else 0)
+        ∙ sym (λ i. if e i && is_function_other_than_target t x then count_box_points (box t x) else 0)
 
 from_none : (p : ℕ) → p ≡ 0 + p
 from_none p = omega arith
 
-inner_grows : (t : Target) (g : ℕ) → IsJob t.job → can_have_box t g ≡ true → is_inlined t.inlining g ≡ false → g < length t.inlining
-    → count_inlined_points (with_one t g) g ≡ count_inlined_points t g + count_box_points (box t g)
+inner_grows : (t : Target) (g : ℕ) → IsJob t.job → is_function_other_than_target t g ≡ true → is_inlined t.inlining g ≡ false → g < length t.inlining
+    → count_points_of_inlined_stage_or_zero (with_one t g) g ≡ count_points_of_inlined_stage_or_zero t g + count_box_points (box t g)
 inner_grows t g h boxed stored below =
     let on : is_inlined (slice_set t.inlining g true) g ≡ true = get_or-set_same t.inlining g true false below in
     let stays = box_stays t g g h (le_refl (rank_of t.job.stages g)) in
     let p : ℕ = count_box_points (box t g) in
-    (λ i. if on i && boxed i then count_box_points (stays i) else 0) ∙ from_none p ∙ sym (λ i. (if stored i && can_have_box t g then p else 0) + p)
+    (λ i. if on i && boxed i then count_box_points (stays i) else 0) ∙ from_none p ∙ sym (λ i. (if stored i && is_function_other_than_target t g then p else 0) + p)
 
-pub scratch_grows : (t : Target) (g : ℕ) → IsJob t.job → can_have_box t g ≡ true → is_inlined t.inlining g ≡ false → g < length t.inlining
+pub scratch_grows : (t : Target) (g : ℕ) → IsJob t.job → is_function_other_than_target t g ≡ true → is_inlined t.inlining g ≡ false → g < length t.inlining
     → NoneInlinedBelow t.job t.inlining g
     → scratch (with_one t g) ≡ scratch t + count_box_points (box t g)
 scratch_grows t g h boxed stored below behind =
@@ -163,13 +163,13 @@ scratch_grows t g h boxed stored below behind =
     let there : g < length stages = slice_get_within stages g stage.0 stage.1 in
     let once : AllPairs Differs (order_stages_by_rank stages) = λ i j d low high. before_differs stages _ _ (order_pairs stages i j d low high) in
     sym (scratch_is (with_one t g))
-    ∙ grown_sum (count_inlined_points t) (count_inlined_points (with_one t g)) (count_box_points (box t g)) g (order_stages_by_rank stages)
+    ∙ grown_sum (count_points_of_inlined_stage_or_zero t) (count_points_of_inlined_stage_or_zero (with_one t g)) (count_box_points (box t g)) g (order_stages_by_rank stages)
     (λ x other. inner_stays t g x h behind other)
     (inner_grows t g h boxed stored below) once ((order_has stages g).1 there)
     ∙ ap (λ n. n + count_box_points (box t g)) (scratch_is t)
 
 -- and so do the points of a target and of all tiles of a stage
-pub points_grow : (t : Target) (g : ℕ) → IsJob t.job → can_have_box t g ≡ true → is_inlined t.inlining g ≡ false → g < length t.inlining
+pub points_grow : (t : Target) (g : ℕ) → IsJob t.job → is_function_other_than_target t g ≡ true → is_inlined t.inlining g ≡ false → g < length t.inlining
     → NoneInlinedBelow t.job t.inlining g
     → points (with_one t g) ≡ points t + count_box_points (box t g)
 points_grow t g h boxed stored below behind =
@@ -207,7 +207,7 @@ pub points_are : (job : Pipeline) (inlining : List Bool) (h : ℕ) → is_inline
 points_are job inlining h stored = points_by job inlining h stored (slice_get job.stages h)
 
 boxed_in : (job : Pipeline) (inlining : List Bool) (g h : ℕ) (a : Area) → is_function_stage job g ≡ true → nat_eq g h ≡ false
-    → can_have_box (target_over job inlining h a) g ≡ true
+    → is_function_other_than_target (target_over job inlining h a) g ≡ true
 boxed_in job inlining g h a function other = λ i. function i && not (other i)
 
 pub cost_grows : (job : Pipeline) (inlining : List Bool) (g h : ℕ) → IsJob job → is_function_stage job g ≡ true → nat_eq g h ≡ false

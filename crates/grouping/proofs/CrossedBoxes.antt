@@ -22,7 +22,7 @@ use Rattle.tile_boxes.specs.Tallies.{area_of, list_tile_areas}
 use Rattle.grouping.specs.inside.Standings.{boxes_by_tile, AllStand}
 use Rattle.grouping.specs.inside.Trials.{grouping_of, find_kept_box, IsCandidate}
 use Rattle.grouping.specs.inside.Crossed.{crossed, boxes_in, IsCrossed}
-use Rattle.grouping.specs.inside.Between.{find_kept_region, IsBetween, IsNumberedTile, HasWhole, find_grid_tile, LiesAcross, AreSides}
+use Rattle.grouping.specs.inside.Between.{find_kept_region, IsBetween, IsNumberedTile, HasWhole, find_group_tile_by_row_and_column, LiesAcross, AreSides}
 use Rattle.grouping.specs.declared.between.NumberedTile.{NumberedTile}
 use Rattle.grouping.specs.declared.boxes.GroupBoxes.{GroupBoxes}
 use Rattle.grouping.specs.declared.boxes.GroupBoxes.TheVariants.{Each, Crossed}
@@ -41,7 +41,7 @@ number_at n i low =
     slice_get_read (range_with_len 0 n) n i i (sym (length-range_with_len 0 n)) low (sym (get_or-range_with_len 0 n i i low ∙ same))
 
 -- the tile in a row and a column stands where it should in the list of all
-pub tile_there : (job : Pipeline) (h : ℕ) (g : Grid) (i j : ℕ) → grid_at job h ≡ Some g → HasTile g i j → IsNumberedTile job h (find_grid_tile g i j)
+pub tile_there : (job : Pipeline) (h : ℕ) (g : Grid) (i j : ℕ) → grid_at job h ≡ Some g → HasTile g i j → IsNumberedTile job h (find_group_tile_by_row_and_column g i j)
 tile_there job h g i j at has =
     let rows = range_with_len 0 (tile_rows g) in
     let cols = range_with_len 0 (tile_cols g) in
@@ -97,12 +97,12 @@ kept_across standings h r g b apart is are i j has =
     let other : nat_eq r h ≡ false = ne_eqb r h apart in
     let kept : (spot : NumberedTile) → find_kept_region standings h spot r ≡ slice_index_or (boxes_in b) spot.place None =
     λ spot k. if other k then Some spot.tile else find_kept_box (is k) spot.place in
-    subst (λ (o : Option Area). IsBetween o (find_kept_region standings h (find_grid_tile g i 0) r) (find_kept_region standings h (find_grid_tile g 0 j) r))
-    (sym (kept (find_grid_tile g i j)))
+    subst (λ (o : Option Area). IsBetween o (find_kept_region standings h (find_group_tile_by_row_and_column g i 0) r) (find_kept_region standings h (find_group_tile_by_row_and_column g 0 j) r))
+    (sym (kept (find_group_tile_by_row_and_column g i j)))
     (subst (λ (o : Option Area). IsBetween (slice_index_or (boxes_in b) (i * tile_cols g + j) None) o
-    (find_kept_region standings h (find_grid_tile g 0 j) r)) (sym (kept (find_grid_tile g i 0)))
+    (find_kept_region standings h (find_group_tile_by_row_and_column g 0 j) r)) (sym (kept (find_group_tile_by_row_and_column g i 0)))
     (subst (λ (o : Option Area). IsBetween (slice_index_or (boxes_in b) (i * tile_cols g + j) None)
-    (slice_index_or (boxes_in b) (i * tile_cols g + 0) None) o) (sym (kept (find_grid_tile g 0 j))) (between_crossed b g i j are has)))
+    (slice_index_or (boxes_in b) (i * tile_cols g + 0) None) o) (sym (kept (find_group_tile_by_row_and_column g 0 j))) (between_crossed b g i j are has)))
 
 -- ---- sides
 
@@ -137,8 +137,8 @@ one_more_side job c k spot side n sides after area are whole is = record {
 pub crossed_is : (job : Pipeline) (c : Grouper) (k : InlineCandidate) (g : Grid) (rows cols : List Ends) → IsJob job
     → AllStand job (grouping_of c) c.standings.items → IsCandidate job (grouping_of c) k → grid_at job k.group ≡ Some g
     → All (LiesAcross c.standings.items k.group g) k.readers.items
-    → AreSides job c k (λ i. find_grid_tile g i 0) (λ a. a.rows) (tile_rows g) rows
-    → AreSides job c k (λ j. find_grid_tile g 0 j) (λ a. a.cols) (tile_cols g) cols
+    → AreSides job c k (λ i. find_group_tile_by_row_and_column g i 0) (λ a. a.rows) (tile_rows g) rows
+    → AreSides job c k (λ j. find_group_tile_by_row_and_column g 0 j) (λ a. a.cols) (tile_cols g) cols
     → crossed rows cols ≡ boxes_by_tile job c.inlining k.group k.number
 crossed_is job c k g rows cols is stand candidate at across down along =
     let inside : Area → Option Area = λ a. box (target_over job c.inlining k.group a) k.number in
@@ -158,7 +158,7 @@ crossed_is job c k g rows cols is stand candidate at across down along =
         let rows_are : r ≡ left.0.rows = same_Some r left.0.rows (sym row ∙ left.2) in
         let cols_are : d ≡ top.0.cols = same_Some d top.0.cols (sym col ∙ top.2) in
         (λ n. Some (area_of (rows_are n) (cols_are n)))
-        ∙ sym (kept_between job c k (find_grid_tile g i j) (find_grid_tile g i 0) (find_grid_tile g 0 j) left.0 top.0 is stand candidate
+        ∙ sym (kept_between job c k (find_group_tile_by_row_and_column g i j) (find_group_tile_by_row_and_column g i 0) (find_group_tile_by_row_and_column g 0 j) left.0 top.0 is stand candidate
         (tile_there job k.group g i j at (below, before)) (tile_there job k.group g i 0 at (below, first))
         (tile_there job k.group g 0 j at (some, before)) left.1 top.1 (λ q e low. across q e low i j (below, before)))
 

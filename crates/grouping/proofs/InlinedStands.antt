@@ -20,7 +20,7 @@ use Rattle.tile_boxes.specs.Costs.{scratch, most_scratch}
 use Rattle.grouping.specs.Greedy.{is_reader_of_stage, readers, Grouping, group, find_common_group, with_inlined, cost_or_zero, pays, has_room}
 use Rattle.grouping.specs.inside.Standings.{areas_at, boxes_by_tile, StandsStored, StandsInlined, Stands, AllStand, NoneInlinedBelow}
 use Rattle.grouping.specs.inside.Crossed.{boxes_in}
-use Rattle.grouping.specs.inside.Trials.{count_box_points, find_kept_cost}
+use Rattle.grouping.specs.inside.Trials.{count_box_points, find_kept_cost_of_stored_stage}
 use Rattle.grouping.specs.declared.standing.StageStatus.{StageStatus}
 use Rattle.grouping.specs.declared.standing.StageStatus.TheVariants.{Stored, Inlined}
 use Rattle.grouping.proofs.CostsGrow.{other_flag, box_stays, cost_grows, scratch_rises, room_is, cost_stays, scratch_stays, room_stays}
@@ -331,14 +331,14 @@ module _ {job : Pipeline} {c : Grouping} {standings : List StageStatus} {g h : �
 
 -- the points that are kept of a stored stage are those of the definition
 pub points_kept : (job : Pipeline) (c : Grouping) (standings : List StageStatus) (g : ℕ) → AllStand job c standings → g < length job.stages
-    → is_inlined c.inlining g ≡ false → find_kept_cost (slice_get standings g) ≡ cost_or_zero job c.inlining g
+    → is_inlined c.inlining g ≡ false → find_kept_cost_of_stored_stage (slice_get standings g) ≡ cost_or_zero job c.inlining g
 points_kept job c standings g stand there off = by (slice_get_cases standings g).1
   where
-    from : (s : StageStatus) → Stands job c g s → find_kept_cost (Some s) ≡ cost_or_zero job c.inlining g
+    from : (s : StageStatus) → Stands job c g s → find_kept_cost_of_stored_stage (Some s) ≡ cost_or_zero job c.inlining g
     from (Stored n tiles) k = k.costs
     from (Inlined boxes) k = absurd (false≢true (sym off ∙ k.inlined))
 
     by : ((s : StageStatus) × (g < length standings) × (slice_get standings g ≡ Some s) × (slice_index_or standings g s ≡ s))
-        ⊎ ((length standings ≤ g) × (slice_get standings g ≡ None)) → find_kept_cost (slice_get standings g) ≡ cost_or_zero job c.inlining g
-    by (inl (s, below, is, same)) = ap find_kept_cost is ∙ from s (stand.each g s is)
+        ⊎ ((length standings ≤ g) × (slice_get standings g ≡ None)) → find_kept_cost_of_stored_stage (slice_get standings g) ≡ cost_or_zero job c.inlining g
+    by (inl (s, below, is, same)) = ap find_kept_cost_of_stored_stage is ∙ from s (stand.each g s is)
     by (inr (past, none)) = let all = stand.all in absurd (omega (arith, past, there, all))

@@ -36,17 +36,17 @@ abbrev pub steps_at : Pipeline → ℕ → ℕ
 steps_at job g = option_map_or (λ s. steps_of s.body) (slice_get job.stages g) 0
 
 -- an index that leaves each number as it is
-abbrev pub is_identity_index : Scale → Bool
-is_identity_index i = int_eq i.mul (pos 1) && (int_eq i.add (pos 0) && int_eq i.div (pos 1))
+abbrev pub is_identity_index_along_one_axis : Scale → Bool
+is_identity_index_along_one_axis i = int_eq i.mul (pos 1) && (int_eq i.add (pos 0) && int_eq i.div (pos 1))
 
 -- not a read of stage g, or one at the point itself
-abbrev pub is_pointwise_read : ℕ → Read → Bool
-is_pointwise_read g (point h i j) = if h == g then is_identity_index i && is_identity_index j else true
-is_pointwise_read g (window h kernel) = not (h == g)
+abbrev pub is_read_of_other_stage_or_pointwise : ℕ → Read → Bool
+is_read_of_other_stage_or_pointwise g (point h i j) = if h == g then is_identity_index_along_one_axis i && is_identity_index_along_one_axis j else true
+is_read_of_other_stage_or_pointwise g (window h kernel) = not (h == g)
 
 -- a function whose reads of stage g are all at the point itself
 abbrev pub is_pointwise_reader : Pipeline → ℕ → ℕ → Bool
-is_pointwise_reader job g r = is_function_stage job r && list_all (is_pointwise_read g) (reads_at job r)
+is_pointwise_reader job g r = is_function_stage job r && list_all (is_read_of_other_stage_or_pointwise g) (reads_at job r)
 
 -- a function with at most eight operators and reads and no stencil, that two or three functions read, each at the point itself
 pub record IsCheap (job : Pipeline) (g : ℕ) : Type 0 where

@@ -5,7 +5,7 @@ ghost use Rattle.std.specs.Prelude.{◌≡◌, ◌++◌, ◌∷◌, true, length
 ghost use Rattle.domains.specs.Tiles.{HasTile, tile_rows, tile_cols};
 ghost use Rattle.job.specs.Kept.{pipeline_in};
 ghost use Rattle.job.specs.Readers.{grid_at};
-ghost use Rattle.grouping.specs.inside.Between.{find_grid_tile, LiesAcross, HasWhole, AreSides};
+ghost use Rattle.grouping.specs.inside.Between.{find_group_tile_by_row_and_column, LiesAcross, HasWhole, AreSides};
 ghost use Rattle.grouping.specs.inside.Crossed.{crossed};
 ghost use Rattle.grouping.specs.inside.Standings.{AllStand, boxes_by_tile};
 ghost use Rattle.grouping.specs.inside.Trials.{grouping_of, IsCandidate};
@@ -20,8 +20,8 @@ use job::Job;
 use std::alloc::{AllocError, Global};
 
 // The tile in a row and a column of tiles.
-fn find_grid_tile(grid: &Grid, row: u32, col: u32) -> Option<NumberedTile>
-    ensures is { IfSome result (λ s. s ≡ find_grid_tile grid.now row col) }
+fn find_group_tile_by_row_and_column(grid: &Grid, row: u32, col: u32) -> Option<NumberedTile>
+    ensures is { IfSome result (λ s. s ≡ find_group_tile_by_row_and_column grid.now row col) }
     ensures there { IfSome result (λ _. HasTile grid.now row col) }
 {
     let tile = grid.tile(row, col)?;
@@ -78,7 +78,7 @@ impl Grouper {
         requires grid { grid_at (pipeline_in job.now) candidate.now.group ≡ Some grid.now }
         requires hulls { length hulls.old ≡ length (pipeline_in job.now).stages }
         ensures sides { IfOk result (λ o. IfSome o (λ v. AreSides (pipeline_in job.now) self.now candidate.now
-            (λ i. find_grid_tile grid.now i 0) (λ a. a.rows) (tile_rows grid.now) v.items)) }
+            (λ i. find_group_tile_by_row_and_column grid.now i 0) (λ a. a.rows) (tile_rows grid.now) v.items)) }
         ensures room { length hulls.new ≡ length hulls.old }
     {
         let mut rows = Vec::new(alloc);
@@ -107,7 +107,7 @@ impl Grouper {
         requires grid { grid_at (pipeline_in job.now) candidate.now.group ≡ Some grid.now }
         requires hulls { length hulls.old ≡ length (pipeline_in job.now).stages }
         ensures sides { IfOk result (λ o. IfSome o (λ v. AreSides (pipeline_in job.now) self.now candidate.now
-            (λ j. find_grid_tile grid.now 0 j) (λ a. a.cols) (tile_cols grid.now) v.items)) }
+            (λ j. find_group_tile_by_row_and_column grid.now 0 j) (λ a. a.cols) (tile_cols grid.now) v.items)) }
         ensures room { length hulls.new ≡ length hulls.old }
     {
         let mut cols = Vec::new(alloc);
@@ -137,10 +137,10 @@ impl Grouper {
         requires grid { grid_at (pipeline_in job.now) candidate.now.group ≡ Some grid.now }
         requires hulls { length hulls.old ≡ length (pipeline_in job.now).stages }
         ensures is { IfSome result (HasWhole (pipeline_in job.now) self.now candidate.now
-            (find_grid_tile grid.now row col)) }
+            (find_group_tile_by_row_and_column grid.now row col)) }
         ensures room { length hulls.new ≡ length hulls.old }
     {
-        let spot = find_grid_tile(grid, row, col)?;
+        let spot = find_group_tile_by_row_and_column(grid, row, col)?;
         let area = self.find_box_in_tile(job, candidate, &spot, hulls);
         self.accept_box_if_readers_whole(job, candidate, &spot, &area)
     }
@@ -165,7 +165,10 @@ impl Grouper {
         }
         match self.standings.get(reader) {
             Some(StageStatus::Inlined(boxes)) => {
-                boxes.has_separable_boxes(grid.tile_rows() as usize, grid.tile_cols() as usize)
+                boxes.has_separable_boxes_of_grid_size(
+                    grid.tile_rows() as usize,
+                    grid.tile_cols() as usize,
+                )
             }
             _ => false,
         }

@@ -96,7 +96,7 @@ impl Grouper {
         let top = find_group_tile_by_number(tiles, here.place.checked_sub(wholes.first)?)?;
         let one = wholes.find_known_box(left.place)?;
         let other = wholes.find_known_box(top.place)?;
-        if self.can_derive_inner_box(candidate, here, &left, &top) {
+        if self.has_reader_regions_of_left_and_top(candidate, here, &left, &top) {
             Some(Area {
                 rows: one.rows,
                 cols: other.cols,
@@ -107,7 +107,7 @@ impl Grouper {
     }
 
     // Whether in a tile the region of each reader has its rows in common with that in `left`, and its columns with that in `top`.
-    fn can_derive_inner_box(
+    fn has_reader_regions_of_left_and_top(
         &self,
         candidate: &InlineCandidate,
         here: &NumberedTile,
@@ -210,11 +210,11 @@ fn meets_all_case_boxes(body: &Body, region: &Area) -> bool
 {
     match body {
         Body::Plane(_) | Body::Accumulator(_) => true,
-        Body::Function(function) => meets_case_box_of_each(function.cases(), region),
+        Body::Function(function) => meets_case_box_of_each_listed_case(function.cases(), region),
     }
 }
 
-fn meets_case_box_of_each(cases: &[JobCase], region: &Area) -> bool
+fn meets_case_box_of_each_listed_case(cases: &[JobCase], region: &Area) -> bool
     ensures { result ≡ list_all (λ p. meets_case_box region.now p.box) (map case_view cases.now) }
 {
     for case in cases {

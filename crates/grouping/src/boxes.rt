@@ -29,12 +29,16 @@ impl GroupBoxes {
     {
         match self {
             GroupBoxes::Each(boxes) => *boxes.get(place)?,
-            GroupBoxes::Crossed(spans) => find_separable_box(&spans.rows, &spans.cols, place),
+            GroupBoxes::Crossed(spans) => find_separable_box_by_tile_number(
+                &spans.rows,
+                &spans.cols,
+                place,
+            ),
         }
     }
 
     /// Whether they are kept as a product of this many rows and columns of tiles.
-    pub(crate) fn has_separable_boxes(&self, rows: usize, cols: usize) -> bool
+    pub(crate) fn has_separable_boxes_of_grid_size(&self, rows: usize, cols: usize) -> bool
         ensures { result ≡ true → IsCrossed rows cols self.now }
     {
         match self {
@@ -45,7 +49,7 @@ impl GroupBoxes {
 }
 
 // The area of this number in the product of these rows and these columns.
-fn find_separable_box(rows: &[Span], cols: &[Span], place: usize) -> Option<Area>
+fn find_separable_box_by_tile_number(rows: &[Span], cols: &[Span], place: usize) -> Option<Area>
     ensures { result ≡ slice_index_or (crossed rows.now cols.now) place None }
 {
     if cols.is_empty() {

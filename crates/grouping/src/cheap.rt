@@ -10,14 +10,14 @@ ghost use Rattle.job.specs.Views.{formula_view, case_view, stage_view};
 ghost use Rattle.job.specs.ReadViews.{read_view};
 ghost use Rattle.job.specs.Reads.{reads_of};
 ghost use Rattle.tile_boxes.specs.Order.{backward};
-ghost use Rattle.grouping.specs.Cheap.{IsCheap, AddsCheap, steps_in, steps_of_case, steps_of, steps_at, is_identity_index, is_pointwise_read, is_pointwise_reader};
+ghost use Rattle.grouping.specs.Cheap.{IsCheap, AddsCheap, steps_in, steps_of_case, steps_of, steps_at, is_identity_index_along_one_axis, is_read_of_other_stage_or_pointwise, is_pointwise_reader};
 ghost use Rattle.job.specs.Kept.{pipeline_in};
 ghost use Rattle.tile_boxes.specs.Schedules.{is_function_stage, IsSchedule};
 ghost use Rattle.job.specs.Answers.{is_output};
 ghost use Rattle.grouping.specs.Inlining.{IsScheduleOf, InlinesMore};
 ghost use Rattle.tile_boxes.specs.Costs.{AllFitScratch};
 
-use crate::readers::find_stage_readers;
+use crate::readers::list_readers_of_stage;
 use crate::schedule::Schedule;
 use domains::Index;
 use job::{Body, Formula, Function, Job, JobCase, Read, Stage};
@@ -40,7 +40,7 @@ const MOST_READERS: usize = 3;
 /// # Errors
 ///
 /// Fails only where memory is refused.
-pub fn inline_pointwise_functions(
+pub fn extend_schedule_by_pointwise_inlining(
     alloc: Global,
     job: &Job,
     schedule: Schedule,
@@ -49,13 +49,13 @@ pub fn inline_pointwise_functions(
     requires fits { AllFitScratch (pipeline_in job.now) schedule.inlining }
     ensures { IfOk result (InlinesMore (pipeline_in job.now) schedule.inlining) }
 {
-    let inlining = add_pointwise_inlining(alloc, job, schedule.inlining())?;
+    let inlining = copy_inlining_with_pointwise_added(alloc, job, schedule.inlining())?;
     schedule.extend_inlining_if_fitting(alloc, job, inlining)
 }
 
 // What a schedule inlines, and point-wise functions as well.
 #[tactic(auto, using(crate::proofs::CheapOnesAreAdded::adds_none))]
-fn add_pointwise_inlining(
+fn copy_inlining_with_pointwise_added(
     alloc: Global,
     job: &Job,
     before: &InlinedStages,
@@ -69,7 +69,7 @@ fn add_pointwise_inlining(
     let mut inlining = before.copy()?;
     for number in 0..job.stages().len() {
         if can_inline_pointwise(alloc, job, &inlining, &order, number)? {
-            inlining.set_inlined(number, true);
+            inlining.set_stage_inlined_or_stored(number, true);
         }
     }
     Ok(inlining)
@@ -91,18 +91,22 @@ fn can_inline_pointwise(
     if !is_function_stage(job, number) || job.is_output(number) || inlining.inlined(number) {
         return Ok(false);
     }
-    if !is_pointwise_candidate(job, inlining, number) {
+    if !has_few_pointwise_steps_on_stored_stages(job, inlining, number) {
         return Ok(false);
     }
-    let readers = find_stage_readers(alloc, job, order, number)?;
+    let readers = list_readers_of_stage(alloc, job, order, number)?;
     if readers.len() < 2 || readers.len() > MOST_READERS {
         return Ok(false);
     }
-    Ok(has_only_pointwise_readers(job, inlining, &readers, number))
+    Ok(has_only_stored_pointwise_readers(job, inlining, &readers, number))
 }
 
 // Whether a stage is a function of few steps that reads stored stages alone.
-fn is_pointwise_candidate(job: &Job, inlining: &InlinedStages, number: usize) -> bool
+fn has_few_pointwise_steps_on_stored_stages(
+    job: &Job,
+    inlining: &InlinedStages,
+    number: usize,
+) -> bool
     ensures { result ≡ true → steps_at (pipeline_in job.now) number ≤ 8 }
 {
     match job.stage(number) {
@@ -118,19 +122,19 @@ fn has_few_pointwise_operations(stage: &Stage) -> bool
 {
     match stage.body() {
         Body::Plane(_) | Body::Accumulator(_) => false,
-        Body::Function(given) => count_pointwise_operations_left(given).is_some(),
+        Body::Function(given) => count_pointwise_budget_left_by_function(given).is_some(),
     }
 }
 
 // How many steps fewer a function takes than a point-wise one may take, if it is within that limit.
-fn count_pointwise_operations_left(given: &Function) -> Option<u32>
+fn count_pointwise_budget_left_by_function(given: &Function) -> Option<u32>
     ensures { IfSome result (λ left. left
         + steps_of (function (map case_view given.now.cases.items)
         (option_map formula_view given.now.otherwise)) ≡ 8) }
 {
     let left = subtract_pointwise_operations_of_cases(given.cases(), MOST_STEPS)?;
     match given.otherwise() {
-        Some(formula) => subtract_pointwise_operations(formula, left),
+        Some(formula) => subtract_pointwise_operations_of_formula(formula, left),
         None => Some(left),
     }
 }
@@ -142,14 +146,14 @@ fn subtract_pointwise_operations_of_cases(cases: &[JobCase], steps: u32) -> Opti
 {
     let mut left = steps;
     for case in cases {
-        left = subtract_pointwise_operations(case.formula(), left)?;
+        left = subtract_pointwise_operations_of_formula(case.formula(), left)?;
     }
     Some(left)
 }
 
 // How many of `steps` steps are left after those of a formula. An operator is one step, and so is a read. A stencil takes too
 // many.
-fn subtract_pointwise_operations(formula: &Formula, steps: u32) -> Option<u32>
+fn subtract_pointwise_operations_of_formula(formula: &Formula, steps: u32) -> Option<u32>
     ensures { IfSome result (λ left. left + steps_in (formula_view formula.now) ≡ steps) }
 {
     match formula {
@@ -157,31 +161,31 @@ fn subtract_pointwise_operations(formula: &Formula, steps: u32) -> Option<u32>
         Formula::Read(_, _, _) => steps.checked_sub(1),
         Formula::Unary(_, operand)
         | Formula::Lookup(_, operand)
-        | Formula::Literal(_, operand, _) => subtract_pointwise_operations(
+        | Formula::Literal(_, operand, _) => subtract_pointwise_operations_of_formula(
             operand,
             steps.checked_sub(1)?,
         ),
         Formula::Binary(_, left, right) => {
-            let rest = subtract_pointwise_operations(left, steps.checked_sub(1)?)?;
-            subtract_pointwise_operations(right, rest)
+            let rest = subtract_pointwise_operations_of_formula(left, steps.checked_sub(1)?)?;
+            subtract_pointwise_operations_of_formula(right, rest)
         }
         Formula::Ternary(_, first, second, third) => {
-            let rest = subtract_pointwise_operations(first, steps.checked_sub(1)?)?;
-            let rest = subtract_pointwise_operations(second, rest)?;
-            subtract_pointwise_operations(third, rest)
+            let rest = subtract_pointwise_operations_of_formula(first, steps.checked_sub(1)?)?;
+            let rest = subtract_pointwise_operations_of_formula(second, rest)?;
+            subtract_pointwise_operations_of_formula(third, rest)
         }
         Formula::Select(left, _, right, then, otherwise) => {
-            let rest = subtract_pointwise_operations(left, steps.checked_sub(1)?)?;
-            let rest = subtract_pointwise_operations(right, rest)?;
-            let rest = subtract_pointwise_operations(then, rest)?;
-            subtract_pointwise_operations(otherwise, rest)
+            let rest = subtract_pointwise_operations_of_formula(left, steps.checked_sub(1)?)?;
+            let rest = subtract_pointwise_operations_of_formula(right, rest)?;
+            let rest = subtract_pointwise_operations_of_formula(then, rest)?;
+            subtract_pointwise_operations_of_formula(otherwise, rest)
         }
         Formula::Stencil(_, _, _) => None,
     }
 }
 
 // Whether these are stored functions that read a stage at the point itself alone.
-fn has_only_pointwise_readers(
+fn has_only_stored_pointwise_readers(
     job: &Job,
     inlining: &InlinedStages,
     readers: &[usize],
@@ -203,16 +207,18 @@ fn is_pointwise_reader(job: &Job, reader: usize, number: usize) -> bool
     ensures { result ≡ is_pointwise_reader (pipeline_in job.now) number reader }
 {
     match job.stage(reader) {
-        Some(stage) if is_function_stage(job, reader) => has_only_pointwise_reads(stage, number),
+        Some(stage) if is_function_stage(job, reader) => has_only_pointwise_reads_of_other_stage(
+            stage, number,
+        ),
         _ => false,
     }
 }
 
-fn has_only_pointwise_reads(stage: &Stage, number: usize) -> bool
-    ensures { result ≡ list_all (is_pointwise_read number) (reads_of (stage_view stage.now).body) }
+fn has_only_pointwise_reads_of_other_stage(stage: &Stage, number: usize) -> bool
+    ensures { result ≡ list_all (is_read_of_other_stage_or_pointwise number) (reads_of (stage_view stage.now).body) }
 {
     for read in stage.reads() {
-        if !is_pointwise_read(read, number) {
+        if !is_read_of_other_stage_or_pointwise(read, number) {
             return false;
         }
     }
@@ -220,26 +226,26 @@ fn has_only_pointwise_reads(stage: &Stage, number: usize) -> bool
 }
 
 // Whether this is not a read of the stage of this number, or is one at the point itself.
-fn is_pointwise_read(read: &Read, number: usize) -> bool
-    ensures { result ≡ is_pointwise_read number (read_view read.now) }
+fn is_read_of_other_stage_or_pointwise(read: &Read, number: usize) -> bool
+    ensures { result ≡ is_read_of_other_stage_or_pointwise number (read_view read.now) }
 {
     match read {
         Read::Point(stage, row, column) => *stage != number
-            || is_identity_index(row) && is_identity_index(column),
+            || is_identity_index_along_one_axis(row) && is_identity_index_along_one_axis(column),
         Read::Window(stage, _) => *stage != number,
     }
 }
 
 // Whether an index leaves each number as it is.
-fn is_identity_index(index: &Index) -> bool
-    ensures { result ≡ is_identity_index index.now }
+fn is_identity_index_along_one_axis(index: &Index) -> bool
+    ensures { result ≡ is_identity_index_along_one_axis index.now }
 {
-    is_identity_index_part(index.mul(), 1)
-        && is_identity_index_part(index.add(), 0)
-        && is_identity_index_part(index.div(), 1)
+    are_equal_identity_index_coefficients(index.mul(), 1)
+        && are_equal_identity_index_coefficients(index.add(), 0)
+        && are_equal_identity_index_coefficients(index.div(), 1)
 }
 
-fn is_identity_index_part(a: i32, b: i32) -> bool
+fn are_equal_identity_index_coefficients(a: i32, b: i32) -> bool
     ensures { result ≡ int_eq a b }
 {
     a == b

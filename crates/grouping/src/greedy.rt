@@ -12,10 +12,10 @@ ghost use Rattle.tile_boxes.specs.Costs.{cost};
 ghost use Rattle.tile_boxes.specs.Costs.{survey_stage_costs, AllFitScratch};
 ghost use Rattle.grouping.specs.Greedy.{initial_grouping, find_common_group, group, visited, inlined_if, with_inlined, greedy_inlining};
 ghost use Rattle.grouping.specs.inside.Standings.{areas_at, Stands, AllStand, NoneInlinedBelow};
-ghost use Rattle.grouping.specs.inside.Trials.{grouping_of, find_kept_cost, IsCandidate};
+ghost use Rattle.grouping.specs.inside.Trials.{grouping_of, find_kept_cost_of_stored_stage, IsCandidate};
 ghost use Rattle.grouping.specs.declared.standing.StageStatus.TheVariants.{Stored, Inlined};
 
-use crate::readers::find_stage_readers;
+use crate::readers::list_readers_of_stage;
 use crate::standing::StageStatus;
 use crate::trial::{InlineCandidate, InlineTrial};
 use job::Job;
@@ -38,7 +38,7 @@ pub(crate) struct GreedyChoice {
 }
 
 /// The functions that the greedy rule inlines, with the costs.
-pub(crate) fn choose_greedy_inlining(
+pub(crate) fn choose_greedy_inlining_with_costs(
     alloc: Global,
     job: &Job,
     percent: u32,
@@ -70,7 +70,7 @@ fn group_stages_greedily(alloc: Global, job: &Job, percent: u32) -> Result<Group
     order.reverse();
     let mut grouping = Grouper::new(alloc, job)?;
     for number in &order {
-        grouping.inline_if_allowed(alloc, job, &order, *number, percent)?;
+        grouping.inline_function_if_rule_allows(alloc, job, &order, *number, percent)?;
     }
     Ok(grouping)
 }
@@ -99,7 +99,7 @@ impl Grouper {
     }
 
     // Inlines a function if the rule allows it.
-    fn inline_if_allowed(
+    fn inline_function_if_rule_allows(
         &mut self,
         alloc: Global,
         job: &Job,
@@ -122,7 +122,7 @@ impl Grouper {
         if !is_function_stage(job, number) || job.is_output(number) {
             return Ok(());
         }
-        let readers = find_stage_readers(alloc, job, order, number)?;
+        let readers = list_readers_of_stage(alloc, job, order, number)?;
         let Some(group) = self.find_common_group(&readers) else {
             return Ok(());
         };
@@ -131,11 +131,11 @@ impl Grouper {
             readers,
             group,
         };
-        self.inline_if_it_pays(alloc, job, &candidate, percent)
+        self.inline_candidate_if_it_pays_and_fits(alloc, job, &candidate, percent)
     }
 
     // Inlines the function if that pays and each tile of its group then fits in scratch memory.
-    fn inline_if_it_pays(
+    fn inline_candidate_if_it_pays_and_fits(
         &mut self,
         alloc: Global,
         job: &Job,
@@ -153,10 +153,12 @@ impl Grouper {
         ensures stand { OnOk result
             (AllStand (pipeline_in job.now) (grouping_of self.new) self.new.standings.items) }
     {
-        let trial = self.try_candidate(alloc, job, candidate)?;
-        let own = self.find_kept_cost(candidate.group);
-        let apart = self.find_kept_cost(candidate.number);
-        if is_inlining_worthwhile(own, apart, trial.added, percent) && trial.can_fit_scratch() {
+        let trial = self.compute_inline_trial_of_candidate(alloc, job, candidate)?;
+        let own = self.find_kept_cost_of_stored_stage(candidate.group);
+        let apart = self.find_kept_cost_of_stored_stage(candidate.number);
+        if is_inlining_cost_within_percent(own, apart, trial.added, percent)
+            && trial.has_fitting_scratch_in_each_tile()
+        {
             let points = own + trial.added;
             self.inline_function(candidate, trial, points);
         }
@@ -175,15 +177,16 @@ impl Grouper {
             (slice_set self.old.standings.items candidate.now.number (Inlined trial.boxes))
             candidate.now.group (Stored points trial.scratch) }
     {
-        self.inlining.set_inlined(candidate.number, true);
+        self.inlining
+            .set_stage_inlined_or_stored(candidate.number, true);
         self.groups[candidate.number] = candidate.group;
         self.standings[candidate.number] = StageStatus::Inlined(trial.boxes);
         self.standings[candidate.group] = StageStatus::Stored(points, trial.scratch);
     }
 
     // What the tiles of a stored stage take together.
-    fn find_kept_cost(&self, number: usize) -> u64
-        ensures { result ≡ find_kept_cost (slice_get self.now.standings.items number) }
+    fn find_kept_cost_of_stored_stage(&self, number: usize) -> u64
+        ensures { result ≡ find_kept_cost_of_stored_stage (slice_get self.now.standings.items number) }
     {
         match self.standings.get(number) {
             Some(standing) => standing.cost(),
@@ -216,13 +219,13 @@ impl Grouper {
             return None;
         }
         match job.grid(number) {
-            Some(_) => Some(self.find_kept_cost(number)),
+            Some(_) => Some(self.find_kept_cost_of_stored_stage(number)),
             None => None,
         }
     }
 
     // The stored stage in whose tiles a stage is computed.
-    fn find_group(&self, number: usize) -> usize
+    fn get_group_of_stage(&self, number: usize) -> usize
         ensures { result ≡ group (grouping_of self.now) number }
     {
         match self.groups.get(number) {
@@ -235,7 +238,7 @@ impl Grouper {
     fn find_common_group(&self, readers: &[usize]) -> Option<usize>
         ensures { result ≡ find_common_group (grouping_of self.now) readers.now }
     {
-        let first = self.find_group(*readers.first()?);
+        let first = self.get_group_of_stage(*readers.first()?);
         if self.are_all_in_group(first, readers) {
             Some(first)
         } else {
@@ -246,12 +249,14 @@ impl Grouper {
     fn are_all_in_group(&self, place: usize, stages: &[usize]) -> bool
         ensures { result ≡ list_all (λ g. group (grouping_of self.now) g == place) stages.now }
     {
-        stages.iter().all(|stage| self.find_group(*stage) == place)
+        stages
+            .iter()
+            .all(|stage| self.get_group_of_stage(*stage) == place)
     }
 }
 
 // Whether the group takes few enough points with `added` more.
-fn is_inlining_worthwhile(own: u64, apart: u64, added: u64, percent: u32) -> bool
+fn is_inlining_cost_within_percent(own: u64, apart: u64, added: u64, percent: u32) -> bool
     requires { percent ≤ 10000 }
     ensures { result ≡ nat_le (100 * (own + added)) ((100 + percent) * (own + apart)) }
 {
@@ -271,12 +276,12 @@ fn new_stored_stage_status(
     ensures { IfOk result
         (Stands (pipeline_in job.now) (initial_grouping (pipeline_in job.now)) number) }
 {
-    let points = find_group_cost_or_zero(costs, number);
+    let points = find_cost_for_stage_status_or_zero(costs, number);
     Ok(StageStatus::Stored(points, new_zero_scratch_of_group_tiles(alloc, job, number)?))
 }
 
 // The cost of a stage, if it has one.
-fn find_group_cost_or_zero(costs: &[Option<u64>], number: usize) -> u64
+fn find_cost_for_stage_status_or_zero(costs: &[Option<u64>], number: usize) -> u64
     ensures { result ≡ option_map_or (λ n. n) (slice_index_or costs.now number None) 0 }
 {
     match costs.get(number) {

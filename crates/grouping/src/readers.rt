@@ -12,7 +12,7 @@ use job::{Job, Stage};
 use std::alloc::{AllocError, Global};
 
 /// Those of these stages that read stage `number`.
-pub(crate) fn find_stage_readers(
+pub(crate) fn list_readers_of_stage(
     alloc: Global,
     job: &Job,
     stages: &[usize],

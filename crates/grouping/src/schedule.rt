@@ -4,13 +4,13 @@
 ghost use Rattle.std.specs.Prelude.{◌≡◌, ◌≤◌, None, IfOk, IfErr, length, slice_index_or};
 
 use crate::fault::ScheduleFault;
-use crate::greedy::choose_greedy_inlining;
+use crate::greedy::choose_greedy_inlining_with_costs;
 use domains::Area;
 use job::Job;
 use std::alloc::{AllocError, Global};
 use std::marker::Model;
 use tile_boxes::{
-    BoxWalk, InlinedStages, find_inlined_output, order_stages_by_rank, survey_stage_costs,
+    BoxWalk, InlinedStages, find_output_requested_inlined, order_stages_by_rank, survey_stage_costs,
 };
 
 /// Which functions are inlined, what the other functions and the accumulators cost, and whether each of their tiles is known to
@@ -70,7 +70,7 @@ impl Schedule {
         ensures schedule { IfOk result (IsScheduleOf (pipeline_in job.now)) }
         ensures fault { IfErr result (IsScheduleFault (pipeline_in job.now) inlining.now) }
     {
-        match find_inlined_output(job, inlining) {
+        match find_output_requested_inlined(job, inlining) {
             Some(stage) => Err(ScheduleFault::OutputInlined(stage)),
             None => Ok(Schedule::from_requested(alloc, job, inlining)?),
         }
@@ -103,7 +103,7 @@ impl Schedule {
         ensures schedule { IfOk result (IsScheduleOf (pipeline_in job.now)) }
         ensures fits { IfOk result (λ s. AllFitScratch (pipeline_in job.now) s.inlining) }
     {
-        let choice = choose_greedy_inlining(alloc, job, percent)?;
+        let choice = choose_greedy_inlining_with_costs(alloc, job, percent)?;
         Ok(Schedule {
             inlining: choice.inlining,
             costs: choice.costs,

@@ -2,7 +2,7 @@
 //! The status of a stage while the greedy rule runs.
 
 ghost use Rattle.std.specs.Prelude.{◌≡◌, Some};
-ghost use Rattle.grouping.specs.inside.Trials.{find_kept_cost, find_kept_box, find_kept_scratch};
+ghost use Rattle.grouping.specs.inside.Trials.{find_kept_cost_of_stored_stage, find_kept_box, find_kept_scratch};
 
 use crate::boxes::GroupBoxes;
 use domains::Area;
@@ -19,7 +19,7 @@ pub(crate) enum StageStatus {
 impl StageStatus {
     /// What the tiles of a stored stage take together.
     pub(crate) fn cost(&self) -> u64
-        ensures { result ≡ find_kept_cost (Some self.now) }
+        ensures { result ≡ find_kept_cost_of_stored_stage (Some self.now) }
     {
         match self {
             StageStatus::Stored(points, _) => *points,

@@ -42,7 +42,7 @@ pub(crate) struct InlineTrial {
 
 impl InlineTrial {
     /// Whether each tile fits in scratch memory.
-    pub(crate) fn can_fit_scratch(&self) -> bool
+    pub(crate) fn has_fitting_scratch_in_each_tile(&self) -> bool
         ensures { result ≡ list_all (λ n. nat_le n most_scratch) self.now.scratch.items }
     {
         self.scratch.iter().all(|points| *points <= MOST_SCRATCH)
@@ -121,7 +121,7 @@ fn count_box_points(area: &Option<Area>) -> u64
 
 impl Grouper {
     /// What inlining a function would take.
-    pub(crate) fn try_candidate(
+    pub(crate) fn compute_inline_trial_of_candidate(
         &self,
         alloc: Global,
         job: &Job,
@@ -136,10 +136,10 @@ impl Grouper {
     {
         let mut hulls = new_empty_boxes(alloc, job)?;
         match self.find_separable_boxes(alloc, job, candidate, &mut hulls)? {
-            Some(spans) => self.try_separable_boxes(alloc, job, candidate, spans),
+            Some(spans) => self.compute_trial_from_separable_boxes(alloc, job, candidate, spans),
             None => {
                 let tiles = list_areas_of_group_tiles(alloc, job, candidate.group)?;
-                self.try_each_tile(alloc, job, candidate, &tiles, &mut hulls)
+                self.compute_trial_tile_by_tile(alloc, job, candidate, &tiles, &mut hulls)
             }
         }
     }
@@ -168,7 +168,7 @@ impl Grouper {
     }
 
     // What inlining the function would take with these boxes.
-    fn try_separable_boxes(
+    fn compute_trial_from_separable_boxes(
         &self,
         alloc: Global,
         job: &Job,
@@ -255,7 +255,7 @@ impl Grouper {
     }
 
     // The same over the tiles of its group. `hulls` is a working buffer.
-    fn try_each_tile(
+    fn compute_trial_tile_by_tile(
         &self,
         alloc: Global,
         job: &Job,

@@ -14,7 +14,7 @@ use Rattle.fact_audit.specs.Shapes.{BodyFits, FitsJob}
 use Rattle.fact_store.proofs.KeyLaws.{in_facts_of}
 use Rattle.tile_boxes.proofs.Lists.{Contains-flat_map}
 use Rattle.tile_boxes.specs.Schedules.{is_function_stage, is_function_body}
-use Rattle.tile_boxes.specs.Targets.{Target, can_have_box}
+use Rattle.tile_boxes.specs.Targets.{Target, is_function_other_than_target}
 use Rattle.tile_boxes.specs.Schedules.{is_inlined}
 use Rattle.identity.specs.declared.key.Key.{Key}
 use Rattle.job.specs.Answers.{is_accumulator}
@@ -103,7 +103,7 @@ pub needed_function : (program : List ℕ) (t : Target) → IsJob t.job → (nee
 needed_function program t good need asked =
     let at = Contains-from_map (key_of program t.job) (needs t) need asked in
     let needed = from_needs t at.0 good at.1 in
-    let boxed = and_parts (can_have_box t at.0.stage) (not (is_inlined t.inlining at.0.stage)) needed.stored in
+    let boxed = and_parts (is_function_other_than_target t at.0.stage) (not (is_inlined t.inlining at.0.stage)) needed.stored in
     let function' = and_parts (is_function_stage t.job at.0.stage) (not (at.0.stage == t.stage)) boxed.0 in
     subst (λ (k : Key). is_function_stage t.job k.stage ≡ true) at.2 function'.0
 

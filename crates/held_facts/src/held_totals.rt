@@ -33,13 +33,13 @@ impl<S: FactStore> HeldJobFacts<'_, S> {
     {
         let mut totals = Vec::new(alloc);
         for stage in 0..self.job.stages().len() {
-            self.push_stage_total(&mut totals, alloc, stage)?;
+            self.push_total_if_accumulator_stage(&mut totals, alloc, stage)?;
         }
         Ok(totals)
     }
 
     // Adds what a stage accumulates, if it is an accumulator.
-    fn push_stage_total(
+    fn push_total_if_accumulator_stage(
         &self,
         totals: &mut Vec<Total>,
         alloc: Global,

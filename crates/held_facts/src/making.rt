@@ -15,7 +15,7 @@ use crate::held_tiles::HeldTiles;
 use crate::local_bodies::compute_fact_body_from_held_tiles;
 use crate::make_fault::MakeFault;
 use catalog::Catalog;
-use fact_audit::{find_job_of_fact_key, is_well_shaped_fact};
+use fact_audit::{borrow_job_of_fact_key, is_well_shaped_fact};
 use fact_store::FactStore;
 use grouping::Schedule;
 use identity::Key;
@@ -41,12 +41,12 @@ impl<S: FactStore> HeldFacts<S> {
         ensures fault { IfErr result
             (IsMakeFault catalog.now self.now schedule.now.inlining key.now) }
     {
-        let Some(job) = find_job_of_fact_key(catalog, key) else {
+        let Some(job) = borrow_job_of_fact_key(catalog, key) else {
             return Err(MakeFault::Foreign);
         };
         let stage = usize::from(key.stage);
         let plan = TilePlan::of(self.alloc, job, schedule, stage, key.row, key.col)?;
-        let facts = self.find_needed_facts(job, plan.needs())?;
+        let facts = self.copy_held_facts_of_needed_keys(job, plan.needs())?;
         let body = compute_fact_body_from_held_tiles(
             self.alloc,
             job,
@@ -61,7 +61,11 @@ impl<S: FactStore> HeldFacts<S> {
     }
 
     // The held facts of the needs, in their order, if one that fits its tile is held of each.
-    fn find_needed_facts(&self, job: &Job, needs: &[Key]) -> Result<Vec<Fact>, MakeFault>
+    fn copy_held_facts_of_needed_keys(
+        &self,
+        job: &Job,
+        needs: &[Key],
+    ) -> Result<Vec<Fact>, MakeFault>
         ensures facts { IfOk result
             (λ facts. facts.items ≡ flat_map (facts_of self.now) needs.now) }
         ensures ready { IfOk result (λ _. AreReady self.now (pipeline_in job.now) needs.now) }
@@ -69,14 +73,14 @@ impl<S: FactStore> HeldFacts<S> {
     {
         let mut facts = Vec::with_capacity(self.alloc, needs.len())?;
         for need in needs {
-            let fact = self.find_needed_fact(job, need)?;
+            let fact = self.copy_held_fact_of_needed_key(job, need)?;
             facts.push(fact).map_err(AllocError::from)?;
         }
         Ok(facts)
     }
 
     // The one held fact of the need, if it fits its tile.
-    fn find_needed_fact(&self, job: &Job, need: &Key) -> Result<Fact, MakeFault>
+    fn copy_held_fact_of_needed_key(&self, job: &Job, need: &Key) -> Result<Fact, MakeFault>
         ensures one { IfOk result (λ fact. facts_of self.now need.now ≡ fact ∷ []) }
         ensures fits { IfOk result (λ fact. FitsJob fact (pipeline_in job.now)) }
         ensures fault { IfErr result (IsNeedFault self.now (pipeline_in job.now) need.now) }

@@ -19,7 +19,7 @@ impl<S: FactStore> HeldFacts<S> {
     /// # Errors
     ///
     /// Fails only where memory is refused.
-    pub fn list_missing_keys(&self, job: &Job) -> Result<Vec<Key>, AllocError>
+    pub fn list_missing_keys_of_results(&self, job: &Job) -> Result<Vec<Key>, AllocError>
         ensures missing { IfOk result (λ keys. keys.items
             ≡ missing_keys self.now (program_id_in job.now) (pipeline_in job.now)) }
         ensures rising { IfOk result (λ keys. AllPairs IsKeyBefore keys.items) }

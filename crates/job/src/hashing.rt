@@ -30,13 +30,13 @@ pub(crate) fn hash_job_input(parts: &BoundPipeline) -> InputId
     ensures { result ≡ input_id (pipeline_of parts.now) }
 {
     let mut hasher = Sha256::new();
-    hash_input_settings(&mut hasher, parts);
+    hash_input_parts_before_picture(&mut hasher, parts);
     hash_raw_picture(&parts.picture, &mut hasher);
     InputId::new(hasher.finalize())
 }
 
 // What is hashed before the picture.
-fn hash_input_settings<D: Digest>(hasher: &mut D, parts: &BoundPipeline)
+fn hash_input_parts_before_picture<D: Digest>(hasher: &mut D, parts: &BoundPipeline)
     ensures { (m : List ℕ) → D.holds hasher.old m
         → D.holds hasher.new (m ++ settings_bytes (pipeline_of parts.now)) }
 {
@@ -135,14 +135,17 @@ pub(crate) fn encode_input_bytes(
 ) -> Result<Vec<u8>, AllocError>
     ensures { IfOk result (λ bytes. bytes.items ≡ input_bytes (pipeline_of parts.now)) }
 {
-    let mut bytes = encode_input_settings(alloc, parts)?;
+    let mut bytes = encode_input_parts_before_picture(alloc, parts)?;
     let picture = raw(alloc, &parts.picture)?;
     bytes.extend_from_slice(&picture)?;
     Ok(bytes)
 }
 
 // What is hashed before the picture.
-fn encode_input_settings(alloc: Global, parts: &BoundPipeline) -> Result<Vec<u8>, AllocError>
+fn encode_input_parts_before_picture(
+    alloc: Global,
+    parts: &BoundPipeline,
+) -> Result<Vec<u8>, AllocError>
     ensures { IfOk result (λ bytes. bytes.items ≡ settings_bytes (pipeline_of parts.now)) }
 {
     let mut bytes = Vec::new(alloc);

@@ -121,7 +121,7 @@ pub(crate) fn collect_otherwise_formula_reads(
 }
 
 /// What cases read, and then what the formula outside the cases reads.
-pub(crate) fn collect_function_reads(
+pub(crate) fn list_reads_of_function_formulas(
     alloc: Global,
     cases: &[JobCase],
     otherwise: &Option<Formula>,

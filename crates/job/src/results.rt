@@ -14,7 +14,7 @@ impl Job {
         ensures { result ≡ is_output (pipeline_in self.now) number }
     {
         match self.output() {
-            Some(output) => has_stage_number(output.stages(), number),
+            Some(output) => is_stage_number_in_list(output.stages(), number),
             None => false,
         }
     }
@@ -37,7 +37,7 @@ impl Job {
     }
 }
 
-fn has_stage_number(numbers: &[usize], number: usize) -> bool
+fn is_stage_number_in_list(numbers: &[usize], number: usize) -> bool
     ensures { result ≡ list_any (λ n. n == number) numbers.now }
 {
     numbers.iter().any(|other| *other == number)

@@ -12,8 +12,8 @@ ghost use Rattle.job.specs.TileSides.{HasFewTiles};
 use crate::formula::Formula;
 use crate::job::StageKind;
 use crate::reads::{
-    Read, collect_formula_reads, collect_function_reads, collect_otherwise_formula_reads,
-    collect_reads_of_two_formulas,
+    Read, collect_formula_reads, collect_otherwise_formula_reads, collect_reads_of_two_formulas,
+    list_reads_of_function_formulas,
 };
 use domains::{Area, Grid, Span, TileSides};
 use operators::{PointTest, ReductionOp};
@@ -249,7 +249,7 @@ impl Function {
         ensures otherwise { IfOk result (λ f. f.otherwise ≡ otherwise) }
     {
         let otherwise_reads = collect_otherwise_formula_reads(alloc, &otherwise)?;
-        let all_reads = collect_function_reads(alloc, &cases, &otherwise)?;
+        let all_reads = list_reads_of_function_formulas(alloc, &cases, &otherwise)?;
         Ok(Function {
             cases,
             otherwise,

@@ -25,7 +25,7 @@ pub fn worked_job_blurs_the_middle()
 {}
 
 /// Reads at every other point, and reads of each point four times.
-pub fn worked_job_halves_then_doubles()
+pub fn worked_job_downsamples_then_upsamples()
     ensures halves { samples halving 255 1 ≡ 0 ∷ 2 ∷ 8 ∷ 10 ∷ [] }
     ensures doubles { image halving
         ≡ Some (picture 4 4 255

@@ -22,7 +22,12 @@ impl Claim {
     ghost use Rattle.leases.specs.Rules.{claim_by, lease_of, claim_entry};
 
     // How the rules answer a node's claim when that lease is in force.
-    pub(crate) fn decide_by_lease(in_force: Option<Lease>, time: u64, node: u8, ttl: u64) -> Claim
+    pub(crate) fn from_lease_in_force(
+        in_force: Option<Lease>,
+        time: u64,
+        node: u8,
+        ttl: u64,
+    ) -> Claim
         ensures { result ≡ claim_by in_force time node ttl }
     {
         let until = time.saturating_add(ttl);
@@ -84,7 +89,7 @@ impl Release {
     ghost use Rattle.leases.specs.Rules.{release_by, release_entry};
 
     // How the rules answer a node's release when that lease is in force.
-    pub(crate) fn decide_by_lease(in_force: Option<Lease>, node: u8) -> Release
+    pub(crate) fn from_lease_in_force(in_force: Option<Lease>, node: u8) -> Release
         ensures { result ≡ release_by in_force node }
     {
         match in_force {

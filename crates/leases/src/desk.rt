@@ -61,7 +61,12 @@ impl Desk {
         ensures kept { lease_count self.new ≤ lease_count self.old + 1 }
     {
         let time = self.clock.max(now);
-        let claim = Claim::decide_by_lease(self.find_lease_in_force(&key, time), time, node, ttl);
+        let claim = Claim::from_lease_in_force(
+            self.find_lease_in_force(&key, time),
+            time,
+            node,
+            ttl,
+        );
         if let Some(lease) = claim.to_lease(time, node) {
             let Ok(_) = self.leases.insert(key, lease) else {
                 return Claim::Memory;
@@ -82,7 +87,7 @@ impl Desk {
         ensures fewer { result ≡ Release.Released → lease_count self.new + 1 ≤ lease_count self.old }
     {
         self.clock = self.clock.max(now);
-        let release = Release::decide_by_lease(self.find_lease_in_force(key, self.clock), node);
+        let release = Release::from_lease_in_force(self.find_lease_in_force(key, self.clock), node);
         if let Release::Released = release {
             self.leases.remove(key);
         }

@@ -11,7 +11,9 @@ ghost use Rattle.node_state.specs.States.{facts_in, lent, retired_in};
 ghost use Rattle.std.specs.Prelude.{◌≡◌, ◌++◌, ◌∷◌, [], IfErr, IfOk, OnErr, OnOk, length};
 ghost use Rattle.updates.specs.TrueUpdates.{AreTrue};
 
-use crate::event::{Event, Updates, copy_updates_for_node_event, make_lent_node_event};
+use crate::event::{
+    Event, Updates, copy_updates_for_node_event, make_lent_node_event_with_retired_ids,
+};
 use crate::receipt::{Loan, Receipt};
 use catalog::{Catalog, NamedCatalog};
 use fact_store::{FactStore, TableFacts};
@@ -105,8 +107,8 @@ impl<C: NamedCatalog, S: FactStore> NodeBook<C, S> {
     {
         let facts = self.held.lend(keys)?;
         let retired = self.held.retired().to_vec(self.alloc)?;
-        let lent = make_lent_node_event(self.alloc, keys, &retired)?;
-        let event = make_lent_node_event(self.alloc, keys, &retired)?;
+        let lent = make_lent_node_event_with_retired_ids(self.alloc, keys, &retired)?;
+        let event = make_lent_node_event_with_retired_ids(self.alloc, keys, &retired)?;
         self.history.reserve(1)?;
         let number = self.history.len() as u64;
         self.history.push_reserved(lent);

@@ -9,7 +9,7 @@ ghost use Rattle.std.specs.Prelude.{◌≡◌, IfErr, IfOk};
 use crate::book::NodeBook;
 use crate::event::Event;
 use crate::fault::CloseFault;
-use crate::matching::match_receipts_with_node_events;
+use crate::matching::check_receipts_against_node_events;
 use crate::receipt::Receipt;
 use crate::seat::Seat;
 use catalog::NamedCatalog;
@@ -73,7 +73,7 @@ pub fn close_node_book<C: NamedCatalog, S: FactStore>(
     ensures handed_back { IfErr result (λ back. (back.0 ≡ book) × (back.1 ≡ ends)) }
     ensures fault { IfErr result (λ back. IsCloseFault book (receipts_of ends.items) back.2) }
 {
-    if let Err(fault) = match_receipts_with_node_events(alloc, book.history(), ends.as_slice()) {
+    if let Err(fault) = check_receipts_against_node_events(alloc, book.history(), ends.as_slice()) {
         return Err((book, ends, fault));
     }
     let (state, history) = book.into_state_and_history();

@@ -19,7 +19,7 @@ pub type RetiredIds = Sequence<JobId>;
 pub type Updates = Sequence<Update>;
 
 /// The event that facts of these keys are lent, with these identities of retired jobs.
-pub(crate) fn make_lent_node_event(
+pub(crate) fn make_lent_node_event_with_retired_ids(
     alloc: Global,
     keys: &[Key],
     retired: &[JobId],

@@ -20,6 +20,6 @@ pub use closing::{ClosedNode, close_node_book};
 pub use event::{Event, Keys, RetiredIds, Updates};
 pub use fault::CloseFault;
 pub use live::LiveNode;
-pub use matching::match_receipts_with_node_events;
+pub use matching::check_receipts_against_node_events;
 pub use receipt::{Loan, Receipt};
 pub use seat::Seat;

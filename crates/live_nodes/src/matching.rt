@@ -20,7 +20,7 @@ use std::alloc::Global;
 ///
 /// Fails at the first receipt, list after list, that does not fit. Else fails at the least number that is on no receipt. Fails
 /// where memory is refused.
-pub fn match_receipts_with_node_events<T>(
+pub fn check_receipts_against_node_events<T>(
     alloc: Global,
     history: &[Event],
     lists: &[(T, Vec<Receipt>)],
@@ -31,7 +31,7 @@ pub fn match_receipts_with_node_events<T>(
 {
     let mut seen = Vec::from_elem(alloc, false, history.len())?;
     for list in lists {
-        if let Err(number) = mark_node_events_that_have_receipts(
+        if let Err(number) = check_and_mark_node_events_of_receipts(
             history,
             list.1.as_slice(),
             seen.as_mut_slice(),
@@ -46,7 +46,7 @@ pub fn match_receipts_with_node_events<T>(
 }
 
 // Marks the numbers of one more list, or returns the number of the first receipt that does not fit.
-fn mark_node_events_that_have_receipts(
+fn check_and_mark_node_events_of_receipts(
     history: &[Event],
     receipts: &[Receipt],
     seen: &mut [bool],

@@ -74,7 +74,7 @@ impl ColourPlanes {
         let mut red = [0u16; PIECE];
         let mut green = [0u16; PIECE];
         let mut blue = [0u16; PIECE];
-        split_colour_samples(&mut red, &mut green, &mut blue, samples);
+        split_colour_samples_into_buffers(&mut red, &mut green, &mut blue, samples);
         let count = samples.len() / 3;
         self.red.extend_from_slice(&red[..count])?;
         self.green.extend_from_slice(&green[..count])?;
@@ -97,7 +97,12 @@ impl ColourPlanes {
 
 // Puts the red, the green and the blue ones of interleaved samples into the fronts of three buffers.
 #[tactic(auto, using(crate::proofs::Rasters::gathered))]
-fn split_colour_samples(red: &mut [u16], green: &mut [u16], blue: &mut [u16], samples: &[u16])
+fn split_colour_samples_into_buffers(
+    red: &mut [u16],
+    green: &mut [u16],
+    blue: &mut [u16],
+    samples: &[u16],
+)
     requires red { length samples.now ≤ 3 * length red.old }
     requires green { length samples.now ≤ 3 * length green.old }
     requires blue { length samples.now ≤ 3 * length blue.old }
@@ -114,7 +119,7 @@ fn split_colour_samples(red: &mut [u16], green: &mut [u16], blue: &mut [u16], sa
 
 /// Puts the samples of three planes, interleaved, into the front of `out`.
 #[tactic(auto, using(crate::proofs::Rasters::weaved))]
-pub fn interleave_colour_samples(out: &mut [u16], red: &[u16], green: &[u16], blue: &[u16])
+pub fn write_interleaved_colour_samples(out: &mut [u16], red: &[u16], green: &[u16], blue: &[u16])
     requires green { length green.now ≡ length red.now }
     requires blue { length blue.now ≡ length red.now }
     requires room { 3 * length red.now ≤ length out.old }
@@ -129,7 +134,7 @@ pub fn interleave_colour_samples(out: &mut [u16], red: &[u16], green: &[u16], bl
 
 /// The same of bytes.
 #[tactic(auto, using(crate::proofs::Rasters::weaved))]
-pub fn interleave_colour_bytes(out: &mut [u8], red: &[u8], green: &[u8], blue: &[u8])
+pub fn write_interleaved_colour_bytes(out: &mut [u8], red: &[u8], green: &[u8], blue: &[u8])
     requires green { length green.now ≡ length red.now }
     requires blue { length blue.now ≡ length red.now }
     requires room { 3 * length red.now ≤ length out.old }

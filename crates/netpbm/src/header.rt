@@ -42,11 +42,11 @@ pub fn read_picture_header(bytes: &[u8]) -> Result<PictureHeader, PicFault>
     ensures rows { IfOk result (λ h. InRange 4096 h.rows) }
     ensures max { IfOk result (λ h. InRange 65535 h.max) }
 {
-    let (coding, colours) = read_picture_magic(bytes)?;
+    let (coding, colours) = read_picture_coding_and_plane_count(bytes)?;
     let (cols, end) = read_picture_side(bytes, 2)?;
     let (rows, end) = read_picture_side(bytes, end)?;
     let (max, end) = read_picture_max_sample(bytes, end)?;
-    let end = read_picture_header_end(bytes, end)?;
+    let end = skip_space_at_end_of_picture_header(bytes, end)?;
     Ok(PictureHeader {
         coding,
         colours,
@@ -59,7 +59,7 @@ pub fn read_picture_header(bytes: &[u8]) -> Result<PictureHeader, PicFault>
 
 // The coding and the number of planes that the first two bytes name.
 #[tactic(auto, unfolding(crate::specs::Reading::magic_read))]
-fn read_picture_magic(bytes: &[u8]) -> Result<(RasterCoding, usize), PicFault>
+fn read_picture_coding_and_plane_count(bytes: &[u8]) -> Result<(RasterCoding, usize), PicFault>
     ensures read { result ≡ magic_read bytes.now }
     ensures long { IfOk result (λ _. 2 ≤ length bytes.now) }
     ensures colours { IfOk result (λ m. (m.1 ≡ 1) ⊎ (m.1 ≡ 3)) }
@@ -92,7 +92,7 @@ struct HeaderNumber {
 
 // The gap at a place, and the number after it.
 #[tactic(auto, unfolding(crate::specs::Reading::number_read))]
-fn read_netpbm_number(bytes: &[u8], at: usize) -> Result<HeaderNumber, PicFault>
+fn read_header_number_after_gap(bytes: &[u8], at: usize) -> Result<HeaderNumber, PicFault>
     requires { at ≤ length bytes.now }
     ensures read { result ≡ number_read bytes.now at }
     ensures within { IfOk result (λ n. n.end ≤ length bytes.now) }
@@ -113,7 +113,7 @@ fn read_picture_side(bytes: &[u8], at: usize) -> Result<(u32, usize), PicFault>
     ensures within { IfOk result (λ n. n.1 ≤ length bytes.now) }
     ensures range { IfOk result (λ n. InRange 4096 n.0) }
 {
-    let number = read_netpbm_number(bytes, at)?;
+    let number = read_header_number_after_gap(bytes, at)?;
     if number.value < 1 || number.value > LONGEST_SIDE {
         return Err(PicFault::BadSize(number.start));
     }
@@ -128,7 +128,7 @@ fn read_picture_max_sample(bytes: &[u8], at: usize) -> Result<(u16, usize), PicF
     ensures within { IfOk result (λ n. n.1 ≤ length bytes.now) }
     ensures range { IfOk result (λ n. InRange 65535 n.0) }
 {
-    let number = read_netpbm_number(bytes, at)?;
+    let number = read_header_number_after_gap(bytes, at)?;
     if number.value < 1 || number.value > 65535 {
         return Err(PicFault::BadMax(number.start));
     }
@@ -137,7 +137,7 @@ fn read_picture_max_sample(bytes: &[u8], at: usize) -> Result<(u16, usize), PicF
 
 // The place after the one white byte that follows the greatest sample.
 #[tactic(auto, unfolding(crate::specs::Reading::white_read))]
-fn read_picture_header_end(bytes: &[u8], at: usize) -> Result<usize, PicFault>
+fn skip_space_at_end_of_picture_header(bytes: &[u8], at: usize) -> Result<usize, PicFault>
     requires { at ≤ length bytes.now }
     ensures read { result ≡ white_read bytes.now at }
     ensures within { IfOk result (λ end. end ≤ length bytes.now) }

@@ -76,7 +76,7 @@ impl PackedPlane {
     }
 
     // Whether no sample is above `max`. If none can be, none is looked at.
-    pub(crate) fn is_bounded(&self, max: u16) -> bool
+    pub(crate) fn has_no_sample_above(&self, max: u16) -> bool
         ensures { IsTrue result ↔ All (λ sample. sample ≤ max) self.now.samples }
     {
         if self.max <= max {
@@ -90,5 +90,5 @@ impl PackedPlane {
 pub(crate) fn is_valid_packed_plane(area: usize, max: u16, plane: &PackedPlane) -> bool
     ensures { IsTrue result ↔ IsPlane area max plane.now.samples }
 {
-    plane.len() == area && plane.is_bounded(max)
+    plane.len() == area && plane.has_no_sample_above(max)
 }

@@ -3,8 +3,8 @@ ghost use Rattle.std.specs.Prelude.{ℕ, ◌≡◌, ◌≤◌, ◌<◌, ◌++◌
 ghost use Rattle.plane_samples.specs.Samples.{IsSamples};
 ghost use Rattle.netpbm.specs.Widths.{list_of, Holds};
 
-use crate::picture::has_bounded_picture_samples;
-use crate::raw_raster::encode_sample_bytes;
+use crate::picture::are_samples_at_most_picture_max;
+use crate::raw_raster::encode_sample_bytes_into_buffer;
 use plane_samples::{PlaneSamples, SpacedBytes};
 use std::alloc::{AllocError, Global};
 
@@ -47,12 +47,15 @@ pub fn append_packed_samples(
     ensures some { (n : ℕ) × (list_of made.new ≡ list_of made.old ++ take n samples.now) }
 {
     match made {
-        PackedSamples::Bytes(bytes) => append_packed_sample_bytes(bytes, samples),
-        PackedSamples::Words(words) => append_packed_sample_words(words, samples),
+        PackedSamples::Bytes(bytes) => append_packed_samples_to_byte_list(bytes, samples),
+        PackedSamples::Words(words) => append_packed_samples_to_u16_list(words, samples),
     }
 }
 
-fn append_packed_sample_words(words: &mut Vec<u16>, samples: &[u16]) -> Result<(), AllocError>
+fn append_packed_samples_to_u16_list(
+    words: &mut Vec<u16>,
+    samples: &[u16],
+) -> Result<(), AllocError>
     ensures all { OnOk result (words.new.items ≡ words.old.items ++ samples.now) }
     ensures some { (n : ℕ) × (words.new.items ≡ words.old.items ++ take n samples.now) }
 {
@@ -60,7 +63,10 @@ fn append_packed_sample_words(words: &mut Vec<u16>, samples: &[u16]) -> Result<(
 }
 
 // Adds samples that are below 256 each, piece by piece.
-fn append_packed_sample_bytes(bytes: &mut Vec<u8>, samples: &[u16]) -> Result<(), AllocError>
+fn append_packed_samples_to_byte_list(
+    bytes: &mut Vec<u8>,
+    samples: &[u16],
+) -> Result<(), AllocError>
     requires { All (λ sample. sample < 256) samples.now }
     ensures all { OnOk result (bytes.new.items ≡ bytes.old.items ++ samples.now) }
     ensures some { (n : ℕ) × (bytes.new.items ≡ bytes.old.items ++ take n samples.now) }
@@ -69,7 +75,7 @@ fn append_packed_sample_bytes(bytes: &mut Vec<u8>, samples: &[u16]) -> Result<()
     let mut done = 0;
     while done < samples.len() {
         let end = samples.len().min(done + PIECE);
-        encode_sample_bytes(&mut piece, &samples[done..end]);
+        encode_sample_bytes_into_buffer(&mut piece, &samples[done..end]);
         bytes.extend_from_slice(&piece[..end - done])?;
         done = end;
     }
@@ -106,7 +112,7 @@ pub fn has_bounded_packed_samples(made: &PackedSamples, max: u16) -> bool
 {
     match made {
         PackedSamples::Bytes(bytes) => has_bounded_sample_bytes(bytes.as_slice(), max),
-        PackedSamples::Words(words) => has_bounded_picture_samples(max, words.as_slice()),
+        PackedSamples::Words(words) => are_samples_at_most_picture_max(max, words.as_slice()),
     }
 }
 

@@ -21,14 +21,19 @@ pub fn view_or_copy_plane_slice<'a>(
     match samples {
         PlaneSamples::Words(words) => &words[start..end],
         PlaneSamples::Bytes(_) | PlaneSamples::Pairs(_) => {
-            copy_plane_slice(room, samples, start, end);
+            copy_plane_slice_into_buffer(room, samples, start, end);
             &room[..end - start]
         }
     }
 }
 
 // Puts the samples from one place up to another into the front of `out`, one by one.
-fn copy_plane_slice(out: &mut [u16], samples: &PlaneSamples<'_>, start: usize, end: usize)
+fn copy_plane_slice_into_buffer(
+    out: &mut [u16],
+    samples: &PlaneSamples<'_>,
+    start: usize,
+    end: usize,
+)
     requires order { start ≤ end }
     requires within { end ≤ count_in samples.now }
     requires room { end - start ≤ length out.old }

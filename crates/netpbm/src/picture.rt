@@ -11,7 +11,7 @@ ghost use Rattle.plane_samples.specs.Samples.{IsSamples};
 
 use crate::packed_plane::{PackedPlane, is_valid_packed_plane};
 use crate::parts::view_contiguous_sample_bytes;
-use crate::raster::{KeptRaster, Raster, view_kept_raster, view_raster_plane};
+use crate::raster::{KeptRaster, Raster, return_raw_raster_unchanged, view_plane_of_raw_raster};
 use plane_samples::PlaneSamples;
 use std::marker::Model;
 
@@ -106,7 +106,12 @@ impl Picture {
     }
 
     // The same of a raw raster that is known to be that of a picture.
-    pub(crate) fn from_raster(rows: u32, cols: u32, max: u16, raster: KeptRaster) -> Picture
+    pub(crate) fn from_valid_kept_raster(
+        rows: u32,
+        cols: u32,
+        max: u16,
+        raster: KeptRaster,
+    ) -> Picture
         requires image { IsImage (image rows cols max
             (separated raster.colours (decoded max (bytes_of raster)))) }
         requires kept { IsKept (rows * cols) max raster }
@@ -168,7 +173,7 @@ impl Picture {
             Raster::Made(planes) => planes[plane].samples(),
             Raster::Kept(raster) => {
                 let bytes = &raster.bytes[raster.start..];
-                view_raster_plane(bytes, self.max, raster.colours, self.area(), plane)
+                view_plane_of_raw_raster(bytes, self.max, raster.colours, self.area(), plane)
             }
         }
     }
@@ -183,16 +188,16 @@ impl Picture {
     }
 
     // The raster that is written, if it lies in memory in this form.
-    pub(crate) fn view_raw_raster(&self) -> Option<&[u8]>
+    pub(crate) fn view_raw_raster_if_stored(&self) -> Option<&[u8]>
         ensures { IfSome result
             (λ bytes. bytes.now ≡ raw_raster self.now.max (interleaved self.now.planes)) }
     {
         match &self.raster {
             Raster::Planes(_) => None,
-            Raster::Made(planes) => view_packed_grey_raster(planes, self.max),
+            Raster::Made(planes) => view_raster_if_one_plane_of_bytes(planes, self.max),
             Raster::Kept(raster) => {
                 let bytes = &raster.bytes[raster.start..];
-                Some(view_kept_raster(bytes, self.max, raster.colours, self.area()))
+                Some(return_raw_raster_unchanged(bytes, self.max, raster.colours, self.area()))
             }
         }
     }
@@ -211,7 +216,7 @@ impl Picture {
 }
 
 // The bytes of a grey plane, if they are what is written of it.
-fn view_packed_grey_raster(planes: &[PackedPlane], max: u16) -> Option<&[u8]>
+fn view_raster_if_one_plane_of_bytes(planes: &[PackedPlane], max: u16) -> Option<&[u8]>
     ensures { IfSome result
         (λ bytes. bytes.now ≡ raw_raster max (interleaved (made_samples planes.now))) }
 {
@@ -244,10 +249,10 @@ fn is_valid_packed_picture(rows: u32, cols: u32, max: u16, planes: &[PackedPlane
 fn is_valid_picture_shape(rows: u32, cols: u32, max: u16, colours: usize) -> bool
     ensures { IsTrue result ↔ AreSizes rows cols max colours }
 {
-    if !is_picture_side(rows) {
+    if !is_valid_picture_side(rows) {
         return false;
     }
-    if !is_picture_side(cols) {
+    if !is_valid_picture_side(cols) {
         return false;
     }
     if max == 0 {
@@ -260,7 +265,7 @@ fn is_valid_picture_shape(rows: u32, cols: u32, max: u16, colours: usize) -> boo
 }
 
 // Whether a picture may have a side of this length.
-fn is_picture_side(side: u32) -> bool
+fn is_valid_picture_side(side: u32) -> bool
     ensures { IsTrue result ↔ InRange 4096 side }
 {
     0 < side && side <= LONGEST_SIDE
@@ -286,11 +291,11 @@ fn has_valid_packed_planes(area: usize, max: u16, planes: &[PackedPlane]) -> boo
 fn is_valid_plane(area: usize, max: u16, plane: &Vec<u16>) -> bool
     ensures { IsTrue result ↔ IsPlane area max plane.now.items }
 {
-    plane.len() == area && has_bounded_picture_samples(max, plane.as_slice())
+    plane.len() == area && are_samples_at_most_picture_max(max, plane.as_slice())
 }
 
 /// Whether no sample is above `max`. It always goes to the end, in a loop that is compiled to few steps.
-pub fn has_bounded_picture_samples(max: u16, samples: &[u16]) -> bool
+pub fn are_samples_at_most_picture_max(max: u16, samples: &[u16]) -> bool
     ensures { IsTrue result ↔ All (λ sample. sample ≤ max) samples.now }
 {
     let mut greatest = 0;

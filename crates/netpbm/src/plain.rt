@@ -19,7 +19,7 @@ pub fn read_plain_raster(
     ensures { Gives (λ samples. samples.items) result (plain_read bytes.now start max count) }
 {
     match Vec::with_capacity(alloc, count) {
-        Ok(room) => read_plain_raster_samples(room, bytes, start, max, count),
+        Ok(room) => read_plain_raster_into_buffer(room, bytes, start, max, count),
         Err(_) => {
             check_plain_raster(bytes, start, max, count)?;
             Err(PicFault::Memory)
@@ -28,7 +28,7 @@ pub fn read_plain_raster(
 }
 
 // The samples, in the buffer that was allocated for them.
-fn read_plain_raster_samples(
+fn read_plain_raster_into_buffer(
     room: Vec<u16>,
     bytes: &[u8],
     start: usize,

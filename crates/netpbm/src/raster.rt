@@ -26,7 +26,7 @@ pub struct KeptRaster {
 }
 
 /// The samples of a plane of a raw raster with `area` samples in each.
-pub fn view_raster_plane(
+pub fn view_plane_of_raw_raster(
     raster: &[u8],
     max: u16,
     colours: usize,
@@ -41,14 +41,19 @@ pub fn view_raster_plane(
         (slice_index_or (separated colours (decoded max raster.now)) plane []) }
 {
     if max < 256 {
-        PlaneSamples::Bytes(view_plane_bytes(raster, colours, area, plane))
+        PlaneSamples::Bytes(view_raster_plane_of_bytes(raster, colours, area, plane))
     } else {
-        PlaneSamples::Pairs(view_plane_byte_pairs(raster, colours, area, plane))
+        PlaneSamples::Pairs(view_raster_plane_of_byte_pairs(raster, colours, area, plane))
     }
 }
 
 // The bytes of a plane where each is a sample.
-fn view_plane_bytes(raster: &[u8], colours: usize, area: usize, plane: usize) -> SpacedBytes<'_>
+fn view_raster_plane_of_bytes(
+    raster: &[u8],
+    colours: usize,
+    area: usize,
+    plane: usize,
+) -> SpacedBytes<'_>
     requires whole { length raster.now ≡ colours * area }
     requires colours { (colours ≡ 1) ⊎ (colours ≡ 3) }
     requires some { 0 < area }
@@ -63,7 +68,7 @@ fn view_plane_bytes(raster: &[u8], colours: usize, area: usize, plane: usize) ->
 }
 
 // The bytes of a plane where two are a sample.
-fn view_plane_byte_pairs(
+fn view_raster_plane_of_byte_pairs(
     raster: &[u8],
     colours: usize,
     area: usize,
@@ -84,7 +89,7 @@ fn view_plane_byte_pairs(
 }
 
 /// What is written of the planes of a raw raster with `area` samples in each: the raster itself.
-pub fn view_kept_raster(raster: &[u8], max: u16, colours: usize, area: usize) -> &[u8]
+pub fn return_raw_raster_unchanged(raster: &[u8], max: u16, colours: usize, area: usize) -> &[u8]
     requires whole { length raster.now ≡ (colours * area) * width_of max }
     requires colours { (colours ≡ 1) ⊎ (colours ≡ 3) }
     ensures { result.now ≡ raw_raster max (interleaved (separated colours (decoded max raster.now))) }

@@ -7,7 +7,7 @@ ghost use Rattle.netpbm.specs.Raw.{pairs, decoded};
 pub fn has_bounded_raster_samples(raster: &[u8], max: u16) -> bool
     ensures { OnTrue result (All (λ sample. sample ≤ max) (decoded max raster.now)) }
 {
-    if has_full_raw_sample_range(max) {
+    if is_greatest_possible_raw_sample(max) {
         return true;
     }
     if max < 256 {
@@ -18,7 +18,7 @@ pub fn has_bounded_raster_samples(raster: &[u8], max: u16) -> bool
 }
 
 /// Whether no bytes spell a sample above `max`. If so, no sample needs to be looked at.
-pub fn has_full_raw_sample_range(max: u16) -> bool
+pub fn is_greatest_possible_raw_sample(max: u16) -> bool
     ensures { OnTrue result ((bytes : List ℕ) → All (λ byte. byte ≤ 255) bytes
         → All (λ sample. sample ≤ max) (decoded max bytes)) }
 {

@@ -5,13 +5,13 @@ ghost use Rattle.netpbm.specs.Planes.{samples_of};
 ghost use Rattle.netpbm.specs.Raw.{width_of, decoded};
 
 use crate::colours::{ColourPlanes, PIECE};
-use crate::picture::has_bounded_picture_samples;
-use crate::raw_bounds::has_full_raw_sample_range;
-use crate::raw_raster::decode_raw_samples;
+use crate::picture::are_samples_at_most_picture_max;
+use crate::raw_bounds::is_greatest_possible_raw_sample;
+use crate::raw_raster::decode_raw_samples_into_buffer;
 use std::alloc::Global;
 
 /// The planes of a raw raster of `area` pixels; none if a sample is above `max` or memory runs out.
-pub fn decode_raw_planes(
+pub fn decode_raw_planes_if_bounded(
     alloc: Global,
     raster: &[u8],
     max: u16,
@@ -26,27 +26,32 @@ pub fn decode_raw_planes(
         (λ _. All (λ sample. sample ≤ max) (decoded max raster.now)) }
 {
     if colours == 1 {
-        decode_grey_plane(alloc, raster, max, area)
+        decode_grey_raster_to_plane_list(alloc, raster, max, area)
     } else {
-        decode_colour_planes(alloc, raster, max, area)
+        decode_colour_raster_to_plane_list(alloc, raster, max, area)
     }
 }
 
 // The one plane of a raster of grey samples.
-fn decode_grey_plane(alloc: Global, raster: &[u8], max: u16, area: usize) -> Option<Vec<Vec<u16>>>
+fn decode_grey_raster_to_plane_list(
+    alloc: Global,
+    raster: &[u8],
+    max: u16,
+    area: usize,
+) -> Option<Vec<Vec<u16>>>
     requires { length (decoded max raster.now) ≡ area }
     ensures planes { IfSome result
         (λ planes. samples_of planes.items ≡ separated 1 (decoded max raster.now)) }
     ensures bounded { IfSome result
         (λ _. All (λ sample. sample ≤ max) (decoded max raster.now)) }
 {
-    let grey = decode_grey_raster_samples(alloc, raster, max, area)?;
+    let grey = decode_grey_raster_to_u16_list(alloc, raster, max, area)?;
     let mut planes = Vec::with_capacity(alloc, 1).ok()?;
     planes.push(grey).ok()?;
     Some(planes)
 }
 
-fn decode_grey_raster_samples(
+fn decode_grey_raster_to_u16_list(
     alloc: Global,
     raster: &[u8],
     max: u16,
@@ -62,7 +67,7 @@ fn decode_grey_raster_samples(
     let mut done = 0;
     while done < area {
         let end = area.min(done + PIECE);
-        if !decode_and_check_raw_samples(&mut piece, raster, max, done, end) {
+        if !decode_raw_into_buffer_and_test_bound(&mut piece, raster, max, done, end) {
             return None;
         }
         grey.extend_from_slice(&piece[..end - done]).ok()?;
@@ -73,7 +78,7 @@ fn decode_grey_raster_samples(
 
 // The red, the green and the blue plane of a raster of interleaved samples.
 #[tactic(auto, using(crate::proofs::RawReads::decoded_short))]
-fn decode_colour_planes(
+fn decode_colour_raster_to_plane_list(
     alloc: Global,
     raster: &[u8],
     max: u16,
@@ -90,7 +95,7 @@ fn decode_colour_planes(
     let mut done = 0;
     while done < area {
         let end = area.min(done + PIECE);
-        if !decode_and_check_raw_samples(&mut piece, raster, max, 3 * done, 3 * end) {
+        if !decode_raw_into_buffer_and_test_bound(&mut piece, raster, max, 3 * done, 3 * end) {
             return None;
         }
         apart.append_interleaved(&piece[..3 * (end - done)]).ok()?;
@@ -100,7 +105,7 @@ fn decode_colour_planes(
 }
 
 // Decodes the samples from one place up to another, and returns whether none is above `max`.
-fn decode_and_check_raw_samples(
+fn decode_raw_into_buffer_and_test_bound(
     out: &mut [u16],
     raster: &[u8],
     max: u16,
@@ -115,9 +120,9 @@ fn decode_and_check_raw_samples(
     ensures bounded { IsTrue result
         ↔ All (λ sample. sample ≤ max) (slice_range (decoded max raster.now) start end) }
 {
-    decode_raw_samples(out, raster, max, start, end);
-    if has_full_raw_sample_range(max) {
+    decode_raw_samples_into_buffer(out, raster, max, start, end);
+    if is_greatest_possible_raw_sample(max) {
         return true;
     }
-    has_bounded_picture_samples(max, &out[..end - start])
+    are_samples_at_most_picture_max(max, &out[..end - start])
 }

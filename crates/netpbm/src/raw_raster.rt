@@ -25,7 +25,7 @@ pub fn check_raw_raster(bytes: &[u8], start: usize, max: u16, count: usize) -> R
     let width = count_bytes_per_raw_sample(max);
     let raster = &bytes[start..];
     if let Some(place) = find_first_raw_sample_above(
-        trim_raster_to_complete_samples(raster, max, count),
+        view_first_whole_samples_of_raster(raster, max, count),
         max,
     ) {
         return Err(PicFault::SampleTooBig(start + place * width));
@@ -40,7 +40,7 @@ pub fn check_raw_raster(bytes: &[u8], start: usize, max: u16, count: usize) -> R
 }
 
 // The bytes of `count` samples, or of fewer if no more are whole.
-fn trim_raster_to_complete_samples(raster: &[u8], max: u16, count: usize) -> &[u8]
+fn view_first_whole_samples_of_raster(raster: &[u8], max: u16, count: usize) -> &[u8]
     ensures samples { decoded max result.now ≡ take count (decoded max raster.now) }
     ensures within { length result.now ≤ length raster.now }
 {
@@ -92,22 +92,28 @@ fn find_first_raster_pair_above(raster: &[u8], max: u16) -> Option<usize>
 }
 
 /// Puts the samples from one place up to another, as the bytes spell them, into the front of `out`.
-pub fn decode_raw_samples(out: &mut [u16], raster: &[u8], max: u16, start: usize, end: usize)
+pub fn decode_raw_samples_into_buffer(
+    out: &mut [u16],
+    raster: &[u8],
+    max: u16,
+    start: usize,
+    end: usize,
+)
     requires order { start ≤ end }
     requires within { end ≤ length (decoded max raster.now) }
     requires room { end - start ≤ length out.old }
     ensures { take (end - start) out.new ≡ slice_range (decoded max raster.now) start end }
 {
     if max < 256 {
-        decode_sample_bytes(out, &raster[start..end]);
+        decode_sample_bytes_into_buffer(out, &raster[start..end]);
     } else {
-        decode_sample_byte_pairs(out, &raster[2 * start..2 * end]);
+        decode_sample_byte_pairs_into_buffer(out, &raster[2 * start..2 * end]);
     }
 }
 
 // Puts the bytes as samples into the front of `out`.
 #[tactic(auto, using(crate::proofs::Rasters::copied))]
-fn decode_sample_bytes(out: &mut [u16], bytes: &[u8])
+fn decode_sample_bytes_into_buffer(out: &mut [u16], bytes: &[u8])
     requires { length bytes.now ≤ length out.old }
     ensures { take (length bytes.now) out.new ≡ bytes.now }
 {
@@ -118,7 +124,7 @@ fn decode_sample_bytes(out: &mut [u16], bytes: &[u8])
 
 // Puts the pairs of bytes, most significant first, as samples into the front of `out`.
 #[tactic(auto, using(crate::proofs::Rasters::joined))]
-fn decode_sample_byte_pairs(out: &mut [u16], bytes: &[u8])
+fn decode_sample_byte_pairs_into_buffer(out: &mut [u16], bytes: &[u8])
     requires { length bytes.now ≤ 2 * length out.old }
     ensures { take (length bytes.now / 2) out.new ≡ pairs bytes.now }
 {
@@ -128,24 +134,24 @@ fn decode_sample_byte_pairs(out: &mut [u16], bytes: &[u8])
 }
 
 /// Puts the samples in one byte or two into the front of `out`, and returns how many bytes they are.
-pub fn encode_raw_samples(out: &mut [u8], samples: &[u16], max: u16) -> usize
+pub fn encode_raw_samples_into_buffer(out: &mut [u8], samples: &[u16], max: u16) -> usize
     requires room { width_of max * length samples.now ≤ length out.old }
     requires bounded { All (λ sample. sample ≤ max) samples.now }
     ensures end { result ≡ width_of max * length samples.now }
     ensures written { take result out.new ≡ raw_raster max samples.now }
 {
     if max < 256 {
-        encode_sample_bytes(out, samples);
+        encode_sample_bytes_into_buffer(out, samples);
         samples.len()
     } else {
-        encode_sample_byte_pairs(out, samples);
+        encode_sample_byte_pairs_into_buffer(out, samples);
         2 * samples.len()
     }
 }
 
 /// Puts samples that are below 256 each as bytes into the front of `out`.
 #[tactic(auto, using(crate::proofs::Rasters::copied))]
-pub fn encode_sample_bytes(out: &mut [u8], samples: &[u16])
+pub fn encode_sample_bytes_into_buffer(out: &mut [u8], samples: &[u16])
     requires room { length samples.now ≤ length out.old }
     requires small { All (λ sample. sample < 256) samples.now }
     ensures { take (length samples.now) out.new ≡ samples.now }
@@ -156,7 +162,7 @@ pub fn encode_sample_bytes(out: &mut [u8], samples: &[u16])
 }
 
 #[tactic(auto, using(crate::proofs::Rasters::spread))]
-fn encode_sample_byte_pairs(out: &mut [u8], samples: &[u16])
+fn encode_sample_byte_pairs_into_buffer(out: &mut [u8], samples: &[u16])
     requires { 2 * length samples.now ≤ length out.old }
     ensures { take (2 * length samples.now) out.new ≡ flat_map two_bytes samples.now }
 {

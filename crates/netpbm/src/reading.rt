@@ -17,7 +17,7 @@ use crate::picture::Picture;
 use crate::plain::read_plain_raster;
 use crate::raster::KeptRaster;
 use crate::raw_bounds::has_bounded_raster_samples;
-use crate::raw_planes::decode_raw_planes;
+use crate::raw_planes::decode_raw_planes_if_bounded;
 use crate::raw_raster::{check_raw_raster, count_bytes_per_raw_sample};
 use std::alloc::Global;
 
@@ -53,7 +53,7 @@ pub fn read_picture_in_place(
     ensures fault { IfErr result (IsFault (drop start input.items)) }
 {
     picture_bytes_are_below_256(input.as_slice());
-    read_plain_or_raw_picture(alloc, input, start)
+    read_plain_or_keep_raw_picture(alloc, input, start)
 }
 
 // Each byte is below 256, which is known of a slice alone. No code runs.
@@ -62,7 +62,7 @@ fn picture_bytes_are_below_256(bytes: &[u8])
 {}
 
 // The picture or the fault that reading from the left gives. Digits are read as they are everywhere.
-fn read_plain_or_raw_picture(
+fn read_plain_or_keep_raw_picture(
     alloc: Global,
     input: Vec<u8>,
     start: usize,
@@ -94,18 +94,18 @@ fn read_raw_picture_in_place(
     requires colours { (header.now.colours ≡ 1) ⊎ (header.now.colours ≡ 3) }
     ensures { Gives (λ picture. picture) result (picture_read (drop start input.items)) }
 {
-    check_kept_raster(&input[start..], header)?;
+    check_raw_raster_after_header(&input[start..], header)?;
     let raster = KeptRaster {
         bytes: input,
         start: start + header.end,
         colours: header.colours,
     };
-    Ok(Picture::from_raster(header.rows, header.cols, header.max, raster))
+    Ok(Picture::from_valid_kept_raster(header.rows, header.cols, header.max, raster))
 }
 
 // Finds the fault of a raw raster. A whole one without fault is looked at once, or not at all if its bytes spell no sample above
 // the greatest.
-fn check_kept_raster(bytes: &[u8], header: &PictureHeader) -> Result<(), PicFault>
+fn check_raw_raster_after_header(bytes: &[u8], header: &PictureHeader) -> Result<(), PicFault>
     requires place { header.now.end ≤ length bytes.now }
     requires rows { InRange 4096 header.now.rows }
     requires cols { InRange 4096 header.now.cols }
@@ -192,7 +192,13 @@ fn read_raw_raster_planes(
     let raster = &bytes[header.end..];
     let count = header.colours * area;
     if raster.len() == count * count_bytes_per_raw_sample(header.max) {
-        if let Some(planes) = decode_raw_planes(alloc, raster, header.max, header.colours, area) {
+        if let Some(planes) = decode_raw_planes_if_bounded(
+            alloc,
+            raster,
+            header.max,
+            header.colours,
+            area,
+        ) {
             return Ok(planes);
         }
     }

@@ -8,10 +8,10 @@ ghost use Rattle.netpbm.specs.Spelling.{header as header_of, spelling};
 ghost use Rattle.streams.specs.Streams.{AppendsPart, CountsFailure};
 ghost use Rattle.netpbm.specs.Pixels.{pixels};
 
-use crate::colours::{interleave_colour_bytes, interleave_colour_samples};
+use crate::colours::{write_interleaved_colour_bytes, write_interleaved_colour_samples};
 use crate::parts::{view_contiguous_sample_bytes, view_or_copy_plane_slice};
 use crate::picture::Picture;
-use crate::raw_raster::{count_bytes_per_raw_sample, encode_raw_samples};
+use crate::raw_raster::{count_bytes_per_raw_sample, encode_raw_samples_into_buffer};
 use sha2::Digest;
 use std::alloc::{AllocError, Global};
 use streams::{Sink, WriteFailed, write_all_bytes};
@@ -28,7 +28,7 @@ pub fn raw(alloc: Global, picture: &Picture) -> Result<Vec<u8>, AllocError>
     ensures { IfOk result (λ bytes. bytes.items ≡ spelling picture.now) }
 {
     let mut header = [0u8; LONGEST_HEADER];
-    let header_len = encode_picture_header(&mut header, picture);
+    let header_len = encode_picture_header_into_buffer(&mut header, picture);
     let mut bytes = Vec::with_capacity(alloc, header_len + count_raster_bytes(picture))?;
     bytes.extend_from_slice(&header[..header_len])?;
     append_raster(&mut bytes, picture)?;
@@ -40,14 +40,14 @@ fn append_raster(bytes: &mut Vec<u8>, picture: &Picture) -> Result<(), AllocErro
     ensures { OnOk result (bytes.new.items
         ≡ bytes.old.items ++ raw_raster picture.now.max (interleaved picture.now.planes)) }
 {
-    match picture.view_raw_raster() {
+    match picture.view_raw_raster_if_stored() {
         Some(raster) => bytes.extend_from_slice(raster),
-        None => append_pixels(bytes, picture),
+        None => append_raster_piece_by_piece(bytes, picture),
     }
 }
 
 // Adds the raster of a picture, some pixels at a time.
-fn append_pixels(bytes: &mut Vec<u8>, picture: &Picture) -> Result<(), AllocError>
+fn append_raster_piece_by_piece(bytes: &mut Vec<u8>, picture: &Picture) -> Result<(), AllocError>
     ensures { OnOk result (bytes.new.items
         ≡ bytes.old.items ++ raw_raster picture.now.max (interleaved picture.now.planes)) }
 {
@@ -55,7 +55,7 @@ fn append_pixels(bytes: &mut Vec<u8>, picture: &Picture) -> Result<(), AllocErro
     let area = picture.area();
     let mut done = 0;
     while done < area {
-        let (end, len) = encode_next_pixels(&mut piece, picture, done);
+        let (end, len) = encode_next_pixels_into_buffer(&mut piece, picture, done);
         bytes.extend_from_slice(&piece[..len])?;
         done = end;
     }
@@ -71,7 +71,7 @@ pub fn write_raw<W: Sink>(picture: &Picture, writer: &mut W) -> Result<(), Write
     ensures failed { CountsFailure result (W.failures writer.old) (W.failures writer.new) }
 {
     let mut header = [0u8; LONGEST_HEADER];
-    let header_len = encode_picture_header(&mut header, picture);
+    let header_len = encode_picture_header_into_buffer(&mut header, picture);
     write_all_bytes(writer, &header[..header_len])?;
     write_raster(writer, picture)
 }
@@ -84,14 +84,17 @@ fn write_raster<W: Sink>(writer: &mut W, picture: &Picture) -> Result<(), WriteF
         (raw_raster picture.now.max (interleaved picture.now.planes))) }
     ensures failed { CountsFailure result (W.failures writer.old) (W.failures writer.new) }
 {
-    match picture.view_raw_raster() {
+    match picture.view_raw_raster_if_stored() {
         Some(raster) => write_all_bytes(writer, raster),
-        None => write_pixels(writer, picture),
+        None => write_raster_piece_by_piece(writer, picture),
     }
 }
 
 // Writes the raster of a picture, some pixels at a time.
-fn write_pixels<W: Sink>(writer: &mut W, picture: &Picture) -> Result<(), WriteFailed>
+fn write_raster_piece_by_piece<W: Sink>(
+    writer: &mut W,
+    picture: &Picture,
+) -> Result<(), WriteFailed>
     ensures ok { OnOk result (Appends (W.contents writer.old) (W.contents writer.new)
         (raw_raster picture.now.max (interleaved picture.now.planes))) }
     ensures part { OnErr result (AppendsPart (W.contents writer.old) (W.contents writer.new)
@@ -102,7 +105,7 @@ fn write_pixels<W: Sink>(writer: &mut W, picture: &Picture) -> Result<(), WriteF
     let area = picture.area();
     let mut done = 0;
     while done < area {
-        let (end, len) = encode_next_pixels(&mut piece, picture, done);
+        let (end, len) = encode_next_pixels_into_buffer(&mut piece, picture, done);
         write_all_bytes(writer, &piece[..len])?;
         done = end;
     }
@@ -115,7 +118,7 @@ pub fn hash_raw_picture<D: Digest>(picture: &Picture, hasher: &mut D)
         → D.holds hasher.new (message ++ spelling picture.now) }
 {
     let mut header = [0u8; LONGEST_HEADER];
-    let header_len = encode_picture_header(&mut header, picture);
+    let header_len = encode_picture_header_into_buffer(&mut header, picture);
     hasher.update(&header[..header_len]);
     hash_raster(hasher, picture);
 }
@@ -125,14 +128,14 @@ fn hash_raster<D: Digest>(hasher: &mut D, picture: &Picture)
     ensures { (message : List ℕ) → D.holds hasher.old message → D.holds hasher.new
         (message ++ raw_raster picture.now.max (interleaved picture.now.planes)) }
 {
-    match picture.view_raw_raster() {
+    match picture.view_raw_raster_if_stored() {
         Some(raster) => hasher.update(raster),
-        None => hash_pixels(hasher, picture),
+        None => hash_raster_piece_by_piece(hasher, picture),
     }
 }
 
 // Adds the raster of a picture to the message that a hasher holds, some pixels at a time.
-fn hash_pixels<D: Digest>(hasher: &mut D, picture: &Picture)
+fn hash_raster_piece_by_piece<D: Digest>(hasher: &mut D, picture: &Picture)
     ensures { (message : List ℕ) → D.holds hasher.old message → D.holds hasher.new
         (message ++ raw_raster picture.now.max (interleaved picture.now.planes)) }
 {
@@ -140,7 +143,7 @@ fn hash_pixels<D: Digest>(hasher: &mut D, picture: &Picture)
     let area = picture.area();
     let mut done = 0;
     while done < area {
-        let (end, len) = encode_next_pixels(&mut piece, picture, done);
+        let (end, len) = encode_next_pixels_into_buffer(&mut piece, picture, done);
         hasher.update(&piece[..len]);
         done = end;
     }
@@ -155,7 +158,7 @@ fn count_raster_bytes(picture: &Picture) -> usize
 
 // Puts the bytes of the pixels from `start` on, of as many as are written at a time, into the front of `out`. Returns where these
 // pixels end, and how many bytes they are.
-fn encode_next_pixels(out: &mut [u8], picture: &Picture, start: usize) -> (usize, usize)
+fn encode_next_pixels_into_buffer(out: &mut [u8], picture: &Picture, start: usize) -> (usize, usize)
     requires before { start < picture.now.rows * picture.now.cols }
     requires room { 98304 ≤ length out.old }
     ensures on { start < result.0 }
@@ -165,12 +168,17 @@ fn encode_next_pixels(out: &mut [u8], picture: &Picture, start: usize) -> (usize
         ≡ raw_raster picture.now.max (pixels start result.0 picture.now.planes) }
 {
     let end = picture.area().min(start + PIXELS);
-    let len = encode_pixels(out, picture, start, end);
+    let len = encode_range_of_pixels_into_buffer(out, picture, start, end);
     (end, len)
 }
 
 // Puts the bytes of these pixels into the front of `out`, and returns how many they are.
-fn encode_pixels(out: &mut [u8], picture: &Picture, start: usize, end: usize) -> usize
+fn encode_range_of_pixels_into_buffer(
+    out: &mut [u8],
+    picture: &Picture,
+    start: usize,
+    end: usize,
+) -> usize
     requires image { IsImage picture.now }
     requires order { start ≤ end }
     requires within { end ≤ picture.now.rows * picture.now.cols }
@@ -180,24 +188,29 @@ fn encode_pixels(out: &mut [u8], picture: &Picture, start: usize, end: usize) ->
     ensures written { take result out.new
         ≡ raw_raster picture.now.max (pixels start end picture.now.planes) }
 {
-    if let Some((red, green, blue)) = view_colour_plane_bytes(picture) {
-        interleave_colour_bytes(out, &red[start..end], &green[start..end], &blue[start..end]);
+    if let Some((red, green, blue)) = view_colour_planes_if_contiguous_bytes(picture) {
+        write_interleaved_colour_bytes(
+            out,
+            &red[start..end],
+            &green[start..end],
+            &blue[start..end],
+        );
         return 3 * (end - start);
     }
     let mut red_room = [0u16; PIXELS];
-    let red = view_plane_pixels(&mut red_room, picture, 0, start, end);
+    let red = view_or_copy_pixels_of_plane(&mut red_room, picture, 0, start, end);
     if picture.plane_count() == 1 {
-        return encode_raw_samples(out, red, picture.max());
+        return encode_raw_samples_into_buffer(out, red, picture.max());
     }
     let mut green_room = [0u16; PIXELS];
     let mut blue_room = [0u16; PIXELS];
-    let green = view_plane_pixels(&mut green_room, picture, 1, start, end);
-    let blue = view_plane_pixels(&mut blue_room, picture, 2, start, end);
-    encode_colour_samples(out, red, green, blue, picture.max())
+    let green = view_or_copy_pixels_of_plane(&mut green_room, picture, 1, start, end);
+    let blue = view_or_copy_pixels_of_plane(&mut blue_room, picture, 2, start, end);
+    encode_colour_samples_into_buffer(out, red, green, blue, picture.max())
 }
 
 // The bytes of a red, a green and a blue plane, where each sample is a byte of its own.
-fn view_colour_plane_bytes(picture: &Picture) -> Option<(&[u8], &[u8], &[u8])>
+fn view_colour_planes_if_contiguous_bytes(picture: &Picture) -> Option<(&[u8], &[u8], &[u8])>
     ensures small { IfSome result (λ _. picture.now.max < 256) }
     ensures planes { IfSome result
         (λ bytes. picture.now.planes ≡ bytes.0.now ∷ bytes.1.now ∷ bytes.2.now ∷ []) }
@@ -215,7 +228,7 @@ fn view_colour_plane_bytes(picture: &Picture) -> Option<(&[u8], &[u8], &[u8])>
 }
 
 // The samples of these pixels of a plane, which may be copied into the buffer `room`.
-fn view_plane_pixels<'a>(
+fn view_or_copy_pixels_of_plane<'a>(
     room: &'a mut [u16],
     picture: &'a Picture,
     plane: usize,
@@ -234,7 +247,7 @@ fn view_plane_pixels<'a>(
 }
 
 // Puts the bytes of interleaved red, green and blue samples into the front of `out`, and returns how many they are.
-fn encode_colour_samples(
+fn encode_colour_samples_into_buffer(
     out: &mut [u8],
     red: &[u16],
     green: &[u16],
@@ -252,13 +265,13 @@ fn encode_colour_samples(
     ensures written { take result out.new ≡ raw_raster max (woven red.now green.now blue.now) }
 {
     let mut in_turn = [0u16; 3 * PIXELS];
-    interleave_colour_samples(&mut in_turn, red, green, blue);
-    encode_raw_samples(out, &in_turn[..3 * red.len()], max)
+    write_interleaved_colour_samples(&mut in_turn, red, green, blue);
+    encode_raw_samples_into_buffer(out, &in_turn[..3 * red.len()], max)
 }
 
 // Puts the header into the front of `out`, and returns how many bytes it has.
 #[tactic(auto, using(crate::proofs::Decimals::short_decimal))]
-fn encode_picture_header(out: &mut [u8], picture: &Picture) -> usize
+fn encode_picture_header_into_buffer(out: &mut [u8], picture: &Picture) -> usize
     requires { 32 ≤ length out.old }
     ensures end { result ≤ 32 }
     ensures written { take result out.new ≡ header_of picture.now }
@@ -268,19 +281,19 @@ fn encode_picture_header(out: &mut [u8], picture: &Picture) -> usize
     } else {
         b'6'
     };
-    let at = encode_header_byte(out, 0, b'P');
-    let at = encode_header_byte(out, at, magic);
-    let at = encode_header_byte(out, at, b'\n');
-    let at = encode_header_number(out, at, picture.cols());
-    let at = encode_header_byte(out, at, b' ');
-    let at = encode_header_number(out, at, picture.rows());
-    let at = encode_header_byte(out, at, b'\n');
-    let at = encode_header_number(out, at, u32::from(picture.max()));
-    encode_header_byte(out, at, b'\n')
+    let at = write_header_byte_at_offset(out, 0, b'P');
+    let at = write_header_byte_at_offset(out, at, magic);
+    let at = write_header_byte_at_offset(out, at, b'\n');
+    let at = write_header_number_at_offset(out, at, picture.cols());
+    let at = write_header_byte_at_offset(out, at, b' ');
+    let at = write_header_number_at_offset(out, at, picture.rows());
+    let at = write_header_byte_at_offset(out, at, b'\n');
+    let at = write_header_number_at_offset(out, at, u32::from(picture.max()));
+    write_header_byte_at_offset(out, at, b'\n')
 }
 
 // Puts a byte at a place of `out`, and returns where the next one goes.
-fn encode_header_byte(out: &mut [u8], at: usize, byte: u8) -> usize
+fn write_header_byte_at_offset(out: &mut [u8], at: usize, byte: u8) -> usize
     requires { at < length out.old }
     ensures end { result ≡ at + 1 }
     ensures written { take result out.new ≡ take at out.old ++ byte ∷ [] }
@@ -291,15 +304,15 @@ fn encode_header_byte(out: &mut [u8], at: usize, byte: u8) -> usize
 
 // Puts the digits of a number at a place of `out`, and returns where they end.
 #[tactic(auto, using(crate::proofs::Decimals::more_digits))]
-fn encode_header_number(out: &mut [u8], start: usize, number: u32) -> usize
+fn write_header_number_at_offset(out: &mut [u8], start: usize, number: u32) -> usize
     requires { start + length (decimal number) ≤ length out.old }
     ensures end { result ≡ start + length (decimal number) }
     ensures written { take result out.new ≡ take start out.old ++ decimal number }
 {
     let last = b'0' + (number % 10) as u8;
     if number < 10 {
-        return encode_header_byte(out, start, last);
+        return write_header_byte_at_offset(out, start, last);
     }
-    let at = encode_header_number(out, start, number / 10);
-    encode_header_byte(out, at, last)
+    let at = write_header_number_at_offset(out, start, number / 10);
+    write_header_byte_at_offset(out, at, last)
 }

@@ -29,7 +29,7 @@ impl<S: FactStore> NodeState<S> {
             ≡ missing_keys self.now.facts (program_id_in job.now) (pipeline_in job.now)) }
         ensures rising { IfOk result (λ keys. AllPairs IsKeyBefore keys.items) }
     {
-        self.held.list_missing_keys(job)
+        self.held.list_missing_keys_of_results(job)
     }
 
     /// The answer of a job by the held facts of its outputs and accumulators, whether these are true or not. The picture has

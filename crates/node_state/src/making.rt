@@ -11,7 +11,7 @@ ghost use Rattle.std.specs.Prelude.{◌≡◌, ◌↔◌, Bool, IfErr, IfOk, IsT
 
 use crate::state::NodeState;
 use catalog::Catalog;
-use fact_audit::find_job_of_fact_key;
+use fact_audit::borrow_job_of_fact_key;
 use fact_store::FactStore;
 use grouping::Schedule;
 use held_facts::MakeFault;
@@ -36,17 +36,17 @@ impl<S: FactStore> NodeState<S> {
             (IsMakeFault catalog.now self.now schedule.now.inlining key.now) }
     {
         if self.has_retired_job(&JobId::from_key(key)) {
-            return Err(self.find_retired_make_fault(catalog, key));
+            return Err(self.choose_make_fault_for_retired_key(catalog, key));
         }
         self.held.make(catalog, schedule, key)
     }
 
     // Why a tile of a retired job is not made.
-    fn find_retired_make_fault(&self, catalog: &Catalog, key: &Key) -> MakeFault
+    fn choose_make_fault_for_retired_key(&self, catalog: &Catalog, key: &Key) -> MakeFault
         requires { retires self.now (ids_in key.now) ≡ true }
         ensures { (inlining : List Bool) → IsMakeFault catalog.now self.now inlining key.now result }
     {
-        match find_job_of_fact_key(catalog, key) {
+        match borrow_job_of_fact_key(catalog, key) {
             None => MakeFault::Foreign,
             Some(job) if has_tile_of_retired_key(job, key) => MakeFault::Retired,
             Some(_) => MakeFault::NoSuchTile,

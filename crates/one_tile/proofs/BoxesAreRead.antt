@@ -9,7 +9,7 @@ use Rattle.tile_boxes.specs.Schedules.{is_inlined}
 use Rattle.job.specs.Formula.{Formula}
 use Rattle.job.specs.Pipeline.{JobCase, function, Stage, Pipeline}
 use Rattle.overlap_tiles.specs.Places.{IsPlaceOf}
-use Rattle.overlap_tiles.specs.Plans.{Layout}
+use Rattle.overlap_tiles.specs.Plans.{TileLayout}
 use Rattle.one_tile.specs.declared.scratch_view.TileScratchView.{TileScratchView}
 use Rattle.tile_sources.specs.KnownTiles.{KnownTiles}
 use Rattle.one_tile.specs.Local.{local_value}
@@ -26,7 +26,7 @@ none_so (Some x) p = tt
 one_value : {X : Type 0} → (o : Option X) (x y : X) → o ≡ Some x → o ≡ Some y → x ≡ y
 one_value {X = X} o x y one other = ap (λ (p : Option X). unwrap_or p y) (sym one ∙ other)
 
-module _ (job : Pipeline) (l : Layout) (given : KnownTiles) (boxes : TileScratchView) (g k : ℕ) (place : IsPlaceOf l.steps g k) (r c : ℤ)
+module _ (job : Pipeline) (l : TileLayout) (given : KnownTiles) (boxes : TileScratchView) (g k : ℕ) (place : IsPlaceOf l.steps g k) (r c : ℤ)
     (boxed : IsBoxed job l given boxes g r c) where
   box : HasBox l boxes k place.0 r c (local_value job l.inlining given g r c)
   box = boxed.each k place.0 (place.2, place.1)
@@ -49,7 +49,7 @@ module _ (job : Pipeline) (l : Layout) (given : KnownTiles) (boxes : TileScratch
 
 -- ---- a stage that is inlined is read by a view of its box
 
-module _ (job : Pipeline) (l : Layout) (given : KnownTiles) (boxes : TileScratchView) (g : ℕ) (s : Stage) (there : slice_get job.stages g ≡ Some s)
+module _ (job : Pipeline) (l : TileLayout) (given : KnownTiles) (boxes : TileScratchView) (g : ℕ) (s : Stage) (there : slice_get job.stages g ≡ Some s)
     (ps : List JobCase) (o : Option Formula) (body : s.body ≡ function ps o) (flag : is_inlined l.inlining g ≡ true) (r c : ℤ)
     (hand : IsInputAt job l given boxes g r c) where
   boxed_there : IsBoxed job l given boxes g r c

@@ -20,7 +20,7 @@ use Rattle.tile_boxes.specs.Schedules.{is_function_stage}
 use Rattle.tile_boxes.specs.Targets.{Target, IsTarget, target_over}
 use Rattle.overlap_tiles.specs.declared.steps.TileStep.{TileStep}
 use Rattle.overlap_tiles.specs.Needs.{key_tile, needs}
-use Rattle.overlap_tiles.specs.Plans.{Layout, IsTileAt, IsTileLayout}
+use Rattle.overlap_tiles.specs.Plans.{TileLayout, IsTileAt, IsTileLayout}
 use Rattle.overlap_tiles.specs.Views.{step_view}
 use Rattle.overlap_tiles.proofs.Lists.{Contains-from_map}
 use Rattle.overlap_tiles.proofs.TilesAreTargets.{tile_is_target}
@@ -78,7 +78,7 @@ keys_given given keys none n needed =
     let found = some_of (given key.0.stage key.0.row key.0.col) (none_found (is_missing given) keys none key.0 key.1) in
     (found.0, ap (λ (m : Tile). given m.stage m.row m.col) (sym key.2) ∙ found.1)
 
-module _ (job : Pipeline) (inlining : List Bool) (given : KnownTiles) (l : Layout) (g i j : ℕ) (is : IsTileLayout job inlining g i j l)
+module _ (job : Pipeline) (inlining : List Bool) (given : KnownTiles) (l : TileLayout) (g i j : ℕ) (is : IsTileLayout job inlining g i j l)
   where
     abbrev of_tile : Target
     of_tile = target_over job inlining g is.area

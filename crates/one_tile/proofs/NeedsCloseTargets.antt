@@ -18,7 +18,7 @@ use Rattle.job.specs.WellFormed.{IsValued, IsReadable, IsJob}
 use Rattle.job.proofs.Steps.{All-both}
 use Rattle.job.proofs.Solving.{ranked_is}
 use Rattle.tile_boxes.specs.Schedules.{is_inlined, is_function_stage, is_function_body}
-use Rattle.tile_boxes.specs.Targets.{Target, IsTarget, can_have_box, box, region, IsInBox}
+use Rattle.tile_boxes.specs.Targets.{Target, IsTarget, is_function_other_than_target, box, region, IsInBox}
 use Rattle.tile_boxes.proofs.BoxesHoldWhatIsRead.{has_what_it_reads}
 use Rattle.tile_boxes.proofs.BoxesLieInDomains.{region_in_domain}
 use Rattle.overlap_tiles.specs.Needs.{IsNeeded}
@@ -93,7 +93,7 @@ module _ (t : Target) (job : IsJob t.job) (target : IsTarget t) (given : KnownTi
           gives (record { stage = h; row = (tile_at grid r c).0; col = (tile_at grid r c).1 }) (record {
             grid = grid;
             there = at;
-            stored = and_from (can_have_box t h) (not (is_inlined t.inlining h)) one (ap not stored);
+            stored = and_from (is_function_other_than_target t h) (not (is_inlined t.inlining h)) one (ap not stored);
             area = boxed.area;
             boxed = boxed.there;
             meets = record { there = tile.there; row = r; col = c; in_tile = tile.holds; in_area = boxed.holds };

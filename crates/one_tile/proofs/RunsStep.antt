@@ -11,7 +11,7 @@ use Rattle.tile_boxes.specs.Targets.{Target, target_over}
 use Rattle.job.specs.Pipeline.{Pipeline}
 use Rattle.job.specs.WellFormed.{IsJob}
 use Rattle.overlap_tiles.specs.declared.steps.TileStep.{TileStep}
-use Rattle.overlap_tiles.specs.Plans.{Layout, IsLayout, IsTileLayout}
+use Rattle.overlap_tiles.specs.Plans.{TileLayout, IsLayout, IsTileLayout}
 use Rattle.overlap_tiles.specs.Views.{step_view}
 use Rattle.row_kernels.proofs.Places.{place_below}
 use Rattle.scratch.specs.Parts.{with_part}
@@ -28,7 +28,7 @@ use Rattle.one_tile.specs.inside.Steps.{AreComputed, AreLent, IsPreparedBeside}
 use Rattle.one_tile.proofs.LayoutsPrepare.{own_layout, inner_function, inner_is_area, inner_prepared, layout_ready}
 use Rattle.one_tile.proofs.StepsRun.{HasRange, steps_long, step_at, range_at, lies_off, finds, computed_next}
 
-module _ (job : Pipeline) (l : Layout) (given : KnownTiles) (some : IsSomeLayout job l) (steps : List TileStep)
+module _ (job : Pipeline) (l : TileLayout) (given : KnownTiles) (some : IsSomeLayout job l) (steps : List TileStep)
     (steps_are : map step_view steps ≡ l.steps) (ranges : List (ℕ × ℕ)) (ranges_are : ranges ≡ l.ranges) (place : ℕ)
     (there : suc place < length l.steps) (step : TileStep) (step_is : step ≡ slice_index_or steps place step) where
   own : IsTileLayout job l.inlining some.stage some.row some.col l
@@ -114,7 +114,7 @@ module _ (job : Pipeline) (l : Layout) (given : KnownTiles) (some : IsSomeLayout
 
 -- ---- after all steps
 
-module _ (job : Pipeline) (l : Layout) (given : KnownTiles) (g i j : ℕ) (at_tile : IsTileLayout job l.inlining g i j l) (good : IsJob job)
+module _ (job : Pipeline) (l : TileLayout) (given : KnownTiles) (g i j : ℕ) (at_tile : IsTileLayout job l.inlining g i j l) (good : IsJob job)
     (needs : NeedsGiven given l.needs) (memory : List ℤ) (size : l.scratch ≤ length memory) (boxes : TileScratchView)
     (before : boxes.before.now ≡ memory) (behind : length boxes.behind.now ≡ 0) (end : boxes.end ≡ length memory)
     (done : (last : ℕ) → suc last ≡ length l.steps → AreComputed job l given memory last) where

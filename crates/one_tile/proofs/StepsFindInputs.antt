@@ -18,7 +18,7 @@ use Rattle.job.specs.Answers.{grid_of, has_tiles}
 use Rattle.job.specs.Readers.{stage_grid, grid_at}
 use Rattle.job.specs.WellFormed.{IsValued, IsReadable, IsJob}
 use Rattle.tile_boxes.specs.Schedules.{is_inlined, is_function_stage, is_function_body}
-use Rattle.tile_boxes.specs.Targets.{Target, IsTarget, can_have_box, boxes}
+use Rattle.tile_boxes.specs.Targets.{Target, IsTarget, is_function_other_than_target, boxes}
 use Rattle.tile_boxes.specs.Costs.{inner_steps, steps}
 use Rattle.overlap_tiles.specs.Available.{IsPlaneAt, IsInNeededTile, IsAvailable}
 use Rattle.overlap_tiles.specs.Needs.{needs}
@@ -74,7 +74,7 @@ module _ (t : Target) (job : IsJob t.job) (given : KnownTiles) (are_given : Need
   needed_stored : (h : ℕ) (r c : ℤ) → IsInNeededTile t h r c → is_inlined t.inlining h ≡ false
   needed_stored h r c n =
       let needed = from_needs t (record { stage = h; row = n.row; col = n.col }) job n.needed in
-      not-true (is_inlined t.inlining h) (and_parts (can_have_box t h) (not (is_inlined t.inlining h)) needed.stored).1
+      not-true (is_inlined t.inlining h) (and_parts (is_function_other_than_target t h) (not (is_inlined t.inlining h)) needed.stored).1
 
   module _ (h : ℕ) (r c : ℤ) (s : Stage) (there : slice_get t.job.stages h ≡ Some s) where
     no_plane : is_function_body s.body ≡ true → IsPlaneAt t.job h → ⊥

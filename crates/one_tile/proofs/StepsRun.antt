@@ -15,7 +15,7 @@ use Rattle.tile_boxes.specs.Costs.{inner_steps, steps}
 use Rattle.tile_boxes.specs.Targets.{Target}
 use Rattle.overlap_tiles.specs.declared.steps.TileStep.{TileStep}
 use Rattle.overlap_tiles.specs.Lives.{IsReadAt}
-use Rattle.overlap_tiles.specs.Plans.{Layout, IsLayout}
+use Rattle.overlap_tiles.specs.Plans.{TileLayout, IsLayout}
 use Rattle.overlap_tiles.specs.Views.{step_view}
 use Rattle.overlap_tiles.proofs.StepsHaveWhatTheyRead.{lives_last}
 use Rattle.overlap_tiles.proofs.StepsRise.{one_place}
@@ -71,7 +71,7 @@ module _ (xs ys : List (ℕ × Area)) where
 -- ---- ranges
 
 -- the range of the step at place k: as long as its area has points, and within so much memory
-pub record HasRange (l : Layout) (k : ℕ) (area : Area) : Type 0 where
+pub record HasRange (l : TileLayout) (k : ℕ) (area : Area) : Type 0 where
   pub range : ℕ × ℕ
   pub there : slice_get l.ranges k ≡ Some range
   pub len : range.1 ≡ point_count area
@@ -81,7 +81,7 @@ pub record HasRange (l : Layout) (k : ℕ) (area : Area) : Type 0 where
 abbrev pub LiesOff : ℕ × ℕ → ℕ → ℕ → Type 0
 LiesOff range start end = (range.0 + range.1 ≤ start) ⊎ (end ≤ range.0)
 
-module _ (t : Target) (l : Layout) (given : KnownTiles) (is : IsLayout t l) where
+module _ (t : Target) (l : TileLayout) (given : KnownTiles) (is : IsLayout t l) where
   steps_are : l.steps ≡ inner_steps t ++ (t.stage, t.region) ∷ []
   steps_are = is.steps
 

@@ -8,7 +8,7 @@ use Rattle.job.specs.Values.{value}
 use Rattle.job.specs.WellFormed.{IsJob}
 use Rattle.tile_boxes.specs.Targets.{Target, target_over}
 use Rattle.overlap_tiles.specs.Needs.{IsNeeded}
-use Rattle.overlap_tiles.specs.Plans.{Layout, IsTileLayout}
+use Rattle.overlap_tiles.specs.Plans.{TileLayout, IsTileLayout}
 use Rattle.overlap_tiles.proofs.NeedsAreExact.{to_needs}
 use Rattle.overlap_tiles.proofs.TilesAreTargets.{tile_is_target}
 use Rattle.tile_eval.specs.Raster.{raster}
@@ -17,7 +17,7 @@ use Rattle.one_tile.specs.Runs.{NeedsGiven, AreLocalOn, AreValuesOn}
 use Rattle.one_tile.proofs.NeedsCloseTargets.{values_over}
 use Rattle.one_tile.proofs.LayoutsPrepare.{only_area}
 
-module _ (job : Pipeline) (inlining : List Bool) (given : KnownTiles) (l : Layout) (g i j : ℕ) (is : IsTileLayout job inlining g i j l)
+module _ (job : Pipeline) (inlining : List Bool) (given : KnownTiles) (l : TileLayout) (g i j : ℕ) (is : IsTileLayout job inlining g i j l)
     (good : IsJob job) (are_given : NeedsGiven given l.needs) where
   abbrev of_tile : Target
   of_tile = target_over job inlining g is.area

@@ -2,10 +2,10 @@
 use Rattle.std.specs.Prelude.{ℕ, ◌≡◌, Bool, true, List}
 use Rattle.job.specs.Pipeline.{Pipeline}
 use Rattle.tile_boxes.specs.Schedules.{is_function_stage}
-use Rattle.overlap_tiles.specs.Plans.{Layout, IsTileLayout}
+use Rattle.overlap_tiles.specs.Plans.{TileLayout, IsTileLayout}
 
 -- the layout is that of a tile of a function
-pub record IsFunctionLayout (job : Pipeline) (l : Layout) : Type 0 where
+pub record IsFunctionLayout (job : Pipeline) (l : TileLayout) : Type 0 where
   pub inlining : List Bool
   pub stage : ℕ
   pub row : ℕ

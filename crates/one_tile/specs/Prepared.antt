@@ -4,7 +4,7 @@ use Rattle.domains.specs.Area.{HoldsPoint, point_count}
 use Rattle.domains.specs.declared.area.Area.{Area}
 use Rattle.job.specs.Pipeline.{Pipeline}
 use Rattle.job.specs.Values.{Valuation}
-use Rattle.overlap_tiles.specs.Plans.{Layout, IsTileAt}
+use Rattle.overlap_tiles.specs.Plans.{TileLayout, IsTileAt}
 use Rattle.tile_eval.specs.Raster.{place_of}
 use Rattle.tile_eval.specs.Rows.{at}
 use Rattle.one_tile.specs.declared.scratch_view.TileScratchView.{TileScratchView}
@@ -32,15 +32,15 @@ pub record HasNumber (boxes : TileScratchView) (area : Area) (start : ℕ) (r c 
 -- ---- boxes of inlined functions
 
 -- the step at place k is no target, and computes stage g over this area
-abbrev pub IsInnerStep : Layout → ℕ → ℕ → Area → Type 0
+abbrev pub IsInnerStep : TileLayout → ℕ → ℕ → Area → Type 0
 IsInnerStep l k g area = (suc k < length l.steps) × (slice_get l.steps k ≡ Some (g, area))
 
 -- in the range of the step at place k this is the number at the point
-abbrev pub HasBox : Layout → TileScratchView → ℕ → Area → ℤ → ℤ → ℤ → Type 0
+abbrev pub HasBox : TileLayout → TileScratchView → ℕ → Area → ℤ → ℤ → ℤ → Type 0
 HasBox l boxes k area r c number = (range : ℕ × ℕ) × (slice_get l.ranges k ≡ Some range) × HasNumber boxes area range.0 r c number
 
 -- stage g is inlined in the layout, and its box has its local value at the point
-pub record IsBoxed (job : Pipeline) (l : Layout) (given : KnownTiles) (boxes : TileScratchView) (g : ℕ) (r c : ℤ) : Type 0 where
+pub record IsBoxed (job : Pipeline) (l : TileLayout) (given : KnownTiles) (boxes : TileScratchView) (g : ℕ) (r c : ℤ) : Type 0 where
   pub some : (k : ℕ) × (area : Area) × IsInnerStep l k g area
   pub each : (k : ℕ) (area : Area) → IsInnerStep l k g area → HasBox l boxes k area r c (local_value job l.inlining given g r c)
 
@@ -51,14 +51,14 @@ abbrev pub input_at : Pipeline → List Bool → KnownTiles → Valuation
 input_at job inlining given = read_from job inlining given (local_value job inlining given)
 
 -- whether it is available
-abbrev pub IsInputAt : Pipeline → Layout → KnownTiles → TileScratchView → ℕ → ℤ → ℤ → Type 0
+abbrev pub IsInputAt : Pipeline → TileLayout → KnownTiles → TileScratchView → ℕ → ℤ → ℤ → Type 0
 IsInputAt job l given boxes = IsAtHand job l.inlining given (IsBoxed job l given boxes)
 
 -- all that stage g reads at the points of an area, which lie in its domain, is available
-abbrev pub IsPrepared : Pipeline → Layout → KnownTiles → TileScratchView → ℕ → Area → Type 0
+abbrev pub IsPrepared : Pipeline → TileLayout → KnownTiles → TileScratchView → ℕ → Area → Type 0
 IsPrepared job l given boxes g area =
     (r c : ℤ) → HoldsPoint area r c → IsProvided job l.inlining given (IsBoxed job l given boxes) g r c
 
 -- that holds of the tile in row i and column j
-abbrev pub IsPreparedOn : Pipeline → Layout → KnownTiles → TileScratchView → ℕ → ℕ → ℕ → Type 0
+abbrev pub IsPreparedOn : Pipeline → TileLayout → KnownTiles → TileScratchView → ℕ → ℕ → ℕ → Type 0
 IsPreparedOn job l given boxes g i j = (area : Area) → IsTileAt job g i j area → IsPrepared job l given boxes g area

@@ -7,7 +7,7 @@ use Rattle.job.specs.Answers.{Tile}
 use Rattle.job.specs.Pipeline.{Pipeline}
 use Rattle.job.specs.Values.{value}
 use Rattle.tile_boxes.specs.Schedules.{is_function_stage}
-use Rattle.overlap_tiles.specs.Plans.{Plan, Layout, IsTileAt, IsTilePlan, IsTileLayout}
+use Rattle.overlap_tiles.specs.Plans.{Plan, TileLayout, IsTileAt, IsTilePlan, IsTileLayout}
 use Rattle.tile_eval.specs.Raster.{raster}
 use Rattle.one_tile.specs.declared.tile_fault.EvalFault.{EvalFault}
 use Rattle.one_tile.specs.declared.tile_fault.EvalFault.TheVariants.{Missing, Memory}
@@ -45,7 +45,7 @@ IsEvalFault given needs (Missing key) = first_missing given needs ≡ Some key
 IsEvalFault given needs Memory = first_missing given needs ≡ None
 
 -- the layout is that of a tile
-pub record IsSomeLayout (job : Pipeline) (l : Layout) : Type 0 where
+pub record IsSomeLayout (job : Pipeline) (l : TileLayout) : Type 0 where
   pub inlining : List Bool
   pub stage : ℕ
   pub row : ℕ

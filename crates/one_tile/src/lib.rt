@@ -15,7 +15,7 @@ mod tile_job;
 mod tile_rows;
 
 pub use memory::TileScratch;
-pub use run::{find_first_unsupplied_tile, run_tile};
+pub use run::{find_first_key_of_unsupplied_tile, run_tile};
 pub use scratch_view::TileScratchView;
 pub use tile_fault::EvalFault;
 pub use tile_inputs::TileInputs;

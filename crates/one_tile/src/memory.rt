@@ -7,14 +7,14 @@ ghost use Rattle.std.specs.Global.{Vec};
 use crate::tile_rows::{StageTiles, TileRow};
 use std::alloc::{AllocError, Global};
 use std::mem;
-use tile_sources::PlaneBuffers;
+use tile_sources::ThreePlaneBuffers;
 
 /// Buffers in which tiles are computed, one after another: for boxes of inlined functions, samples of planes and operands. Also
 /// the recycled vectors of earlier tiles. Their content is unspecified between calls.
 #[derive(Drop)]
 pub struct TileScratch {
     pub(crate) boxes: scratch::Scratch,
-    pub(crate) planes: PlaneBuffers,
+    pub(crate) planes: ThreePlaneBuffers,
     pub(crate) tiles: Vec<Vec<i32>>,
     pub(crate) operands: Vec<i32>,
     pub(crate) operands_of_steps: Vec<i32>,
@@ -25,7 +25,7 @@ pub struct TileScratch {
 /// # Errors
 ///
 /// Fails only where memory is refused.
-pub(crate) fn detach_and_grow_tile_operands(
+pub(crate) fn take_and_grow_tile_operand_vector(
     alloc: Global,
     kept: &mut Vec<i32>,
     size: usize,
@@ -44,7 +44,7 @@ impl TileScratch {
     pub fn new(alloc: Global) -> TileScratch {
         TileScratch {
             boxes: scratch::Scratch::new(alloc),
-            planes: PlaneBuffers::new(alloc),
+            planes: ThreePlaneBuffers::new(alloc),
             tiles: Vec::new(alloc),
             operands: Vec::new(alloc),
             operands_of_steps: Vec::new(alloc),
@@ -81,7 +81,7 @@ impl TileScratch {
     }
 
     /// Recycles the vectors of tiles that are no longer needed, instead of those that were recycled before.
-    pub fn replace_recycled_vectors(&mut self, row: TileRow)
+    pub fn set_recycled_vectors_to_tile_row(&mut self, row: TileRow)
         ensures { self.new.tiles.items ≡ row.tiles.items }
     {
         self.tiles = row.tiles;

@@ -9,14 +9,17 @@ ghost use Rattle.one_tile.specs.inside.Steps.{HasStepRoom, HasStepsRoom};
 use crate::steps::find_tile_step_function;
 use job::Job;
 use overlap_tiles::TileStep;
-use tile_eval::compute_function_capacity;
+use tile_eval::compute_operand_capacity_of_function;
 
 // The capacity for the operands of a step, if it can be counted; 0 for a stage that is no function.
-fn find_tile_operand_capacity_of_step(job: &Job, step: &TileStep) -> Option<usize>
+fn compute_operand_capacity_of_tile_step(job: &Job, step: &TileStep) -> Option<usize>
     ensures { IfSome result (HasStepRoom (pipeline_in job.now) (step_view step.now)) }
 {
     match find_tile_step_function(job, step.stage) {
-        Some(function) => compute_function_capacity(function, step.area.cols.len() as usize),
+        Some(function) => compute_operand_capacity_of_function(
+            function,
+            step.area.cols.len() as usize,
+        ),
         None => Some(0),
     }
 }
@@ -27,7 +30,7 @@ pub(crate) fn find_greatest_tile_operand_capacity(job: &Job, steps: &[TileStep])
 {
     let mut room = 0;
     for step in steps {
-        room = find_tile_operand_capacity_of_step(job, step)?.max(room);
+        room = compute_operand_capacity_of_tile_step(job, step)?.max(room);
     }
     Some(room)
 }

@@ -8,13 +8,13 @@ ghost use Rattle.one_tile.specs.Prepared.{IsPreparedOn};
 ghost use Rattle.one_tile.specs.Runs.{NeedsGiven, IsSomeLayout};
 ghost use Rattle.tile_sources.specs.Wide.{AreWide};
 
-use crate::memory::{TileScratch, detach_and_grow_tile_operands};
+use crate::memory::{TileScratch, take_and_grow_tile_operand_vector};
 use crate::operands::find_greatest_tile_operand_capacity;
 use crate::scratch_view::TileScratchView;
 use crate::tile_job::TileJob;
 use std::alloc::{AllocError, Global};
 use std::mem;
-use tile_sources::{PlaneBuffers, TileSource, find_plane_areas_to_convert};
+use tile_sources::{ThreePlaneBuffers, TileSource, find_plane_areas_to_convert};
 
 impl<K: TileSource> TileJob<'_, K> {
     /// Computes the boxes of the inlined functions that the tile's layout names, so that all reads of the tile are available.
@@ -23,7 +23,7 @@ impl<K: TileSource> TileJob<'_, K> {
     /// # Errors
     ///
     /// Fails only where memory is refused.
-    pub fn compute_inlined_boxes<'s>(
+    pub fn compute_values_of_inlined_boxes<'s>(
         &self,
         alloc: Global,
         scratch: &'s mut TileScratch,
@@ -42,7 +42,7 @@ impl<K: TileSource> TileJob<'_, K> {
             AllocError,
         )?;
         let areas = find_plane_areas_to_convert(self.job, self.layout.steps());
-        let mut operands = detach_and_grow_tile_operands(
+        let mut operands = take_and_grow_tile_operand_vector(
             alloc,
             &mut scratch.operands_of_steps,
             room,
@@ -51,7 +51,7 @@ impl<K: TileSource> TileJob<'_, K> {
         scratch.planes.grow(&areas)?;
         scratch.planes.convert_planes(self.job.picture(), &areas);
         // the converted planes are read while the memory of the boxes is written
-        let planes = mem::replace(&mut scratch.planes, PlaneBuffers::new(alloc));
+        let planes = mem::replace(&mut scratch.planes, ThreePlaneBuffers::new(alloc));
         self.compute_inlined_steps(&planes, &mut scratch.boxes, &mut operands[..room]);
         scratch.planes = planes;
         scratch.operands_of_steps = operands;

@@ -15,7 +15,7 @@ ghost use Rattle.one_tile.specs.Runs.{is_missing, first_missing, AreLocalOn, Are
 ghost use Rattle.one_tile.specs.Layouts.{IsFunctionLayout};
 ghost use Rattle.one_tile.specs.inside.Steps.{IsFunctionAt};
 
-use crate::memory::{TileScratch, detach_and_grow_tile_operands};
+use crate::memory::{TileScratch, take_and_grow_tile_operand_vector};
 use crate::steps::find_tile_step_function;
 use crate::tile_fault::EvalFault;
 use crate::tile_inputs::TileInputs;
@@ -24,7 +24,7 @@ use identity::Key;
 use job::{Function, Job};
 use overlap_tiles::{TilePlan, TileStep};
 use std::alloc::{AllocError, Global};
-use tile_eval::compute_function_capacity;
+use tile_eval::compute_operand_capacity_of_function;
 use tile_sources::TileSource;
 
 fn is_tile_unsupplied<K: TileSource>(known: &K, key: &Key) -> bool
@@ -36,7 +36,7 @@ fn is_tile_unsupplied<K: TileSource>(known: &K, key: &Key) -> bool
 }
 
 /// The first of these keys whose tile is not supplied.
-pub fn find_first_unsupplied_tile<K: TileSource>(needs: &[Key], known: &K) -> Option<Key>
+pub fn find_first_key_of_unsupplied_tile<K: TileSource>(needs: &[Key], known: &K) -> Option<Key>
     ensures { result ≡ first_missing (K.given known.now) needs.now }
 {
     needs
@@ -78,11 +78,13 @@ impl<K: TileSource> TileJob<'_, K> {
             self.now.layout.now.inlining (K.given self.now.known.now) step.now.stage)) }
     {
         let area = &step.area;
-        let room = compute_function_capacity(function, area.cols.len() as usize).ok_or(AllocError)?;
-        let mut operands = detach_and_grow_tile_operands(alloc, &mut scratch.operands, room)?;
+        let room = compute_operand_capacity_of_function(function, area.cols.len() as usize).ok_or(
+            AllocError,
+        )?;
+        let mut operands = take_and_grow_tile_operand_vector(alloc, &mut scratch.operands, room)?;
         let mut values = scratch.reuse_tile_vector(alloc);
         values.resize(area.points() as usize, 0)?;
-        let boxes = self.compute_inlined_boxes(alloc, scratch)?;
+        let boxes = self.compute_values_of_inlined_boxes(alloc, scratch)?;
         let tile = *self;
         let inputs = TileInputs { tile, boxes };
         inputs.write_function_values(
@@ -101,7 +103,7 @@ impl<K: TileSource> TileJob<'_, K> {
     /// # Errors
     ///
     /// Fails only where memory is refused.
-    pub fn compute_values(
+    pub fn compute_values_if_stage_is_function(
         &self,
         alloc: Global,
         scratch: &mut TileScratch,
@@ -150,7 +152,7 @@ pub fn run_tile<K: TileSource>(
         (λ values. first_missing (K.given known.now) plan.now.needs ≡ None) }
     ensures fault { IfErr result (IsEvalFault (K.given known.now) plan.now.needs) }
 {
-    if let Some(key) = find_first_unsupplied_tile(plan.needs(), known) {
+    if let Some(key) = find_first_key_of_unsupplied_tile(plan.needs(), known) {
         return Err(EvalFault::Missing(key));
     }
     let tile = TileJob {
@@ -158,6 +160,6 @@ pub fn run_tile<K: TileSource>(
         layout: plan.layout(),
         known,
     };
-    let values = tile.compute_values(alloc, scratch)?;
+    let values = tile.compute_values_if_stage_is_function(alloc, scratch)?;
     Ok(values)
 }

@@ -4,7 +4,7 @@
 ghost use Rattle.std.specs.Prelude.{◌≡◌, ◌≤◌, ◌+◌, length, IfSome, IfNone};
 ghost use Rattle.tile_eval.specs.Rows.{EachPlace, at};
 
-use tile_sources::{PlaneBuffers, borrow_tile_source_range};
+use tile_sources::{ThreePlaneBuffers, borrow_number_range};
 
 /// What a step reads of scratch memory: the numbers before the range that it writes, and those from the range's end on. Also the
 /// converted planes.
@@ -13,7 +13,7 @@ pub struct TileScratchView<'a> {
     pub(crate) before: &'a [i32],
     pub(crate) behind: &'a [i32],
     pub(crate) end: usize,
-    pub(crate) planes: &'a PlaneBuffers,
+    pub(crate) planes: &'a ThreePlaneBuffers,
     ghost ordered: { length before.now ≤ end },
 }
 
@@ -22,7 +22,10 @@ impl<'a> TileScratchView<'a> {
     ghost use Rattle.one_tile.specs.Prepared.{IsLent, IsNumberAt};
 
     /// All of scratch memory, for a step that writes none of it, and these planes.
-    pub(crate) fn from_numbers(numbers: &'a [i32], planes: &'a PlaneBuffers) -> TileScratchView<'a>
+    pub(crate) fn from_numbers(
+        numbers: &'a [i32],
+        planes: &'a ThreePlaneBuffers,
+    ) -> TileScratchView<'a>
         ensures before { result.before.now ≡ numbers.now }
         ensures behind { length result.behind.now ≡ 0 }
         ensures end { result.end ≡ length numbers.now }
@@ -44,8 +47,8 @@ impl<'a> TileScratchView<'a> {
         ensures none { IfNone result (¬ (IsLent self.now start len)) }
     {
         match start.checked_sub(self.end) {
-            Some(behind) => borrow_tile_source_range(self.behind, behind, len),
-            None => borrow_tile_source_range(self.before, start, len),
+            Some(behind) => borrow_number_range(self.behind, behind, len),
+            None => borrow_number_range(self.before, start, len),
         }
     }
 }

@@ -23,7 +23,7 @@ use crate::tile_job::TileJob;
 use job::{Body, Function, Job};
 use overlap_tiles::TileStep;
 use scratch::Scratch;
-use tile_sources::{PlaneBuffers, TileSource};
+use tile_sources::{ThreePlaneBuffers, TileSource};
 
 /// The function of this number.
 pub(crate) fn find_tile_step_function(job: &Job, number: usize) -> Option<&Function>
@@ -40,9 +40,9 @@ pub(crate) fn find_tile_step_function(job: &Job, number: usize) -> Option<&Funct
 impl<K: TileSource> TileJob<'_, K> {
     // Writes the values of a function over its box into the box's range, which starts at `start`. The memory before and after the
     // range is borrowed meanwhile.
-    fn compute_box_values(
+    fn write_box_values_into_scratch(
         &self,
-        planes: &PlaneBuffers,
+        planes: &ThreePlaneBuffers,
         step: &TileStep,
         function: &Function,
         start: usize,
@@ -82,7 +82,7 @@ impl<K: TileSource> TileJob<'_, K> {
     fn compute_step(
         &self,
         place: usize,
-        planes: &PlaneBuffers,
+        planes: &ThreePlaneBuffers,
         scratch: &mut Scratch,
         temps: &mut [i32],
     )
@@ -102,14 +102,14 @@ impl<K: TileSource> TileJob<'_, K> {
         let step = self.layout.steps()[place];
         let (start, _) = self.layout.ranges()[place];
         if let Some(function) = find_tile_step_function(self.job, step.stage) {
-            self.compute_box_values(planes, &step, function, start, scratch, temps);
+            self.write_box_values_into_scratch(planes, &step, function, start, scratch, temps);
         }
     }
 
     /// Computes each step before the last.
     pub(crate) fn compute_inlined_steps(
         &self,
-        planes: &PlaneBuffers,
+        planes: &ThreePlaneBuffers,
         scratch: &mut Scratch,
         temps: &mut [i32],
     )

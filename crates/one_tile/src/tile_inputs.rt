@@ -15,7 +15,7 @@ use job::{Body, Function};
 use overlap_tiles::TileStep;
 use tile_eval::{BufferView, RowSource, RowSpan, evaluate_function_area};
 use tile_sources::{
-    TileSource, gather_plane_row_for_tile, read_plane_row_for_tile, read_sample_for_tile,
+    TileSource, gather_plane_row_for_tile, read_plane_row_for_tile, read_plane_sample_for_tile,
 };
 
 /// What a tile reads: planes of its job, supplied tiles of stored functions, and boxes of inlined functions.
@@ -199,7 +199,12 @@ impl<K: TileSource> RowSource for TileInputs<'_, '_, K> {
             return 0;
         };
         match found.body() {
-            Body::Plane(plane) => read_sample_for_tile(self.tile.job.picture(), *plane, row, col),
+            Body::Plane(plane) => read_plane_sample_for_tile(
+                self.tile.job.picture(),
+                *plane,
+                row,
+                col,
+            ),
             Body::Function(_) if self.tile.layout.inlined(stage) => match self.view_inlined_box(
                 stage,
             ) {

@@ -9,14 +9,14 @@ ghost use Rattle.tile_sources.specs.KnownTiles.{AreWhole};
 
 use domains::Grid;
 use job::{Job, Stage};
-use overlap_tiles::Layout;
+use overlap_tiles::TileLayout;
 use std::alloc::AllocError;
 use tile_sources::{SuppliedTiles, TileSource};
 
 /// A tile of a job that is to be computed: its layout, and the supplier of the tiles that it needs.
 pub struct TileJob<'a, K: TileSource> {
     pub job: &'a Job,
-    pub layout: &'a Layout<'a>,
+    pub layout: &'a TileLayout<'a>,
     pub known: &'a K,
     ghost whole: { AreWhole (pipeline_in job.now) (K.given known.now) },
 }

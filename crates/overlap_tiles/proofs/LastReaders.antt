@@ -14,7 +14,7 @@ use Rattle.job.specs.Reads.{Read, stage_read, reads_of}
 use Rattle.grouping.specs.Greedy.{reads_at, is_reader_of_stage}
 use Rattle.tile_boxes.proofs.Lists.{Contains-map}
 use Rattle.overlap_tiles.specs.Lives.{DoesRead, IsReadAt, LivesMeet}
-use Rattle.overlap_tiles.specs.inside.Made.{marked, marked_by, unread, find_last_readers}
+use Rattle.overlap_tiles.specs.inside.Made.{marked, marked_by, unread, list_last_reader_places_by_stage}
 use Rattle.overlap_tiles.proofs.Lists.{Contains-from_map}
 
 -- ---- what a stage reads
@@ -144,10 +144,10 @@ marked_by_push job n lasts (x ∷ ss) s =
     ∙ ap (λ (m : ℕ). marked m (marked_by job n lasts (x ∷ ss)) (reads_at job s.0)) more
 
 pub last_readers_push : (job : Pipeline) (ss : List (ℕ × Area)) (s : ℕ × Area) (n : ℕ) → n ≡ length ss
-    → marked n (find_last_readers job ss) (reads_at job s.0) ≡ find_last_readers job (ss ++ s ∷ [])
+    → marked n (list_last_reader_places_by_stage job ss) (reads_at job s.0) ≡ list_last_reader_places_by_stage job (ss ++ s ∷ [])
 last_readers_push job ss s n e =
     let from : n ≡ 0 + length ss = omega arith in
-    ap (λ (m : ℕ). marked m (find_last_readers job ss) (reads_at job s.0)) from ∙ sym (marked_by_push job 0 (unread job) ss s)
+    ap (λ (m : ℕ). marked m (list_last_reader_places_by_stage job ss) (reads_at job s.0)) from ∙ sym (marked_by_push job 0 (unread job) ss s)
 
 -- ---- lives
 
@@ -159,7 +159,7 @@ module _ (job : Pipeline) (steps : List (ℕ × Area)) (k : ℕ) (s : ℕ × Are
   first : get_or (unread job) s.0 0 ≡ 0
   first = get_or-replicate (length job.stages) s.0 0 0 within
 
-  pub meet_last : (l : ℕ) → k < l → LivesMeet job steps k l → l ≤ get_or (find_last_readers job steps) s.0 0
+  pub meet_last : (l : ℕ) → k < l → LivesMeet job steps k l → l ≤ get_or (list_last_reader_places_by_stage job steps) s.0 0
   meet_last l less meet = elim meet.1.1 [
     | inl own ↦ absurd (let low = meet.2.0 in omega arith)
     | inr at ↦ (let read = at.2 in
@@ -173,7 +173,7 @@ module _ (job : Pipeline) (steps : List (ℕ × Area)) (k : ℕ) (s : ℕ × Are
         omega arith)
   ]
 
-  pub last_meets : (l : ℕ) → k < l → l ≤ get_or (find_last_readers job steps) s.0 0 → LivesMeet job steps k l
+  pub last_meets : (l : ℕ) → k < l → l ≤ get_or (list_last_reader_places_by_stage job steps) s.0 0 → LivesMeet job steps k l
   last_meets l less most = elim (reader_found job s.0 0 (unread job) steps in_table) [
     | inl none ↦ absurd (omega (arith, first))
     | inr found ↦ (let at = found.is in

@@ -13,10 +13,10 @@ use Rattle.job.specs.WellFormed.{IsJob}
 use Rattle.tile_boxes.specs.Schedules.{is_inlined}
 use Rattle.tile_boxes.specs.Targets.{Target, boxes, target_over}
 use Rattle.tile_boxes.specs.Costs.{points_in, inner_steps}
-use Rattle.overlap_tiles.specs.inside.Made.{stage_needs, find_last_readers, ranges_by, ranges_for, size_of}
+use Rattle.overlap_tiles.specs.inside.Made.{stage_needs, list_last_reader_places_by_stage, ranges_by, ranges_for, size_of}
 use Rattle.overlap_tiles.specs.declared.needs.NeededTile.{NeededTile}
 use Rattle.overlap_tiles.specs.Needs.{needs, key_of, key_tile}
-use Rattle.overlap_tiles.specs.Plans.{Layout, IsLayout, IsTileLayout, Plan, IsTilePlan, layout_of}
+use Rattle.overlap_tiles.specs.Plans.{TileLayout, IsLayout, IsTileLayout, Plan, IsTilePlan, layout_of}
 use Rattle.overlap_tiles.specs.Ranges.{HaveRoom}
 use Rattle.overlap_tiles.specs.Views.{need_view}
 use Rattle.overlap_tiles.proofs.Lists.{All-from_contains}
@@ -32,21 +32,21 @@ points_in-push inner s =
     ∙ sum_by_push (λ n. n) (map (λ x. point_count x.1) inner) (point_count s.1)
 
 -- how a layout is put together
-pub record IsMade (t : Target) (p : Layout) : Type 0 where
+pub record IsMade (t : Target) (p : TileLayout) : Type 0 where
   pub inner : List (ℕ × Area)
   pub kept : inner ≡ filter (λ s. is_inlined t.inlining s.0) (boxes t)
   pub needs : p.needs ≡ flat_map (stage_needs t.job t.inlining (boxes t)) (range_with_len 0 (length t.job.stages))
   pub steps : p.steps ≡ inner ++ (t.stage, t.region) ∷ []
   pub points : p.points ≡ points_in inner + point_count t.region
-  pub ranges : p.ranges ≡ ranges_by (find_last_readers t.job (inner ++ (t.stage, t.region) ∷ [])) inner
+  pub ranges : p.ranges ≡ ranges_by (list_last_reader_places_by_stage t.job (inner ++ (t.stage, t.region) ∷ [])) inner
   pub scratch : p.scratch ≡ size_of p.ranges
   pub inlining : p.inlining ≡ t.inlining
 
-pub is_layout : (t : Target) (p : Layout) → IsMade t p → IsLayout t p
+pub is_layout : (t : Target) (p : TileLayout) → IsMade t p → IsLayout t p
 is_layout t p made =
     let kept : made.inner ≡ inner_steps t = made.kept in
     let ranges : p.ranges ≡ ranges_for t = made.ranges
-    ∙ ap (λ (ss : List (ℕ × Area)). ranges_by (find_last_readers t.job (ss ++ (t.stage, t.region) ∷ [])) ss) kept in
+    ∙ ap (λ (ss : List (ℕ × Area)). ranges_by (list_last_reader_places_by_stage t.job (ss ++ (t.stage, t.region) ∷ [])) ss) kept in
     let size : p.scratch ≡ size_of (ranges_for t) = made.scratch ∙ ap size_of ranges in
     record {
       needs = made.needs ∙ needs_made t;

@@ -14,14 +14,14 @@ use Rattle.job.specs.Answers.{Tile}
 use Rattle.job.specs.Readers.{stage_grid, grid_at}
 use Rattle.job.specs.WellFormed.{IsJob}
 use Rattle.tile_boxes.specs.Schedules.{is_inlined}
-use Rattle.tile_boxes.specs.Targets.{Target, can_have_box, box, boxes}
+use Rattle.tile_boxes.specs.Targets.{Target, is_function_other_than_target, box, boxes}
 use Rattle.tile_boxes.proofs.BoxesLieInDomains.{box_inside}
 use Rattle.tile_boxes.proofs.Lists.{flat_map-same, Contains-map, Contains-flat_map}
-use Rattle.overlap_tiles.specs.inside.Made.{find_stage_area, stage_needs}
+use Rattle.overlap_tiles.specs.inside.Made.{find_stage_area_in_boxes, stage_needs}
 use Rattle.overlap_tiles.specs.Needs.{is_stored, tile_of_stage, tiles_over, needs_of, needs, IsNeeded, IsTileBefore}
 use Rattle.overlap_tiles.proofs.Lists.{Contains-from_flat_map, Contains-from_map, AllPairs-flat_map, AllPairs-map}
 use Rattle.tile_boxes.proofs.TilesAreTargets.{gridded, grid_fits}
-use Rattle.overlap_tiles.proofs.BoxesAreFound.{find_stage_area-boxes}
+use Rattle.overlap_tiles.proofs.BoxesAreFound.{find_stage_area_in_boxes-boxes}
 
 -- ---- the list that the code makes
 
@@ -46,12 +46,12 @@ past_needs g one other false false = refl
 stage_needs_is : (t : Target) (g : ℕ) → stage_needs t.job t.inlining (boxes t) g ≡ needs_of t g
 stage_needs_is t g = elim (cases_lt g (length t.job.stages)) [
   | inl there ↦
-      ap (λ (o : Option Area). if is_inlined t.inlining g then [] else tiles_over g (grid_at t.job g) o) (find_stage_area-boxes t g there)
-      ∙ chosen_needs g (grid_at t.job g) (box t g) (is_inlined t.inlining g) (can_have_box t g)
+      ap (λ (o : Option Area). if is_inlined t.inlining g then [] else tiles_over g (grid_at t.job g) o) (find_stage_area_in_boxes-boxes t g there)
+      ∙ chosen_needs g (grid_at t.job g) (box t g) (is_inlined t.inlining g) (is_function_other_than_target t g)
   | inr past ↦
       (let none : grid_at t.job g ≡ None = ap (stage_grid t.job) (slice_get_past t.job.stages g past) in
-      ap (λ (o : Option Grid). if is_inlined t.inlining g then [] else tiles_over g o (find_stage_area (boxes t) g)) none
-      ∙ past_needs g (find_stage_area (boxes t) g) (box t g) (is_inlined t.inlining g) (is_stored t g)
+      ap (λ (o : Option Grid). if is_inlined t.inlining g then [] else tiles_over g o (find_stage_area_in_boxes (boxes t) g)) none
+      ∙ past_needs g (find_stage_area_in_boxes (boxes t) g) (box t g) (is_inlined t.inlining g) (is_stored t g)
       ∙ sym (ap (λ (o : Option Grid). if is_stored t g then tiles_over g o (box t g) else []) none))
 ]
 

@@ -16,7 +16,7 @@ use Rattle.tile_boxes.specs.Schedules.{is_inlined, is_function_stage, is_functio
 use Rattle.tile_boxes.specs.Targets.{Target, boxes}
 use Rattle.tile_boxes.specs.Costs.{points_in, inner_steps, steps, scratch}
 use Rattle.overlap_tiles.specs.Ranges.{LieApart, LieWithin, HaveRoom}
-use Rattle.overlap_tiles.specs.inside.Made.{find_last_readers, laid, laid_of, range_of, ranges_by, ranges_for, size_of, held_after}
+use Rattle.overlap_tiles.specs.inside.Made.{list_last_reader_places_by_stage, laid, laid_of, range_of, ranges_by, ranges_for, size_of, held_after}
 use Rattle.overlap_tiles.specs.declared.ranges.HeldRange.{HeldRange}
 use Rattle.overlap_tiles.proofs.LaidApart.{IsLaid, nothing_held, laid_at, laid_from, laid_within}
 use Rattle.overlap_tiles.proofs.LastReaders.{meet_last, last_meets}
@@ -96,7 +96,7 @@ inner_there t s h =
 
 module _ (t : Target) where
   abbrev lasts : List ℕ
-  lasts = find_last_readers t.job (steps t)
+  lasts = list_last_reader_places_by_stage t.job (steps t)
 
   abbrev held : List HeldRange
   held = laid 0 [] (map (laid_of lasts) (inner_steps t))

@@ -24,7 +24,7 @@ use Rattle.job.proofs.Unrolling.{reads_fall}
 use Rattle.job.proofs.Solving.{BodyReads-both, ranked_is}
 use Rattle.tile_boxes.specs.Order.{order_stages_by_rank}
 use Rattle.tile_boxes.specs.Schedules.{is_inlined, is_function_stage, is_function_body}
-use Rattle.tile_boxes.specs.Targets.{Target, IsTarget, with_number, can_have_box, numbered_box, box, boxes, region, IsInBox}
+use Rattle.tile_boxes.specs.Targets.{Target, IsTarget, with_number, is_function_other_than_target, numbered_box, box, boxes, region, IsInBox}
 use Rattle.tile_boxes.specs.Costs.{inner_steps, steps}
 use Rattle.tile_boxes.proofs.Lists.{Contains-flat_map, Contains-map}
 use Rattle.tile_boxes.proofs.OrderHasEachStage.{order_has}
@@ -64,7 +64,7 @@ module _ (P Q : ℕ → ℤ → ℤ → Type 0) (r c : ℤ) where
 -- ---- where a stage is found
 
 module _ (t : Target) (job : IsJob t.job) where
-  function_listed : (h : ℕ) (a : Area) → h < length t.job.stages → can_have_box t h ≡ true → box t h ≡ Some a → Contains (boxes t) (h, a)
+  function_listed : (h : ℕ) (a : Area) → h < length t.job.stages → is_function_other_than_target t h ≡ true → box t h ≡ Some a → Contains (boxes t) (h, a)
   function_listed h a there boxed is =
       let one : numbered_box t h ≡ (h, a) ∷ [] = λ i. if boxed i then with_number h (is i) else [] in
       Contains-flat_map (numbered_box t) (order_stages_by_rank t.job.stages) h (h, a) ((order_has t.job.stages h).1 there)
@@ -104,7 +104,7 @@ module _ (t : Target) (job : IsJob t.job) where
   module _ (h : ℕ) (s : Stage) (there : slice_get t.job.stages h ≡ Some s) (a : Area) (is : box t h ≡ Some a) (r c : ℤ)
       (holds : HoldsPoint a r c) where
     -- a function that has a box is not the target
-    boxed : is_function_body s.body ≡ true → can_have_box t h ≡ true
+    boxed : is_function_body s.body ≡ true → is_function_other_than_target t h ≡ true
     boxed e =
         let lower = box_low t (ranked_is t.job job) h a is in
         let other = ne_eqb h t.stage (λ same. let ranks = ap (rank_of t.job.stages) same in omega arith) in
@@ -135,7 +135,7 @@ module _ (t : Target) (job : IsJob t.job) where
           needed = to_needs t (record { stage = h; row = (tile_at grid r c).0; col = (tile_at grid r c).1 }) job (record {
             grid = grid;
             there = at;
-            stored = and_from (can_have_box t h) (not (is_inlined t.inlining h)) (boxed e) (ap not stored);
+            stored = and_from (is_function_other_than_target t h) (not (is_inlined t.inlining h)) (boxed e) (ap not stored);
             area = a;
             boxed = is;
             meets = record { there = tile.there; row = r; col = c; in_tile = tile.holds; in_area = holds };

@@ -12,7 +12,7 @@ use Rattle.job.specs.Pipeline.{rank_of}
 use Rattle.job.specs.Reads.{IsRanked}
 use Rattle.tile_boxes.specs.Order.{ComesBefore, order_stages_by_rank}
 use Rattle.tile_boxes.specs.Schedules.{is_inlined, is_function_stage}
-use Rattle.tile_boxes.specs.Targets.{Target, with_number, can_have_box, numbered_box, box, boxes, region}
+use Rattle.tile_boxes.specs.Targets.{Target, with_number, is_function_other_than_target, numbered_box, box, boxes, region}
 use Rattle.tile_boxes.specs.Costs.{inner_steps, steps}
 use Rattle.tile_boxes.proofs.OrderHasEachStage.{order_pairs}
 use Rattle.overlap_tiles.proofs.Lists.{Contains-from_flat_map, AllPairs-append, AllPairs-flat_map}
@@ -21,13 +21,13 @@ use Rattle.overlap_tiles.proofs.BoxesAreLower.{box_low}
 -- ---- what stands in the list of boxes
 
 pub record IsBoxOf (t : Target) (s : ℕ × Area) : Type 0 where
-  pub boxed : can_have_box t s.0 ≡ true
+  pub boxed : is_function_other_than_target t s.0 ≡ true
   pub there : box t s.0 ≡ Some s.1
 
 numbered_is : (t : Target) (g : ℕ) (s : ℕ × Area) → Contains (numbered_box t g) s → (s.0 ≡ g) × IsBoxOf t s
-numbered_is t g s = by (can_have_box t g) refl (box t g) refl
+numbered_is t g s = by (is_function_other_than_target t g) refl (box t g) refl
   where
-    by : (b : Bool) → can_have_box t g ≡ b → (o : Option Area) → box t g ≡ o → Contains (if b then with_number g o else []) s
+    by : (b : Bool) → is_function_other_than_target t g ≡ b → (o : Option Area) → box t g ≡ o → Contains (if b then with_number g o else []) s
         → (s.0 ≡ g) × IsBoxOf t s
     by false boxed o there h = absurd (omega (arith, h.1))
     by true boxed None there h = absurd (omega (arith, h.1))
@@ -54,7 +54,7 @@ one_rises t g true (Some a) = λ i j d p q. absurd (omega (arith, p, q))
 boxes_rise : (t : Target) → AllPairs (IsBelow t) (boxes t)
 boxes_rise t =
     AllPairs-flat_map (ComesBefore t.job.stages) (IsBelow t) (numbered_box t) (order_stages_by_rank t.job.stages) (order_pairs t.job.stages)
-    (λ g. one_rises t g (can_have_box t g) (box t g))
+    (λ g. one_rises t g (is_function_other_than_target t g) (box t g))
     (λ g h below x y here there.
     let first = ap (rank_of t.job.stages) (numbered_is t g x here).0 in
     let second = ap (rank_of t.job.stages) (numbered_is t h y there).0 in
@@ -73,7 +73,7 @@ inner_first : (t : Target) → AllPairs (ComesFirst t) (inner_steps t)
 inner_first t =
     AllPairs-filter (ComesFirst t) (λ s. is_inlined t.inlining s.0) (boxes t)
     (AllPairs-flat_map (ComesBefore t.job.stages) (ComesFirst t) (numbered_box t) (order_stages_by_rank t.job.stages) (order_pairs t.job.stages)
-    (λ g. one_first t g (can_have_box t g) (box t g))
+    (λ g. one_first t g (is_function_other_than_target t g) (box t g))
     (λ g h below x y here there.
     subst (λ (n : ℕ). ComesBefore t.job.stages n y.0) (sym (numbered_is t g x here).0)
     (subst (λ (n : ℕ). ComesBefore t.job.stages g n) (sym (numbered_is t h y there).0) below)))

@@ -16,7 +16,7 @@ use Rattle.tile_boxes.proofs.Lists.{Contains-flat_map, Contains-map}
 use Rattle.tile_boxes.proofs.OrderHasEachStage.{order_pairs, order_has}
 use Rattle.tile_boxes.proofs.TilesAreTargets.{gridded}
 use Rattle.overlap_tiles.specs.Needs.{key_of, tile_of_stage, IsTileBefore, IsKeyBefore}
-use Rattle.overlap_tiles.specs.Work.{is_work_stage, work_tiles, wanted_keys, IsWork, IsWorkedBefore}
+use Rattle.overlap_tiles.specs.Work.{is_stored_or_accumulator_work_stage, work_tiles, wanted_keys, IsWork, IsWorkedBefore}
 use Rattle.overlap_tiles.proofs.KeysRise.{key_before}
 use Rattle.overlap_tiles.proofs.Lists.{Contains-from_map, Contains-from_flat_map, AllPairs-flat_map, AllPairs-map}
 use Rattle.overlap_tiles.proofs.WorkKeys.{no_tiles, grid_tiles}
@@ -63,20 +63,20 @@ wanted_keys_rise program job =
 
 module _ (job : Pipeline) (inlining : List Bool) where
   made : List ℕ
-  made = filter (is_work_stage job inlining) (order_stages_by_rank job.stages)
+  made = filter (is_stored_or_accumulator_work_stage job inlining) (order_stages_by_rank job.stages)
 
   pub work_rises : AllPairs (IsWorkedBefore job) (work_tiles job inlining)
   unfolding made
   work_rises =
       AllPairs-flat_map (ComesBefore job.stages) (IsWorkedBefore job) (tiles job) made
-      (AllPairs-filter (ComesBefore job.stages) (is_work_stage job inlining) (order_stages_by_rank job.stages) (order_pairs job.stages))
+      (AllPairs-filter (ComesBefore job.stages) (is_stored_or_accumulator_work_stage job inlining) (order_stages_by_rank job.stages) (order_pairs job.stages))
       (λ g. stage_rises job g (IsWorkedBefore job) (λ x y before. inr (refl, before)) (grid_at job g) refl)
       (λ g h before m n here there.
       let first = of_its_stage job g m (grid_at job g) refl here in
       let second = of_its_stage job h n (grid_at job h) refl there in
       inl (subst (λ x. ComesBefore job.stages x n.stage) (sym first) (subst (ComesBefore job.stages g) (sym second) before)))
 
-  of_stage : (g : ℕ) (t : Tile) → is_work_stage job inlining g ≡ true → Contains (tiles job g) t → (o : Option Grid) → grid_at job g ≡ o
+  of_stage : (g : ℕ) (t : Tile) → is_stored_or_accumulator_work_stage job inlining g ≡ true → Contains (tiles job g) t → (o : Option Grid) → grid_at job g ≡ o
       → IsWork job inlining t
   of_stage g t is k None there = absurd (let h = subst (λ (ts : List Tile). Contains ts t) (no_tiles job g there) k in omega (arith, h.1))
   of_stage g t is k (Some grid) there =
@@ -92,7 +92,7 @@ module _ (job : Pipeline) (inlining : List Bool) where
   unfolding made
   from_work t k =
       let from = Contains-from_flat_map (tiles job) made t k in
-      of_stage from.0 t (Contains-from_filter (is_work_stage job inlining) (order_stages_by_rank job.stages) from.0 from.1).1 from.2 (grid_at job from.0) refl
+      of_stage from.0 t (Contains-from_filter (is_stored_or_accumulator_work_stage job inlining) (order_stages_by_rank job.stages) from.0 from.1).1 from.2 (grid_at job from.0) refl
 
   to_work : (t : Tile) → IsWork job inlining t → (o : Option Grid) → grid_at job t.stage ≡ o → Contains (work_tiles job inlining) t
   unfolding made
@@ -101,7 +101,7 @@ module _ (job : Pipeline) (inlining : List Bool) where
       let tile : HasTile grid t.row t.col = subst (λ (o : Option Grid). IsSomeAnd o (λ d. HasTile d t.row t.col)) there is.tile in
       let of = gridded job t.stage grid there in
       Contains-flat_map (tiles job) made t.stage t
-      (Contains-filter (is_work_stage job inlining) (order_stages_by_rank job.stages) t.stage
+      (Contains-filter (is_stored_or_accumulator_work_stage job inlining) (order_stages_by_rank job.stages) t.stage
       ((order_has job.stages t.stage).1 (slice_get_within job.stages t.stage of.stage of.there)) is.made)
       (subst (λ (ts : List Tile). Contains ts t) (sym (grid_tiles job t.stage grid there))
       (Contains-map (tile_of_stage t.stage) (tiles_of grid) (t.row, t.col) ((Contains-tiles_of grid t.row t.col).1 tile)))

@@ -12,11 +12,11 @@ use Rattle.identity.specs.Keys.{key_cmp}
 use Rattle.job.specs.Answers.{Tile}
 use Rattle.job.specs.Readers.{grid_at}
 use Rattle.tile_boxes.specs.Schedules.{is_inlined}
-use Rattle.tile_boxes.specs.Targets.{Target, can_have_box, box}
+use Rattle.tile_boxes.specs.Targets.{Target, is_function_other_than_target, box}
 
 -- whether stage g is a stored function other than the target
 abbrev pub is_stored : Target → ℕ → Bool
-is_stored t g = can_have_box t g && not (is_inlined t.inlining g)
+is_stored t g = is_function_other_than_target t g && not (is_inlined t.inlining g)
 
 -- ---- the list
 

@@ -16,7 +16,7 @@ use Rattle.overlap_tiles.specs.Needs.{needs, key_tile, needed_keys}
 use Rattle.overlap_tiles.specs.Ranges.{HaveRoom}
 
 -- how contracts see a layout: a plan without identities
-pub record Layout : Type 0 where
+pub record TileLayout : Type 0 where
   pub needs : List Tile
   pub steps : List (ℕ × Area)
   pub points : ℕ
@@ -25,7 +25,7 @@ pub record Layout : Type 0 where
   pub inlining : List Bool
 
 -- the layout of a target
-pub record IsLayout (t : Target) (l : Layout) : Type 0 where
+pub record IsLayout (t : Target) (l : TileLayout) : Type 0 where
   pub needs : l.needs ≡ needs t
   pub steps : l.steps ≡ steps t
   pub points : l.points ≡ points t
@@ -33,7 +33,7 @@ pub record IsLayout (t : Target) (l : Layout) : Type 0 where
   pub inlining : l.inlining ≡ t.inlining
 
 -- and its inner steps have no more points than scratch memory may have
-pub record IsFittingLayout (t : Target) (l : Layout) : Type 0 where
+pub record IsFittingLayout (t : Target) (l : TileLayout) : Type 0 where
   pub layout : IsLayout t l
   pub fits : scratch t ≤ most_scratch
 
@@ -47,7 +47,7 @@ pub record Plan : Type 0 where
   pub inlining : List Bool
 
 -- a layout with the keys of what it needs
-abbrev pub with_keys : List Key → Layout → Plan
+abbrev pub with_keys : List Key → TileLayout → Plan
 with_keys keys l =
     record { needs = keys; steps = l.steps; points = l.points; ranges = l.ranges; scratch = l.scratch; inlining = l.inlining }
 
@@ -64,7 +64,7 @@ pub record IsFittingPlan (program : List ℕ) (t : Target) (p : Plan) : Type 0 w
   pub fits : scratch t ≤ most_scratch
 
 -- a plan without its identities
-abbrev pub layout_of : Plan → Layout
+abbrev pub layout_of : Plan → TileLayout
 layout_of p =
     record
     { needs = map key_tile p.needs; steps = p.steps; points = p.points; ranges = p.ranges; scratch = p.scratch; inlining = p.inlining }
@@ -85,7 +85,7 @@ pub record IsTileAt (job : Pipeline) (g i j : ℕ) (area : Area) : Type 0 where
   pub is : area ≡ tile_area grid i j
 
 -- the layout is that of this tile
-pub record IsTileLayout (job : Pipeline) (inlining : List Bool) (g i j : ℕ) (l : Layout) : Type 0 where
+pub record IsTileLayout (job : Pipeline) (inlining : List Bool) (g i j : ℕ) (l : TileLayout) : Type 0 where
   pub area : Area
   pub tile : IsTileAt job g i j area
   pub layout : IsFittingLayout (target_over job inlining g area) l

@@ -22,8 +22,8 @@ use Rattle.overlap_tiles.specs.Needs.{key_of, key_tile}
 abbrev pub is_stored_function : Pipeline → List Bool → ℕ → Bool
 is_stored_function job inlining g = is_function_stage job g && not (is_inlined inlining g)
 
-abbrev pub is_work_stage : Pipeline → List Bool → ℕ → Bool
-is_work_stage job inlining g = is_stored_function job inlining g || is_accumulator_at job g
+abbrev pub is_stored_or_accumulator_work_stage : Pipeline → List Bool → ℕ → Bool
+is_stored_or_accumulator_work_stage job inlining g = is_stored_function job inlining g || is_accumulator_at job g
 
 -- ---- their tiles
 
@@ -33,7 +33,7 @@ tiles_in_order job wants = flat_map (tiles job) (filter wants (order_stages_by_r
 
 -- those of stored functions and accumulators
 abbrev pub work_tiles : Pipeline → List Bool → List Tile
-work_tiles job inlining = tiles_in_order job (is_work_stage job inlining)
+work_tiles job inlining = tiles_in_order job (is_stored_or_accumulator_work_stage job inlining)
 
 -- their keys, by the identity of the program
 abbrev pub work_keys : List ℕ → Pipeline → List Bool → List Key
@@ -48,7 +48,7 @@ wanted_keys program job = map (key_of program job) (wanted job)
 -- there is this tile, and it is one of a stored function or of an accumulator
 pub record IsWork (job : Pipeline) (inlining : List Bool) (t : Tile) : Type 0 where
   pub tile : HasTileAt job t.stage t.row t.col
-  pub made : is_work_stage job inlining t.stage ≡ true
+  pub made : is_stored_or_accumulator_work_stage job inlining t.stage ≡ true
 
 -- in dependence order of stages, then of rows, then of columns
 abbrev pub IsWorkedBefore : Pipeline → Tile → Tile → Type 0

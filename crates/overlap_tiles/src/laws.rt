@@ -60,7 +60,7 @@ pub fn scratch_ranges_are_determined()
 
 /// The list of all work tiles has exactly the tiles of stored functions and of accumulators, each once, in dependence order of
 /// their stages, then of rows, then of columns.
-pub fn work_keys_are_listed_in_order()
+pub fn work_keys_are_complete_and_in_order()
     ensures all { (job : Pipeline) (inlining : List Bool) (t : Tile)
         → Contains (work_tiles job inlining) t ↔ IsWork job inlining t }
     ensures order { (job : Pipeline) (inlining : List Bool)
@@ -68,7 +68,7 @@ pub fn work_keys_are_listed_in_order()
 {}
 
 /// A tile exceeds scratch memory exactly where its plan has the fault `ScratchTooBig`.
-pub fn scratch_limit_is_exact()
+pub fn tile_over_scratch_limit_has_plan_fault()
     ensures { (job : Pipeline) (inlining : List Bool) (t : Tile)
         → (is_tile_over_scratch_limit job inlining t ≡ true)
         ↔ IsPlanFault job inlining t.stage t.row t.col ScratchTooBig }

@@ -12,17 +12,17 @@ ghost use Rattle.overlap_tiles.specs.Plans.{IsTileAt, IsTileLayout, IsFittingLay
 ghost use Rattle.overlap_tiles.specs.Places.{IsPlaceOf, HasNoPlace};
 ghost use Rattle.overlap_tiles.specs.Ranges.{LieWithin};
 ghost use Rattle.overlap_tiles.specs.Views.{step_view, need_view};
-ghost use Rattle.overlap_tiles.specs.inside.Made.{find_last_readers, ranges_by};
+ghost use Rattle.overlap_tiles.specs.inside.Made.{list_last_reader_places_by_stage, ranges_by};
 ghost use Rattle.overlap_tiles.specs.inside.Placed.{ArePlaces};
 
 use crate::fault::PlanFault;
-use crate::lives::{find_last_readers, record_stage_as_last_reader};
+use crate::lives::{list_last_reader_places_by_stage, record_stage_as_last_reader};
 use crate::needs::{NeededTile, list_tile_needs};
 use crate::places::{list_step_places_by_stage, look_up_step_place};
 use crate::ranges::{assign_scratch_ranges, find_size_of_scratch_ranges};
 use crate::steps::{
-    TileStep, append_target_to_tile_plan, count_area_points_of_tile_plan,
-    list_inner_steps_of_tile_plan, sum_points_within_scratch_limit,
+    TileStep, append_target_to_tile_plan, count_points_of_stage_area,
+    list_inlined_boxes_as_tile_plan_steps, sum_points_within_scratch_limit,
 };
 use domains::Area;
 use grouping::Schedule;
@@ -33,7 +33,7 @@ use std::marker::Model;
 /// How one tile is computed, without identities: the stored tiles that it needs, what is computed in which order, and where each
 /// step but the last lies in scratch memory. It is made by one schedule. Nothing is hashed for it. Only `new` makes one.
 #[derive(Debug, Drop)]
-pub struct Layout<'a> {
+pub struct TileLayout<'a> {
     schedule: &'a Schedule,
     needs: Vec<NeededTile>,
     steps: Vec<TileStep>,
@@ -44,9 +44,9 @@ pub struct Layout<'a> {
     ghost placed: { ArePlaces (map step_view steps.items) places.items },
 }
 
-impl<'a> Model for Layout<'a> {
+impl<'a> Model for TileLayout<'a> {
     ghost use Rattle.std.specs.Prelude.{map};
-    ghost use Rattle.overlap_tiles.specs.Plans.{Layout as Outline};
+    ghost use Rattle.overlap_tiles.specs.Plans.{TileLayout as Outline};
     ghost use Rattle.overlap_tiles.specs.Views.{step_view, need_view};
 
     ghost Value = { Outline };
@@ -66,7 +66,7 @@ impl<'a> Model for Layout<'a> {
 }
 
 // The area of a tile of a function or accumulator.
-fn find_target_area_of_tile_plan(job: &Job, stage: usize, row: u32, col: u32) -> Option<Area>
+fn find_area_of_target_tile(job: &Job, stage: usize, row: u32, col: u32) -> Option<Area>
     ensures some { IfSome result (IsTileAt (pipeline_in job.now) stage row col) }
     ensures within { IfSome result IsArea }
     ensures none { IfNone result (¬ (HasTileAt (pipeline_in job.now) stage row col)) }
@@ -83,7 +83,7 @@ fn assign_inner_scratch_ranges(
 ) -> Result<Vec<(usize, usize)>, AllocError>
     requires { points_in (map step_view inner.now) ≤ most_scratch }
     ensures ranges { IfOk result (λ ranges. ranges.items
-        ≡ ranges_by (find_last_readers (pipeline_in job.now)
+        ≡ ranges_by (list_last_reader_places_by_stage (pipeline_in job.now)
         (map step_view inner.now ++ step_view target ∷ []))
         (map step_view inner.now)) }
     ensures within { IfOk result (λ ranges. LieWithin most_scratch ranges.items) }
@@ -91,12 +91,12 @@ fn assign_inner_scratch_ranges(
     if inner.is_empty() {
         return Ok(Vec::new(alloc));
     }
-    let mut lasts = find_last_readers(alloc, job, inner)?;
+    let mut lasts = list_last_reader_places_by_stage(alloc, job, inner)?;
     record_stage_as_last_reader(&mut lasts, job, target.stage, inner.len());
     assign_scratch_ranges(alloc, inner, &lasts)
 }
 
-impl<'a> Layout<'a> {
+impl<'a> TileLayout<'a> {
     /// The layout of the tile in this row and this column of a function's or accumulator's grid.
     ///
     /// # Errors
@@ -110,18 +110,18 @@ impl<'a> Layout<'a> {
         stage: usize,
         row: u32,
         col: u32,
-    ) -> Result<Layout<'a>, PlanFault>
+    ) -> Result<TileLayout<'a>, PlanFault>
         ensures layout { IfOk result
             (IsTileLayout (pipeline_in job.now) schedule.now.inlining stage row col) }
         ensures fault { IfErr result
             (IsPlanFault (pipeline_in job.now) schedule.now.inlining stage row col) }
     {
-        let Some(area) = find_target_area_of_tile_plan(job, stage, row, col) else {
+        let Some(area) = find_area_of_target_tile(job, stage, row, col) else {
             return Err(PlanFault::NoSuchTile);
         };
         let target = TileStep { stage, area };
         let boxes = schedule.boxes(alloc, job, stage, target.area)?;
-        Layout::from_boxes(alloc, job, schedule, target, &boxes)
+        TileLayout::from_boxes(alloc, job, schedule, target, &boxes)
     }
 
     // The layout of a target that has these boxes.
@@ -131,7 +131,7 @@ impl<'a> Layout<'a> {
         schedule: &'a Schedule,
         target: TileStep,
         found: &[(usize, Area)],
-    ) -> Result<Layout<'a>, PlanFault>
+    ) -> Result<TileLayout<'a>, PlanFault>
         requires area { IsArea target.area }
         requires boxes { found.now
             ≡ boxes (target_over (pipeline_in job.now) schedule.now.inlining target.stage
@@ -141,7 +141,7 @@ impl<'a> Layout<'a> {
         ensures fault { IfErr result (IsTargetFault
             (target_over (pipeline_in job.now) schedule.now.inlining target.stage target.area)) }
     {
-        let steps = list_inner_steps_of_tile_plan(alloc, schedule, found)?;
+        let steps = list_inlined_boxes_as_tile_plan_steps(alloc, schedule, found)?;
         let Some(inner) = sum_points_within_scratch_limit(&steps) else {
             return Err(PlanFault::ScratchTooBig);
         };
@@ -150,11 +150,11 @@ impl<'a> Layout<'a> {
         let ranges = assign_inner_scratch_ranges(alloc, job, &steps, target)?;
         let scratch = find_size_of_scratch_ranges(&ranges);
         let all = append_target_to_tile_plan(steps, target)?;
-        Ok(Layout {
+        Ok(TileLayout {
             schedule,
             needs,
             steps: all,
-            points: inner + count_area_points_of_tile_plan(&target.area),
+            points: inner + count_points_of_stage_area(&target.area),
             ranges,
             scratch,
             places,

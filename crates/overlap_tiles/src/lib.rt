@@ -2,7 +2,7 @@
 //! each lies in scratch memory.
 //!
 //! Words: tile plan, plan fault, layout, tile need, step place, last reader, scratch range, work key, work stage, scratch
-//! limit, first gap, stage area.
+//! limit, first gap, stage area, target tile.
 #![tactic(auto)]
 
 mod fault;
@@ -19,7 +19,7 @@ mod steps;
 mod work;
 
 pub use fault::PlanFault;
-pub use layout::Layout;
+pub use layout::TileLayout;
 pub use needs::NeededTile;
 pub use plan::TilePlan;
 pub use room::{find_key_over_scratch_limit, is_tile_over_scratch_limit};

@@ -5,7 +5,7 @@ ghost use Rattle.std.specs.Prelude.{◌≡◌, map, slice_set, IfOk};
 ghost use Rattle.job.specs.Kept.{pipeline_in};
 ghost use Rattle.job.specs.ReadViews.{read_view};
 ghost use Rattle.grouping.specs.Greedy.{reads_at};
-ghost use Rattle.overlap_tiles.specs.inside.Made.{marked, marked_by, find_last_readers};
+ghost use Rattle.overlap_tiles.specs.inside.Made.{marked, marked_by, list_last_reader_places_by_stage};
 ghost use Rattle.overlap_tiles.specs.Views.{step_view};
 
 use crate::steps::TileStep;
@@ -22,7 +22,7 @@ fn record_last_reader(lasts: &mut [usize], stage: usize, place: usize)
 }
 
 // Records that each of these reads is made at this place.
-fn record_last_readers(lasts: &mut [usize], reads: &[Read], place: usize)
+fn record_last_reader_of_each_read(lasts: &mut [usize], reads: &[Read], place: usize)
     ensures { lasts.new ≡ marked place lasts.old (map read_view reads.now) }
 {
     for read in reads {
@@ -40,18 +40,18 @@ pub(crate) fn record_stage_as_last_reader(
     ensures { lasts.new.items ≡ marked place lasts.old.items (reads_at (pipeline_in job.now) stage) }
 {
     if let Some(reads) = job.reads(stage) {
-        record_last_readers(lasts, reads, place);
+        record_last_reader_of_each_read(lasts, reads, place);
     }
 }
 
 /// For each stage the last place among the steps at which it is read; 0 where it is not.
-pub(crate) fn find_last_readers(
+pub(crate) fn list_last_reader_places_by_stage(
     alloc: Global,
     job: &Job,
     steps: &[TileStep],
 ) -> Result<Vec<usize>, AllocError>
     ensures { IfOk result (λ lasts. lasts.items
-        ≡ find_last_readers (pipeline_in job.now) (map step_view steps.now)) }
+        ≡ list_last_reader_places_by_stage (pipeline_in job.now) (map step_view steps.now)) }
 {
     let mut lasts = vec![in alloc; 0; job.stages().len()]?;
     for (place, step) in steps.iter().enumerate() {

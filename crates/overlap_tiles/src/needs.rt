@@ -5,7 +5,7 @@ ghost use Rattle.std.specs.Prelude.{◌≡◌, ◌++◌, length, map, IfOk, OnOk
 ghost use Rattle.std.specs.List.{flat_map, range_with_len};
 ghost use Rattle.job.specs.Kept.{pipeline_in};
 ghost use Rattle.overlap_tiles.specs.Needs.{tile_of_stage};
-ghost use Rattle.overlap_tiles.specs.inside.Made.{find_stage_area, stage_needs};
+ghost use Rattle.overlap_tiles.specs.inside.Made.{find_stage_area_in_boxes, stage_needs};
 ghost use Rattle.overlap_tiles.specs.Views.{need_view};
 
 use domains::Area;
@@ -22,8 +22,8 @@ pub struct NeededTile {
 }
 
 // The area of a stage in a list.
-fn find_stage_area(boxes: &[(usize, Area)], stage: usize) -> Option<Area>
-    ensures { result ≡ find_stage_area boxes.now stage }
+fn find_stage_area_in_boxes(boxes: &[(usize, Area)], stage: usize) -> Option<Area>
+    ensures { result ≡ find_stage_area_in_boxes boxes.now stage }
 {
     boxes
         .iter()
@@ -31,7 +31,7 @@ fn find_stage_area(boxes: &[(usize, Area)], stage: usize) -> Option<Area>
         .map(|found| found.1)
 }
 
-fn push_tiles_as_tile_needs(
+fn push_listed_tiles_as_tile_needs(
     needs: &mut Vec<NeededTile>,
     stage: usize,
     tiles: &[(u32, u32)],
@@ -62,8 +62,8 @@ fn push_tile_needs_of_stage(
     if schedule.inlined(stage) {
         return Ok(());
     }
-    if let (Some(grid), Some(area)) = (job.grid(stage), find_stage_area(boxes, stage)) {
-        push_tiles_as_tile_needs(needs, stage, &grid.cover(alloc, &area)?)?;
+    if let (Some(grid), Some(area)) = (job.grid(stage), find_stage_area_in_boxes(boxes, stage)) {
+        push_listed_tiles_as_tile_needs(needs, stage, &grid.cover(alloc, &area)?)?;
     }
     Ok(())
 }

@@ -10,7 +10,7 @@ ghost use Rattle.overlap_tiles.specs.Views.{step_view};
 
 use crate::fault::PlanFault;
 use crate::keys::list_keys_of_tile_needs;
-use crate::layout::Layout;
+use crate::layout::TileLayout;
 use crate::steps::TileStep;
 use grouping::Schedule;
 use identity::Key;
@@ -22,7 +22,7 @@ use std::marker::Model;
 /// lies in scratch memory. It is made by one schedule. Only `of` makes one.
 #[derive(Debug, Drop)]
 pub struct TilePlan<'a> {
-    layout: Layout<'a>,
+    layout: TileLayout<'a>,
     needs: Vec<Key>,
     ghost tied: { map key_tile needs.items ≡ layout.needs },
 }
@@ -57,13 +57,13 @@ impl<'a> TilePlan<'a> {
         ensures fault { IfErr result
             (IsPlanFault (pipeline_in job.now) schedule.now.inlining stage row col) }
     {
-        let layout = Layout::new(alloc, job, schedule, stage, row, col)?;
+        let layout = TileLayout::new(alloc, job, schedule, stage, row, col)?;
         let needs = list_keys_of_tile_needs(alloc, job, layout.needs())?;
         Ok(TilePlan { layout, needs })
     }
 
     /// The plan without identities, which is the layout of the same tile.
-    pub fn layout(&self) -> &Layout<'a>
+    pub fn layout(&self) -> &TileLayout<'a>
         ensures same { result.now ≡ layout_of self.now }
         ensures tile { (program : List ℕ) (job : Pipeline) (inlining : List Bool) (g i j : ℕ)
             → IsTilePlan program job inlining g i j self.now

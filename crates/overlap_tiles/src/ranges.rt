@@ -10,7 +10,7 @@ ghost use Rattle.overlap_tiles.specs.inside.Made.{find_first_gap, with_held, sti
 ghost use Rattle.overlap_tiles.specs.inside.Made.{ranges_by, size_of};
 ghost use Rattle.overlap_tiles.specs.declared.ranges.HeldRange.{HeldRange as Range};
 
-use crate::steps::{TileStep, count_area_points_of_tile_plan};
+use crate::steps::{TileStep, count_points_of_stage_area};
 use std::alloc::{AllocError, Global};
 
 /// A range of scratch memory, by its start and its length, and the place of the last step that reads it.
@@ -87,7 +87,7 @@ fn assign_scratch_range(
 }
 
 // The last reader of a stage in a table.
-fn find_last_reader(lasts: &[usize], stage: usize) -> usize
+fn look_up_last_reader_of_stage(lasts: &[usize], stage: usize) -> usize
     ensures { result ≡ slice_index_or lasts.now stage 0 }
 {
     lasts.get(stage).copied().unwrap_or(0)
@@ -108,8 +108,8 @@ pub(crate) fn assign_scratch_ranges(
     let mut ranges = Vec::new(alloc);
     let mut held = Vec::new(alloc);
     for (place, step) in steps.iter().enumerate() {
-        let len = count_area_points_of_tile_plan(&step.area) as usize;
-        let last = find_last_reader(lasts, step.stage);
+        let len = count_points_of_stage_area(&step.area) as usize;
+        let last = look_up_last_reader_of_stage(lasts, step.stage);
         let start = assign_scratch_range(&mut held, place, len, last)?;
         ranges.push((start, len))?;
     }

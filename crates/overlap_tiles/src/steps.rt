@@ -19,7 +19,7 @@ pub struct TileStep {
 }
 
 /// The steps of those boxes whose stages are inlined.
-pub(crate) fn list_inner_steps_of_tile_plan(
+pub(crate) fn list_inlined_boxes_as_tile_plan_steps(
     alloc: Global,
     schedule: &Schedule,
     boxes: &[(usize, Area)],
@@ -51,7 +51,7 @@ pub(crate) fn append_target_to_tile_plan(
 
 // The points of an area are few enough that those of many areas can be added.
 #[tactic(auto, using(crate::proofs::PointsAreFew::few_points))]
-pub(crate) fn count_area_points_of_tile_plan(area: &Area) -> u64
+pub(crate) fn count_points_of_stage_area(area: &Area) -> u64
     ensures number { result ≡ point_count area.now }
     ensures few { result < 2 ^ 43 }
 {
@@ -66,7 +66,7 @@ pub(crate) fn sum_points_within_scratch_limit(steps: &[TileStep]) -> Option<u64>
 {
     let mut total = 0;
     for step in steps {
-        total += count_area_points_of_tile_plan(&step.area);
+        total += count_points_of_stage_area(&step.area);
         if total > MOST_SCRATCH {
             return None;
         }

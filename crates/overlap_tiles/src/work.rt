@@ -8,7 +8,7 @@ ghost use Rattle.job.specs.Answers.{tiles, is_result};
 ghost use Rattle.job.specs.Kept.{pipeline_in, program_id_in};
 ghost use Rattle.tile_boxes.specs.Order.{order_stages_by_rank};
 ghost use Rattle.overlap_tiles.specs.Needs.{key_of, IsKeyBefore};
-ghost use Rattle.overlap_tiles.specs.Work.{is_work_stage, work_keys, wanted_keys};
+ghost use Rattle.overlap_tiles.specs.Work.{is_stored_or_accumulator_work_stage, work_keys, wanted_keys};
 ghost use Rattle.overlap_tiles.specs.inside.Keyed.{key_at, row_keys, Names};
 
 use domains::Grid;
@@ -28,7 +28,7 @@ pub fn list_work_keys(alloc: Global, job: &Job, schedule: &Schedule) -> Result<V
         ≡ work_keys (program_id_in job.now) (pipeline_in job.now) schedule.now.inlining) }
 {
     let stages = list_work_stages(alloc, job, schedule)?;
-    list_work_keys_of_stages(alloc, job, &stages)
+    list_work_keys_of_tiles_of_stages(alloc, job, &stages)
 }
 
 /// The keys of the tiles that the answer of a job consists of: those of its outputs and accumulators. They rise. The job's input
@@ -43,13 +43,13 @@ pub fn list_work_keys_of_results(alloc: Global, job: &Job) -> Result<Vec<Key>, A
     ensures rising { IfOk result (λ keys. AllPairs IsKeyBefore keys.items) }
 {
     let stages = list_result_work_stages(alloc, job)?;
-    let keys = list_work_keys_of_stages(alloc, job, &stages)?;
+    let keys = list_work_keys_of_tiles_of_stages(alloc, job, &stages)?;
     Ok(keys)
 }
 
 // Whether the tiles of a stage are computed.
-fn is_work_stage(job: &Job, schedule: &Schedule, stage: usize) -> bool
-    ensures { result ≡ is_work_stage (pipeline_in job.now) schedule.now.inlining stage }
+fn is_stored_or_accumulator_work_stage(job: &Job, schedule: &Schedule, stage: usize) -> bool
+    ensures { result ≡ is_stored_or_accumulator_work_stage (pipeline_in job.now) schedule.now.inlining stage }
 {
     match job.kind(stage) {
         Some(StageKind::Function) => !schedule.inlined(stage),
@@ -61,13 +61,13 @@ fn is_work_stage(job: &Job, schedule: &Schedule, stage: usize) -> bool
 // The stages whose tiles are computed, in dependence order.
 fn list_work_stages(alloc: Global, job: &Job, schedule: &Schedule) -> Result<Vec<usize>, AllocError>
     ensures { IfOk result (λ made. made.items
-        ≡ filter (is_work_stage (pipeline_in job.now) schedule.now.inlining)
+        ≡ filter (is_stored_or_accumulator_work_stage (pipeline_in job.now) schedule.now.inlining)
         (order_stages_by_rank (pipeline_in job.now).stages)) }
 {
     let mut made = Vec::new(alloc);
     let order = order_stages_by_rank(alloc, job.stages())?;
     for stage in order.iter() {
-        if is_work_stage(job, schedule, *stage) {
+        if is_stored_or_accumulator_work_stage(job, schedule, *stage) {
             made.push(*stage)?;
         }
     }
@@ -91,7 +91,7 @@ fn list_result_work_stages(alloc: Global, job: &Job) -> Result<Vec<usize>, Alloc
 }
 
 // The keys of the tiles of these stages, stage by stage and row by row.
-fn list_work_keys_of_stages(
+fn list_work_keys_of_tiles_of_stages(
     alloc: Global,
     job: &Job,
     stages: &[usize],
@@ -109,13 +109,13 @@ fn list_work_keys_of_stages(
         col: 0,
     };
     for stage in stages {
-        push_work_keys_of_stage(&mut keys, job, &named, *stage)?;
+        push_work_keys_of_tiles_of_stage(&mut keys, job, &named, *stage)?;
     }
     Ok(keys)
 }
 
 // Adds the keys of the tiles of a stage. The key that is passed has the identities of the program and of its input.
-fn push_work_keys_of_stage(
+fn push_work_keys_of_tiles_of_stage(
     keys: &mut Vec<Key>,
     job: &Job,
     named: &Key,
@@ -147,14 +147,14 @@ fn push_work_keys_of_grid(keys: &mut Vec<Key>, first: &Key, grid: &Grid) -> Resu
 {
     let cols = grid.tile_cols();
     for row in 0..grid.tile_rows() {
-        push_work_keys_of_row(keys, first, row, cols)?;
+        push_work_keys_of_tile_row(keys, first, row, cols)?;
     }
     Ok(())
 }
 
 // Adds the keys of the first tiles of a row.
 #[tactic(auto, using(tile_boxes::proofs::Lists::map_range_more))]
-fn push_work_keys_of_row(
+fn push_work_keys_of_tile_row(
     keys: &mut Vec<Key>,
     first: &Key,
     row: u32,

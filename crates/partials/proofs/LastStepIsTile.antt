@@ -10,7 +10,7 @@ use Rattle.domains.specs.declared.area.Area.{Area}
 use Rattle.domains.specs.declared.grid.Grid.{Grid}
 use Rattle.job.specs.Pipeline.{Pipeline}
 use Rattle.tile_boxes.specs.Costs.{inner_steps}
-use Rattle.overlap_tiles.specs.Plans.{Layout, IsTileAt, IsTileLayout}
+use Rattle.overlap_tiles.specs.Plans.{TileLayout, IsTileAt, IsTileLayout}
 use Rattle.tile_boxes.specs.Targets.{target_over}
 
 -- the last of a list that is made of elements
@@ -29,7 +29,7 @@ pub last_step : {X : Type 0} (f : X → ℕ × Area) (steps : List X) (inner : L
     → map f steps ≡ inner ++ last ∷ [] → (x : X) → Some x ≡ slice_get steps (length steps - 1) → f x ≡ last
 last_step f steps inner last made x is = same_Some (f x) last (ap (option_map f) is ∙ last_made f steps inner last made)
 
-module _ {X : Type 0} (f : X → ℕ × Area) (steps : List X) (job : Pipeline) (inlining : List Bool) (g i j : ℕ) (l : Layout) (is :
+module _ {X : Type 0} (f : X → ℕ × Area) (steps : List X) (job : Pipeline) (inlining : List Bool) (g i j : ℕ) (l : TileLayout) (is :
     IsTileLayout job inlining g i j l) (same : map f steps ≡ l.steps) where
   end : option_map f (slice_get steps (length steps - 1)) ≡ Some (g, is.area)
   end = last_made f steps (inner_steps (target_over job inlining g is.area)) (g, is.area) (same ∙ is.layout.layout.steps)

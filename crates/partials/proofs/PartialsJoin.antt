@@ -17,7 +17,7 @@ use Rattle.job.specs.Totals.{start_of, total_of, joined, values_in_bin, body_tot
 use Rattle.job.specs.Values.{Valuation, formula_value, value}
 use Rattle.job.specs.WellFormed.{InDomainRange, IsJob}
 use Rattle.job.proofs.TotalLaws.{map_same, body_totals-agrees}
-use Rattle.overlap_tiles.specs.Plans.{Layout, IsTileLayout}
+use Rattle.overlap_tiles.specs.Plans.{TileLayout, IsTileLayout}
 use Rattle.tile_sources.specs.KnownTiles.{KnownTiles, AreTrue}
 use Rattle.one_tile.specs.Local.{read_from, local_value, IsAtHand, IsClosed}
 use Rattle.one_tile.specs.declared.scratch_view.TileScratchView.{TileScratchView}
@@ -49,7 +49,7 @@ totals_over_is job area g s there = ap (λ (o : Option Stage). option_map_or (λ
 
 -- ---- where all that is read is at hand, in boxes of local values
 
-module _ (job : Pipeline) (l : Layout) (given : KnownTiles) (boxes : TileScratchView) (g : ℕ) (s : Stage)
+module _ (job : Pipeline) (l : TileLayout) (given : KnownTiles) (boxes : TileScratchView) (g : ℕ) (s : Stage)
     (there : slice_get job.stages g ≡ Some s) (area : Area) (prepared : IsPrepared job l given boxes g area) where
   within : IsSubarea area s.domain
   within r c inside = let p = prepared r c inside in subst (λ (t : Stage). HoldsPoint t.domain r c)
@@ -64,7 +64,7 @@ module _ (job : Pipeline) (l : Layout) (given : KnownTiles) (boxes : TileScratch
       subst (λ (t : Stage). BodyReads (IsInputAt job l given boxes) t.body r c) (same_stage job.stages g p.stage s p.there there) p.reads
 
 -- the last step of a tile's layout is the tile's
-module _ (job : Pipeline) (l : Layout) (given : KnownTiles) (g i j : ℕ) (own : IsTileLayout job l.inlining g i j l) (step : ℕ × Area)
+module _ (job : Pipeline) (l : TileLayout) (given : KnownTiles) (g i j : ℕ) (own : IsTileLayout job l.inlining g i j l) (step : ℕ × Area)
     (last : IsLastStep l.steps step) where
   step_is : step ≡ (g, own.area)
   step_is = last _ _ (layout_steps job l.inlining given l g i j own)
@@ -72,7 +72,7 @@ module _ (job : Pipeline) (l : Layout) (given : KnownTiles) (g i j : ℕ) (own :
   pub step_area : IsJob job → IsArea step.1
   step_area good = subst (λ (s : ℕ × Area). IsArea s.1) (sym step_is) (layout_area job l.inlining given l g i j own good)
 
-module _ (job : Pipeline) (l : Layout) (given : KnownTiles) (boxes : TileScratchView) (g i j : ℕ) (own : IsTileLayout job l.inlining g i j l)
+module _ (job : Pipeline) (l : TileLayout) (given : KnownTiles) (boxes : TileScratchView) (g i j : ℕ) (own : IsTileLayout job l.inlining g i j l)
     (step : ℕ × Area) (last : IsLastStep l.steps step) where
   pub step_prepared : ((k m n : ℕ) → IsTileLayout job l.inlining k m n l → IsPreparedOn job l given boxes k m n)
       → IsPrepared job l given boxes step.0 step.1

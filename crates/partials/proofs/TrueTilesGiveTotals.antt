@@ -10,7 +10,7 @@ use Rattle.job.specs.Totals.{totals_over}
 use Rattle.job.specs.WellFormed.{IsJob}
 use Rattle.tile_boxes.specs.Schedules.{is_inlined}
 use Rattle.tile_boxes.specs.Targets.{Target, IsTarget, box, target_over}
-use Rattle.overlap_tiles.specs.Plans.{Layout, IsTileLayout}
+use Rattle.overlap_tiles.specs.Plans.{TileLayout, IsTileLayout}
 use Rattle.overlap_tiles.proofs.TilesAreTargets.{tile_is_target}
 use Rattle.tile_sources.specs.KnownTiles.{KnownTiles, AreTrue}
 use Rattle.one_tile.specs.Local.{IsAtHand}
@@ -22,7 +22,7 @@ use Rattle.one_tile.proofs.TrueTilesGiveValues.{gives}
 use Rattle.partials.specs.Partials.{AreLocalTotals, AreTotalsOn}
 use Rattle.partials.proofs.PartialsJoin.{true_totals}
 
-module _ (job : Pipeline) (inlining : List Bool) (given : KnownTiles) (l : Layout) (g i j : ℕ) (is : IsTileLayout job inlining g i j l)
+module _ (job : Pipeline) (inlining : List Bool) (given : KnownTiles) (l : TileLayout) (g i j : ℕ) (is : IsTileLayout job inlining g i j l)
     (good : IsJob job) (are_given : NeedsGiven given l.needs) where
   abbrev of_tile : Target
   of_tile = target_over job inlining g is.area

@@ -15,7 +15,7 @@ ghost use Rattle.partials.specs.inside.LastSteps.{IsLastStep};
 ghost use Rattle.partials.specs.Partials.{local_totals, AreLocalTotals, AreTotalsOn, IsAccumulatorPlan};
 
 use job::{Accumulator, Body, Job};
-use one_tile::{EvalFault, TileInputs, TileJob, TileScratch, find_first_unsupplied_tile};
+use one_tile::{EvalFault, TileInputs, TileJob, TileScratch, find_first_key_of_unsupplied_tile};
 use overlap_tiles::{TilePlan, TileStep};
 use reductions::{AccumulatorBuffers, create_start_bins};
 use std::alloc::{AllocError, Global};
@@ -23,7 +23,7 @@ use tile_sources::TileSource;
 
 // Joins to each bin what an accumulator accumulates in it over the last step's area. All buffers are grown before the first value
 // is computed.
-fn accumulate_step_partial<K: TileSource>(
+fn accumulate_last_step_partial<K: TileSource>(
     alloc: Global,
     tile: &TileJob<'_, K>,
     step: &TileStep,
@@ -44,10 +44,10 @@ fn accumulate_step_partial<K: TileSource>(
     ensures err { OnErr result (bins.new ≡ bins.old) }
 {
     rows.grow_for_area(accumulator, &step.area)?;
-    let boxes = tile.compute_inlined_boxes(alloc, scratch)?;
+    let boxes = tile.compute_values_of_inlined_boxes(alloc, scratch)?;
     let tile = *tile;
     let inputs = TileInputs { tile, boxes };
-    rows.accumulate_area(&inputs, accumulator, &step.area, bins);
+    rows.accumulate_area_into_bins(&inputs, accumulator, &step.area, bins);
     Ok(())
 }
 
@@ -79,11 +79,11 @@ pub fn accumulate_tile_partial<K: TileSource>(
     let Some(step) = tile.layout.steps().last() else {
         unreachable!()
     };
-    accumulate_step_partial(alloc, tile, step, accumulator, scratch, rows, bins)
+    accumulate_last_step_partial(alloc, tile, step, accumulator, scratch, rows, bins)
 }
 
 // What an accumulator accumulates over the last step's area.
-fn compute_accumulator_step_partial<K: TileSource>(
+fn compute_last_step_partial_of_accumulator<K: TileSource>(
     alloc: Global,
     tile: &TileJob<'_, K>,
     step: &TileStep,
@@ -101,7 +101,7 @@ fn compute_accumulator_step_partial<K: TileSource>(
 {
     let mut bins = create_start_bins(alloc, accumulator.fold(), accumulator.bins())?;
     let mut rows = AccumulatorBuffers::new(alloc);
-    accumulate_step_partial(
+    accumulate_last_step_partial(
         alloc,
         tile,
         step,
@@ -114,7 +114,7 @@ fn compute_accumulator_step_partial<K: TileSource>(
 }
 
 // What the last step's stage accumulates over its area; nothing if it is no accumulator.
-fn compute_step_partial<K: TileSource>(
+fn compute_last_step_partial_if_any<K: TileSource>(
     alloc: Global,
     tile: &TileJob<'_, K>,
     step: &TileStep,
@@ -131,7 +131,7 @@ fn compute_step_partial<K: TileSource>(
         return Ok(Vec::new(alloc));
     };
     match found.body() {
-        Body::Accumulator(accumulator) => compute_accumulator_step_partial(
+        Body::Accumulator(accumulator) => compute_last_step_partial_of_accumulator(
             alloc,
             tile,
             step,
@@ -162,7 +162,7 @@ pub(crate) fn compute_tile_partial<K: TileSource>(
     let Some(step) = tile.layout.steps().last() else {
         return Ok(Vec::new(alloc));
     };
-    compute_step_partial(alloc, tile, step, scratch)
+    compute_last_step_partial_if_any(alloc, tile, step, scratch)
 }
 
 /// What an accumulator accumulates in its bins over a tile, rising, by the tile's plan and from whatever is supplied. If all that
@@ -191,7 +191,7 @@ pub fn partial<K: TileSource>(
     ensures given { IfOk result (λ bins. first_missing (K.given known.now) plan.now.needs ≡ None) }
     ensures fault { IfErr result (IsEvalFault (K.given known.now) plan.now.needs) }
 {
-    if let Some(key) = find_first_unsupplied_tile(plan.needs(), known) {
+    if let Some(key) = find_first_key_of_unsupplied_tile(plan.needs(), known) {
         return Err(EvalFault::Missing(key));
     }
     let tile = TileJob {

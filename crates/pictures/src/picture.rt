@@ -19,10 +19,10 @@ use crate::sheet::{OutputPlane, OutputSheet};
 use domains::Area;
 use job::{Job, Output};
 use netpbm::{PackedPlane, Picture};
-use row_kernels::find_coordinate_at_place;
+use row_kernels::compute_coordinate_at_place;
 use std::alloc::{AllocError, Global};
-use tile_eval::find_span_number;
-use tile_run::{TileSource, borrow_supplied_row_part};
+use tile_eval::find_span_number_at_position;
+use tile_run::{TileSource, borrow_supplied_row_up_to_tile_end};
 
 // The number of values that are clamped before their samples are added.
 const PIECE: usize = 512;
@@ -50,12 +50,15 @@ pub fn assemble_image<K: TileSource>(
         (λ picture. picture ≡ given_image (pipeline_in job.now) (K.given known.now)) }
     ensures image { IfOk result (λ picture. ForSome picture IsImage) }
 {
-    SuppliedJob { job, known }.assemble_output(alloc)
+    SuppliedJob { job, known }.assemble_picture_from_tiles_if_any(alloc)
 }
 
 impl<K: TileSource> SuppliedJob<'_, K> {
     // The picture of a job that has an output.
-    fn assemble_output(&self, alloc: Global) -> Result<Option<Picture>, AllocError>
+    fn assemble_picture_from_tiles_if_any(
+        &self,
+        alloc: Global,
+    ) -> Result<Option<Picture>, AllocError>
         requires { GivesOutputs (pipeline_in self.now.job.now) (K.given self.now.known.now) }
         ensures answer { IfOk result (λ picture. picture
             ≡ given_image (pipeline_in self.now.job.now) (K.given self.now.known.now)) }
@@ -170,7 +173,7 @@ impl<K: TileSource> SuppliedJob<'_, K> {
         let first = area.cols.lo();
         let count = area.cols.len() as usize;
         for place in 0..area.rows.len() {
-            let row = find_span_number(&area.rows, place);
+            let row = find_span_number_at_position(&area.rows, place);
             self.push_row_samples(sheet, stage, row, first, count)?;
         }
         Ok(())
@@ -196,8 +199,8 @@ impl<K: TileSource> SuppliedJob<'_, K> {
     {
         let mut done = 0;
         while done < count {
-            let from = find_coordinate_at_place(first, done);
-            let part = borrow_supplied_row_part(
+            let from = compute_coordinate_at_place(first, done);
+            let part = borrow_supplied_row_up_to_tile_end(
                 self.known,
                 self.job,
                 stage,
@@ -205,7 +208,7 @@ impl<K: TileSource> SuppliedJob<'_, K> {
                 from,
                 count - done,
             );
-            push_clamped_samples(sheet, part)?;
+            push_values_as_clamped_samples(sheet, part)?;
             done += part.len();
         }
         Ok(())
@@ -235,19 +238,22 @@ pub fn build_picture_from_output_planes(
 }
 
 // Adds values to a sheet, clamped to 0 and its greatest sample, `PIECE` of them at a time.
-fn push_clamped_samples<S: OutputSheet>(sheet: &mut S, values: &[i32]) -> Result<(), AllocError>
+fn push_values_as_clamped_samples<S: OutputSheet>(
+    sheet: &mut S,
+    values: &[i32],
+) -> Result<(), AllocError>
     ensures max { S.greatest_of sheet.new ≡ S.greatest_of sheet.old }
     ensures samples { OnOk result (S.samples sheet.new
         ≡ S.samples sheet.old ++ map (sample_of (S.greatest_of sheet.old)) values.now) }
 {
-    let max = sheet.greatest_sample();
+    let max = sheet.greatest_allowed_sample();
     let mut room = [0; PIECE];
     let mut rest = values;
     while !rest.is_empty() {
         let (piece, behind) = rest.split_at(rest.len().min(PIECE));
         let cuts = &mut room[..piece.len()];
         write_clamped_samples(cuts, piece, max);
-        sheet.add_samples(cuts)?;
+        sheet.append_samples_to_sheet(cuts)?;
         rest = behind;
     }
     Ok(())

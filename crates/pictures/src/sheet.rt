@@ -16,7 +16,7 @@ pub trait OutputSheet {
     ghost samples: { Self → List ℕ };
 
     /// The greatest sample that there may be.
-    fn greatest_sample(&self) -> u16
+    fn greatest_allowed_sample(&self) -> u16
         ensures { result ≡ greatest_of self.now };
 
     /// Adds samples after those that are there.
@@ -24,7 +24,7 @@ pub trait OutputSheet {
     /// # Errors
     ///
     /// Fails only where memory is refused. Then some of the first samples may have been added.
-    fn add_samples(&mut self, more: &[u16]) -> Result<(), AllocError>
+    fn append_samples_to_sheet(&mut self, more: &[u16]) -> Result<(), AllocError>
         requires { All (λ sample. sample ≤ greatest_of self.old) more.now }
         ensures max { greatest_of self.new ≡ greatest_of self.old }
         ensures samples { OnOk result (samples self.new ≡ samples self.old ++ more.now) };
@@ -64,11 +64,11 @@ impl OutputSheet for OutputPlane {
 
     ghost samples = { λ sheet. sheet.plane.samples };
 
-    fn greatest_sample(&self) -> u16 {
+    fn greatest_allowed_sample(&self) -> u16 {
         self.max
     }
 
-    fn add_samples(&mut self, more: &[u16]) -> Result<(), AllocError> {
+    fn append_samples_to_sheet(&mut self, more: &[u16]) -> Result<(), AllocError> {
         self.plane.extend_from_slice(more)
     }
 }

@@ -15,13 +15,13 @@ ghost use Rattle.pictures.specs.inside.Strips.{IsStripOf};
 use crate::parting::is_one_thread_enough_for_rows;
 use crate::picture::SuppliedJob;
 use crate::sheet::{OutputPlane, OutputSheet};
-use crate::strip::{PlaneStrip, append_plane_strips};
+use crate::strip::{PlaneStrip, append_each_plane_strip_to_plane};
 use domains::{Area, Grid};
 use netpbm::PackedPlane;
 use rayon::prelude::*;
 use std::alloc::{AllocError, Global};
 use std::thread::Threads;
-use tile_run::{StageRun, StoredTileRow, TileScratch, estimate_tile_rows_per_thread};
+use tile_run::{StageRun, StoredTileRow, TileScratch, estimate_least_tile_rows_per_thread};
 
 /// An output of a job. Each thread has one row of its tiles in memory at a time.
 #[derive(Clone, Copy)]
@@ -63,7 +63,7 @@ impl StreamedOutput<'_> {
             ≡ made max (samples (pipeline_in self.now.run.job.now) max self.now.run.stage)) }
     {
         let run = &self.run;
-        let least = estimate_tile_rows_per_thread(run.job, run.schedule, run.stage);
+        let least = estimate_least_tile_rows_per_thread(run.job, run.schedule, run.stage);
         if is_one_thread_enough_for_rows(rt, run.grid.tile_rows(), least) {
             return self.compute_plane_in_turn(alloc, max);
         }
@@ -101,18 +101,18 @@ impl StreamedOutput<'_> {
         ensures { IfOk result (λ plane. plane
             ≡ made max (samples (pipeline_in self.now.run.job.now) max self.now.run.stage)) }
     {
-        let strips = self.compute_plane_strips(rt, alloc, max, least)?;
+        let strips = self.compute_plane_strip_of_each_tile_row(rt, alloc, max, least)?;
         let mut plane = PackedPlane::with_capacity(
             alloc,
             max,
             self.run.grid.area.points() as usize,
         )?;
-        append_plane_strips(&mut plane, &strips)?;
+        append_each_plane_strip_to_plane(&mut plane, &strips)?;
         Ok(plane)
     }
 
     // A strip for each row of tiles. Each thread gets at least `least` rows.
-    fn compute_plane_strips(
+    fn compute_plane_strip_of_each_tile_row(
         &self,
         rt: &(impl Threads + Sync),
         alloc: Global,
@@ -136,13 +136,13 @@ impl StreamedOutput<'_> {
                         self.now.run.schedule.now.inlining (stored_tiles self.now.run.stored.now.stages.items)
                         self.now.run.stage self.now.run.grid × (row < tile_rows self.now.run.grid) }
                     ensures { IfOk result (IsStripOf self.entry.now max row) }
-                { self.compute_plane_strip(alloc, scratch, row, max) },
+                { self.compute_plane_strip_of_one_tile_row(alloc, scratch, row, max) },
             )
             .collect::<Result<Vec<_>, AllocError>>(rt, alloc)?
     }
 
     // The samples of one row of tiles.
-    fn compute_plane_strip(
+    fn compute_plane_strip_of_one_tile_row(
         &self,
         alloc: Global,
         scratch: &mut TileScratch,
@@ -191,7 +191,7 @@ impl StreamedOutput<'_> {
             known: &lent,
         };
         known.push_area_samples(sheet, self.run.stage, &area)?;
-        scratch.replace_recycled_vectors(tiles);
+        scratch.set_recycled_vectors_to_tile_row(tiles);
         Ok(())
     }
 }

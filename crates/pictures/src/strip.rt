@@ -39,11 +39,11 @@ impl OutputSheet for PlaneStrip {
 
     ghost samples = { λ strip. strip.samples.items };
 
-    fn greatest_sample(&self) -> u16 {
+    fn greatest_allowed_sample(&self) -> u16 {
         self.max
     }
 
-    fn add_samples(&mut self, more: &[u16]) -> Result<(), AllocError> {
+    fn append_samples_to_sheet(&mut self, more: &[u16]) -> Result<(), AllocError> {
         self.samples.extend_from_slice(more)
     }
 }
@@ -53,7 +53,7 @@ impl OutputSheet for PlaneStrip {
 /// # Errors
 ///
 /// Fails only where memory is refused.
-pub(crate) fn append_plane_strips(
+pub(crate) fn append_each_plane_strip_to_plane(
     plane: &mut PackedPlane,
     strips: &[PlaneStrip],
 ) -> Result<(), AllocError>

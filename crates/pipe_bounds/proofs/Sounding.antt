@@ -17,7 +17,7 @@ use Rattle.pipe_tree.specs.declared.tree.Names.TheVariants.{One, Three}
 use Rattle.pipe_checks.specs.declared.symbol.Symbol.{Symbol}
 use Rattle.pipe_checks.specs.declared.access.Access.{Access}
 use Rattle.pipe_checks.specs.Checking.{AllGood}
-use Rattle.pipe_checks.specs.Names.{names_of, item_names, names_from, declared_names, stages_of, number_of}
+use Rattle.pipe_checks.specs.Names.{names_of, item_names, names_from, symbols_declared_by_items, stages_of, number_of}
 use Rattle.pipe_checks.specs.Accesses.{accesses_of, read_at, stencil_at, width_of}
 use Rattle.pipe_checks.proofs.Accepted as accepted
 use Rattle.pipe_checks.proofs.Accepted.{IsSoundIndex, IsSoundBranch, IsSoundItem, sound_item}
@@ -67,7 +67,7 @@ named_from m n (d ∷ ds) h =
 all_declared : (ds : List Declaration) → AreDeclared ds (stages_of ds)
 all_declared ds =
     each_of (λ (s : Symbol). s.item < length ds) (stages_of ds)
-    (all_kept (λ (s : Symbol). s.item < length ds) _ (declared_names ds) (named_from (length ds) 0 ds (omega arith)))
+    (all_kept (λ (s : Symbol). s.item < length ds) _ (symbols_declared_by_items ds) (named_from (length ds) 0 ds (omega arith)))
 
 -- ---- indices
 
@@ -178,7 +178,7 @@ pub checked_declared : (ds items : List Declaration) (stages : List Symbol) → 
 checked_declared ds items stages same is =
     subst (λ xs. AreDeclared xs stages) (sym same) (subst (AreDeclared ds) (sym is) (all_declared ds))
 
-pub checked_sound : (ds items : List Declaration) (stages : List Symbol) → items ≡ ds → AllGood (declared_names ds) ds
+pub checked_sound : (ds items : List Declaration) (stages : List Symbol) → items ≡ ds → AllGood (symbols_declared_by_items ds) ds
     → AreSoundItems stages items
 checked_sound ds items stages same good =
-    subst (AreSoundItems stages) (sym same) (all_sound (declared_names ds) stages ds good)
+    subst (AreSoundItems stages) (sym same) (all_sound (symbols_declared_by_items ds) stages ds good)

@@ -10,7 +10,7 @@ use Rattle.pipe_tree.specs.declared.tree.Names.TheVariants.{One, Three}
 use Rattle.pipe_tree.specs.declared.tree.Table.{Table}
 use Rattle.pipe_tree.specs.Tree.{Declaration, param, image, table, function, accumulator, output}
 use Rattle.pipe_checks.specs.declared.symbol.Symbol.{Symbol}
-use Rattle.pipe_checks.specs.Names.{is_table, names_of, item_names, names_from, declared_names, tables_of}
+use Rattle.pipe_checks.specs.Names.{is_table, names_of, item_names, names_from, symbols_declared_by_items, tables_of}
 use Rattle.pipe_bounds.specs.declared.domain.IntervalFault.{IntervalFault}
 use Rattle.pipe_bounds.specs.declared.params.Setting.{Setting}
 use Rattle.pipe_bounds.specs.Tables.{IsTableSpan, TablesStand, AreSpansOf}
@@ -62,7 +62,7 @@ named_from ds n (d ∷ rest) h =
 all_tables : (ds : List Declaration) → AreTables ds (tables_of ds)
 all_tables ds =
     each_of (IsDeclaredTable ds) (tables_of ds)
-    (kept_pass (IsDeclaredTable ds) (λ (s : Symbol). is_table s.kind) (declared_names ds)
+    (kept_pass (IsDeclaredTable ds) (λ (s : Symbol). is_table s.kind) (symbols_declared_by_items ds)
     (named_from ds 0 ds (λ k d there. let same : 0 + k ≡ k = omega arith in ap (slice_get ds) same ∙ there)))
 
 pub checked_tables : (ds items : List Declaration) (tables : List Symbol) → items ≡ ds → tables ≡ tables_of ds → AreTables items tables

@@ -39,14 +39,14 @@ abbrev pub param_value : List Setting → List ℕ → ℤ
 param_value ss name = value_in ss (place_in ss name)
 
 -- what the factor of a term is multiplied by
-abbrev pub param_value_or_one : List Setting → Option (List ℕ) → ℤ
-param_value_or_one ss None = pos 1
-param_value_or_one ss (Some name) = param_value ss name
+abbrev pub param_value_or_one_without_name : List Setting → Option (List ℕ) → ℤ
+param_value_or_one_without_name ss None = pos 1
+param_value_or_one_without_name ss (Some name) = param_value ss name
 
 -- the exact values of a term and of a sum of terms
 abbrev pub affine_term_value : List Setting → AffineTerm → ℤ
 affine_term_value ss t =
-    let product = pos t.factor *ℤ param_value_or_one ss t.name in
+    let product = pos t.factor *ℤ param_value_or_one_without_name ss t.name in
     if t.negative then neg_ℤ product else product
 
 abbrev pub affine_value : List Setting → List AffineTerm → ℤ

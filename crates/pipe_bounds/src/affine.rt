@@ -2,14 +2,14 @@
 //! The exact value of an affine sum.
 
 ghost use Rattle.std.specs.Prelude.{◌≡◌, pos, negsuc, ◌≤ℤ◌, ◌-◌, ◌^◌};
-ghost use Rattle.pipe_bounds.specs.Settings.{param_value_or_one, affine_term_value, affine_value};
+ghost use Rattle.pipe_bounds.specs.Settings.{param_value_or_one_without_name, affine_term_value, affine_value};
 
 use crate::params::Params;
 use pipe_tokens::Name;
 use pipe_tree::{Affine, AffineTerm};
 
-fn param_value_or_one(params: &Params, name: &Option<Name>) -> i32
-    ensures { result ≡ param_value_or_one params.now name.now }
+fn param_value_or_one_without_name(params: &Params, name: &Option<Name>) -> i32
+    ensures { result ≡ param_value_or_one_without_name params.now name.now }
 {
     match name {
         Some(name) => params.value_or_zero(name),
@@ -22,7 +22,8 @@ fn affine_term_value(params: &Params, term: &AffineTerm) -> i128
     ensures least { negsuc (2 ^ 63 - 1) ≤ℤ result }
     ensures most { result ≤ℤ pos (2 ^ 63) }
 {
-    let product = i128::from(term.factor) * i128::from(param_value_or_one(params, &term.name));
+    let product = i128::from(term.factor)
+        * i128::from(param_value_or_one_without_name(params, &term.name));
     if term.negative { -product } else { product }
 }
 

@@ -17,7 +17,7 @@ use pipe_tokens::Name;
 use pipe_tree::{Case, Test};
 use std::alloc::{AllocError, Global};
 
-fn clamp_case_box_span_above(span: &Span, bound: i128) -> Option<Span>
+fn clamp_case_box_span_to_at_most(span: &Span, bound: i128) -> Option<Span>
     ensures { IsCut (λ v. v ≤ℤ bound) span.now result }
 {
     if i128::from(span.hi()) <= bound {
@@ -29,7 +29,7 @@ fn clamp_case_box_span_above(span: &Span, bound: i128) -> Option<Span>
     Span::new(span.lo(), bound as i32)
 }
 
-fn clamp_case_box_span_below(span: &Span, bound: i128) -> Option<Span>
+fn clamp_case_box_span_to_at_least(span: &Span, bound: i128) -> Option<Span>
     ensures { IsCut (λ v. bound ≤ℤ v) span.now result }
 {
     if bound <= i128::from(span.lo()) {
@@ -45,10 +45,10 @@ fn clamp_case_box_span_by_relation(span: &Span, relation: Relation, bound: i128)
     ensures { IsCut (λ v. Meets relation v bound) span.now result }
 {
     match relation {
-        Relation::AtMost => clamp_case_box_span_above(span, bound),
-        Relation::AtLeast => clamp_case_box_span_below(span, bound),
-        Relation::Equals => clamp_case_box_span_below(
-            &clamp_case_box_span_above(span, bound)?,
+        Relation::AtMost => clamp_case_box_span_to_at_most(span, bound),
+        Relation::AtLeast => clamp_case_box_span_to_at_least(span, bound),
+        Relation::Equals => clamp_case_box_span_to_at_least(
+            &clamp_case_box_span_to_at_most(span, bound)?,
             bound,
         ),
     }

@@ -47,7 +47,7 @@ fn item_case_boxes(
     }
 }
 
-fn build_stage_bounds(
+fn build_stage_bounds_from_stage_domain(
     alloc: Global,
     params: &Params,
     item: &Item,
@@ -76,7 +76,7 @@ pub(crate) fn collect_stage_bounds(
         let item = &items[declared.item];
         match compute_stage_domain_of_item(params, item) {
             Ok(place) => {
-                let bounds = build_stage_bounds(alloc, params, item, &place)?;
+                let bounds = build_stage_bounds_from_stage_domain(alloc, params, item, &place)?;
                 found.push(bounds).map_err(AllocError::from)?;
             }
             Err(fault) => return Err(stage_domain_fault(fault, stage)),

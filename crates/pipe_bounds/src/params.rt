@@ -40,7 +40,7 @@ impl Params {
     pub fn of(alloc: Global, checked: &Checked) -> Result<Self, AllocError>
         ensures { IfOk result (λ p. p ≡ map unset (params_in checked.now)) }
     {
-        Params::from_symbols(alloc, checked.params())
+        Params::from_symbols_without_values(alloc, checked.params())
     }
 
     /// These parameters with these values, in this order. It is not checked that they are those of a program.
@@ -50,7 +50,7 @@ impl Params {
         Params { settings }
     }
 
-    fn from_symbols(alloc: Global, params: &[Symbol]) -> Result<Self, AllocError>
+    fn from_symbols_without_values(alloc: Global, params: &[Symbol]) -> Result<Self, AllocError>
         ensures { IfOk result (λ p. p ≡ map unset params.now) }
     {
         let mut settings = Vec::new(alloc);

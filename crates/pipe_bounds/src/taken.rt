@@ -25,7 +25,7 @@ pub(crate) struct Departure {
 }
 
 // The numbers that an index takes over a span.
-fn compute_index_footprint(index: &pipe_tree::Index, span: &Span) -> Span
+fn compute_index_footprint_along_axis(index: &pipe_tree::Index, span: &Span) -> Span
     requires index { IsIndex (scale_of index.now) }
     requires near { InDomainRange span.now }
     ensures image { IsImage (scale_of index.now) span.now result }
@@ -37,7 +37,7 @@ fn compute_index_footprint(index: &pipe_tree::Index, span: &Span) -> Span
 }
 
 // The numbers that a kernel side of this length takes around those of a span.
-fn compute_stencil_footprint(span: &Span, side: usize) -> Span
+fn compute_stencil_footprint_along_axis(span: &Span, side: usize) -> Span
     requires near { InDomainRange span.now }
     requires side { side ≤ 15 }
     ensures widened { IsWidened (side / 2) span.now result }
@@ -61,12 +61,12 @@ pub(crate) fn compute_access_footprint(access: &Access, area: &Area) -> Area
 {
     match access {
         Access::Read(_, row, column) => Area {
-            rows: compute_index_footprint(row, &area.rows),
-            cols: compute_index_footprint(column, &area.cols),
+            rows: compute_index_footprint_along_axis(row, &area.rows),
+            cols: compute_index_footprint_along_axis(column, &area.cols),
         },
         Access::Stencil(_, rows, columns) => Area {
-            rows: compute_stencil_footprint(&area.rows, *rows),
-            cols: compute_stencil_footprint(&area.cols, *columns),
+            rows: compute_stencil_footprint_along_axis(&area.rows, *rows),
+            cols: compute_stencil_footprint_along_axis(&area.cols, *columns),
         },
     }
 }

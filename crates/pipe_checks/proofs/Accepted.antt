@@ -32,7 +32,7 @@ use Rattle.pipe_checks.specs.Accesses.{width_of}
 use Rattle.pipe_checks.specs.Twice.{item_variables}
 use Rattle.pipe_checks.specs.Checking.{is_good}
 use Rattle.pipe_checks.specs.Uses.{Place, name, ranged, remainder, shift, kernel, is_variable_named, role_of, declared_role, allows}
-use Rattle.pipe_checks.specs.Uses.{wrong_name, greatest_number, wrong_range, wrong_remainder, wrong_shift, is_stencil_kernel_side, wrong_kernel}
+use Rattle.pipe_checks.specs.Uses.{wrong_name, greatest_number, wrong_range, wrong_remainder, wrong_shift, is_odd_kernel_side_within_limit, wrong_kernel}
 use Rattle.pipe_checks.specs.Uses.{role_at, wrong_at, is_served, are_served, span_places, index_places, least_literal}
 use Rattle.pipe_checks.specs.Uses.{greatest_literal, read_places, stencil_places, expr_places, test_places, tests_places}
 use Rattle.pipe_checks.specs.Uses.{branch_places, branches_places, otherwise_places, output_places, places_of}
@@ -163,14 +163,14 @@ literal_ok Rem n h = range_ok n 1 greatest_number h
 literal_ok Shl n h = (range_ok n 0 31 h).1
 literal_ok Shr n h = (range_ok n 0 31 h).1
 
-side_ok : (n : ℕ) → is_stencil_kernel_side n ≡ true → (n % 2 ≡ 1) × (n ≤ 15)
+side_ok : (n : ℕ) → is_odd_kernel_side_within_limit n ≡ true → (n % 2 ≡ 1) × (n ≤ 15)
 side_ok n h = let both = and_parts (n % 2 == 1) (nat_le n 15) h in (same_number (n % 2) 1 both.0, at_most n 15 both.1)
 
 kernel_ok : (k : List (List ℤ)) → is_none (wrong_kernel k) ≡ true → IsSoundKernel k
 kernel_ok k h =
     let parts =
-    and_parts (is_stencil_kernel_side (length k)) (is_stencil_kernel_side (width_of k) && list_all (λ row. length row == width_of k) k) (if_served _ BadKernel h) in
-    let rest = and_parts (is_stencil_kernel_side (width_of k)) (list_all (λ row. length row == width_of k) k) parts.1 in
+    and_parts (is_odd_kernel_side_within_limit (length k)) (is_odd_kernel_side_within_limit (width_of k) && list_all (λ row. length row == width_of k) k) (if_served _ BadKernel h) in
+    let rest = and_parts (is_odd_kernel_side_within_limit (width_of k)) (list_all (λ row. length row == width_of k) k) parts.1 in
     record {
       height = side_ok (length k) parts.0;
       width = side_ok (width_of k) rest.0;

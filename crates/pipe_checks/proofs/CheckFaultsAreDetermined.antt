@@ -14,7 +14,7 @@ use Rattle.pipe_checks.specs.declared.fault.Violation.TheVariants as violation
 use Rattle.pipe_checks.specs.declared.fault.CheckFault.{CheckFault}
 use Rattle.pipe_checks.specs.declared.fault.CheckFault.TheVariants.{Unknown, Twice, Kind, BadKernel, BadLiteral, NoResult, Cycle, Memory}
 use Rattle.pipe_checks.specs.StageLinks.{StageLinks}
-use Rattle.pipe_checks.specs.Names.{declared_names}
+use Rattle.pipe_checks.specs.Names.{symbols_declared_by_items}
 use Rattle.pipe_checks.specs.Accesses.{graph_of}
 use Rattle.pipe_checks.specs.Graph.{IsShortestFrom, IsShortestCycle}
 use Rattle.pipe_checks.specs.Uses.{places_of, IsFirstUnserved}
@@ -77,8 +77,8 @@ same_wrong names ds v w m n h k = by_order (cases_lt m n) (cases_lt n m)
 -- ---- which of them it is
 
 data Told (ds : List Declaration) (f : CheckFault) : Type 0 where
-  TwiceTold : (n : ℕ) → IsFirstTwice (declared_names ds) ds n → f ≡ Twice n → Told ds f
-  WrongTold : (w : Violation) (n : ℕ) → NoneTwice (declared_names ds) ds → IsFirstWrong (declared_names ds) ds w n → f ≡ fault_of w n
+  TwiceTold : (n : ℕ) → IsFirstTwice (symbols_declared_by_items ds) ds n → f ≡ Twice n → Told ds f
+  WrongTold : (w : Violation) (n : ℕ) → NoneTwice (symbols_declared_by_items ds) ds → IsFirstWrong (symbols_declared_by_items ds) ds w n → f ≡ fault_of w n
       → Told ds f
   ResultTold : IsNamed ds → list_any is_result ds ≡ false → f ≡ NoResult → Told ds f
   CycleTold : (c : List ℕ) → IsNamed ds → list_any is_result ds ≡ true → IsShortestCycle (graph_of ds) c → f ≡ Cycle c → Told ds f
@@ -93,20 +93,20 @@ told ds NoResult h m = ResultTold h.0 h.1 refl
 told ds (Cycle c) h m = CycleTold c h.0 h.1 h.2 refl
 told ds Memory h m = absurd (m refl)
 
-not_twice : (ds : List Declaration) (n : ℕ) → NoneTwice (declared_names ds) ds → IsFirstTwice (declared_names ds) ds n → ⊥
+not_twice : (ds : List Declaration) (n : ℕ) → NoneTwice (symbols_declared_by_items ds) ds → IsFirstTwice (symbols_declared_by_items ds) ds n → ⊥
 not_twice ds n none h = none n h.item h.there h.twice
 
-not_wrong : (ds : List Declaration) (w : Violation) (n : ℕ) → IsNamed ds → IsFirstWrong (declared_names ds) ds w n → ⊥
-not_wrong ds w n named h = served_or_not (declared_names ds) (item_variables h.item) (places_of h.item) w (named.good n h.item h.there) h.is
+not_wrong : (ds : List Declaration) (w : Violation) (n : ℕ) → IsNamed ds → IsFirstWrong (symbols_declared_by_items ds) ds w n → ⊥
+not_wrong ds w n named h = served_or_not (symbols_declared_by_items ds) (item_variables h.item) (places_of h.item) w (named.good n h.item h.there) h.is
 
 same_told : (ds : List Declaration) (a b : CheckFault) → Told ds a → Told ds b → a ≡ b
-same_told ds a b (TwiceTold n h e) (TwiceTold m k f) = e ∙ ap Twice (same_twice (declared_names ds) ds n m h k) ∙ sym f
+same_told ds a b (TwiceTold n h e) (TwiceTold m k f) = e ∙ ap Twice (same_twice (symbols_declared_by_items ds) ds n m h k) ∙ sym f
 same_told ds a b (TwiceTold n h e) (WrongTold w m once k f) = absurd (not_twice ds n once h)
 same_told ds a b (TwiceTold n h e) (ResultTold named k f) = absurd (not_twice ds n named.once h)
 same_told ds a b (TwiceTold n h e) (CycleTold c named k r f) = absurd (not_twice ds n named.once h)
 same_told ds a b (WrongTold v n once h e) (TwiceTold m k f) = absurd (not_twice ds m once k)
 same_told ds a b (WrongTold v n once h e) (WrongTold w m again k f) =
-    let s = same_wrong (declared_names ds) ds v w n m h k in
+    let s = same_wrong (symbols_declared_by_items ds) ds v w n m h k in
     e ∙ ap (fault_of v) s.0 ∙ ap (λ x. fault_of x m) s.1 ∙ sym f
 same_told ds a b (WrongTold v n once h e) (ResultTold named k f) = absurd (not_wrong ds v n named h)
 same_told ds a b (WrongTold v n once h e) (CycleTold c named k r f) = absurd (not_wrong ds v n named h)

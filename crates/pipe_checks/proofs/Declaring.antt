@@ -20,12 +20,12 @@ use Rattle.std.proofs.Math.Seq.{take-append_seam}
 use Rattle.domains.proofs.Places.{all_at, slice_get-end}
 use Rattle.std.proofs.lemmas.Bool.Decides.{Decides-eqb}
 use Rattle.pipe_checks.specs.declared.uses.ItemVariables.{ItemVariables}
-use Rattle.pipe_checks.specs.Twice.{are_same_variables, is_declared_variable, has_reused_variable}
+use Rattle.pipe_checks.specs.Twice.{are_same_variables, is_variable_with_declared_name, has_variable_with_name_used_twice}
 use Rattle.pipe_checks.specs.declared.symbol.Symbol.{Symbol}
 use Rattle.pipe_checks.specs.declared.table.DeclaredNames.{DeclaredNames}
-use Rattle.pipe_checks.specs.Names.{number_of, names_of, item_names, names_from, declared_names}
+use Rattle.pipe_checks.specs.Names.{number_of, names_of, item_names, names_from, symbols_declared_by_items}
 use Rattle.pipe_checks.specs.Checking.{DeclaresAgain}
-use Rattle.pipe_checks.specs.inside.Tables.{put, earlier, is_redeclaring_item, IsFirstAgain, IsTableOf}
+use Rattle.pipe_checks.specs.inside.Tables.{put, earlier, is_first_redeclaring_item, IsFirstAgain, IsTableOf}
 
 -- ---- which names are there
 
@@ -231,14 +231,14 @@ names_come n (d ∷ ds) =
     (names_come (n + 1) ds))
 
 -- the first item that declares a name again is an item
-pub again_there : (ds : List Declaration) (n : ℕ) → DeclaresAgain (declared_names ds) n → (d : Declaration) × (slice_get ds n ≡ Some d)
+pub again_there : (ds : List Declaration) (n : ℕ) → DeclaresAgain (symbols_declared_by_items ds) n → (d : Declaration) × (slice_get ds n ≡ Some d)
 again_there ds n h =
-    let c : Comes 0 ds h.again = all_at (Comes 0 ds) (declared_names ds) h.place h.again (names_come 0 ds) h.there in
+    let c : Comes 0 ds h.again = all_at (Comes 0 ds) (symbols_declared_by_items ds) h.place h.again (names_come 0 ds) h.there in
     (c.2, subst (λ k. slice_get ds k ≡ Some c.2) (omega (arith, c.1, h.item)) c.3)
 
 -- an item that is passed declares no name again
 pub passed_again : (names : List Symbol) (a : Option ℕ) (n : ℕ) → IsFirstAgain names a → ((k : ℕ) → k < n → a ≡ Some k → ⊥)
-    → is_redeclaring_item a n ≡ false → ¬ (DeclaresAgain names n)
+    → is_first_redeclaring_item a n ≡ false → ¬ (DeclaresAgain names n)
 passed_again names None n first before not_here again = first n again
 passed_again names (Some m) n first before not_here again = elim (cases_lt m n) [
   | inl less ↦ before m less refl
@@ -248,11 +248,11 @@ passed_again names (Some m) n first before not_here again = elim (cases_lt m n) 
   ]
 ]
 
-pub is_again : (names : List Symbol) (a : Option ℕ) (n : ℕ) → IsFirstAgain names a → is_redeclaring_item a n ≡ true → DeclaresAgain names n
+pub is_again : (names : List Symbol) (a : Option ℕ) (n : ℕ) → IsFirstAgain names a → is_first_redeclaring_item a n ≡ true → DeclaresAgain names n
 is_again names None n first here = absurd (false≢true here)
 is_again names (Some m) n first here = subst (DeclaresAgain names) ((Decides-eqb m n).0 here) first.0
 
-pub not_number : (a : Option ℕ) (n k : ℕ) → k < n + 1 → is_redeclaring_item a n ≡ false → ((i : ℕ) → i < n → a ≡ Some i → ⊥) → a ≡ Some k → ⊥
+pub not_number : (a : Option ℕ) (n k : ℕ) → k < n + 1 → is_first_redeclaring_item a n ≡ false → ((i : ℕ) → i < n → a ≡ Some i → ⊥) → a ≡ Some k → ⊥
 not_number None n k l none before e = none-some k e
 not_number (Some m) n k l none before e = elim (cases_lt k n) [
   | inl less ↦ before k less e
@@ -260,18 +260,18 @@ not_number (Some m) n k l none before e = elim (cases_lt k n) [
 ]
 
 -- where all items are passed, no name is declared again
-pub none_again : (ds : List Declaration) (a : Option ℕ) → IsFirstAgain (declared_names ds) a → ((k : ℕ) → k < length ds → a ≡ Some k → ⊥)
+pub none_again : (ds : List Declaration) (a : Option ℕ) → IsFirstAgain (symbols_declared_by_items ds) a → ((k : ℕ) → k < length ds → a ≡ Some k → ⊥)
     → a ≡ None
 none_again ds None first passed = refl
 none_again ds (Some n) first passed = let t = again_there ds n first.0 in absurd (passed n (slice_get_within ds n t.0 t.1) refl)
 
 -- a variable is a name of the table where it is a declared one
 pub varies_same : (names table : List Symbol) (locals : ItemVariables) → ((x : List ℕ) → is_some (number_of table x) ≡ is_some (number_of names x))
-    → has_reused_variable table locals ≡ has_reused_variable names locals
+    → has_variable_with_name_used_twice table locals ≡ has_variable_with_name_used_twice names locals
 varies_same names table locals same =
-    ap (λ b. are_same_variables locals.row locals.column || b || is_declared_variable table locals.column) (by locals.row)
-    ∙ ap (λ b. are_same_variables locals.row locals.column || is_declared_variable names locals.row || b) (by locals.column)
+    ap (λ b. are_same_variables locals.row locals.column || b || is_variable_with_declared_name table locals.column) (by locals.row)
+    ∙ ap (λ b. are_same_variables locals.row locals.column || is_variable_with_declared_name names locals.row || b) (by locals.column)
   where
-    by : (o : Option (List ℕ)) → is_declared_variable table o ≡ is_declared_variable names o
+    by : (o : Option (List ℕ)) → is_variable_with_declared_name table o ≡ is_variable_with_declared_name names o
     by None = refl
     by (Some x) = same x

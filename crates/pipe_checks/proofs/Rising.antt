@@ -13,7 +13,7 @@ use Rattle.pipe_tree.specs.declared.tree.Names.TheVariants.{One, Three}
 use Rattle.pipe_tree.specs.Tree.{Declaration, param, image, table, function, accumulator, output}
 use Rattle.pipe_checks.specs.declared.symbol.Symbol.{Symbol}
 use Rattle.pipe_checks.specs.StageLinks.{StageLinks}
-use Rattle.pipe_checks.specs.Names.{names_of, item_names, names_from, declared_names, stages_of}
+use Rattle.pipe_checks.specs.Names.{names_of, item_names, names_from, symbols_declared_by_items, stages_of}
 use Rattle.pipe_checks.specs.Accesses.{item_accesses, stage_read, is_plane, reads_of, links_of, graph_of}
 use Rattle.pipe_checks.specs.Graph.{links_at, IsPlane, Reads, IsRanked, IsCycle}
 use Rattle.pipe_checks.proofs.Distances.{reads_within}
@@ -61,7 +61,7 @@ stage_is ds s x there =
 plane_is_blank : (ds : List Declaration) (s : ℕ) (x : Symbol) → slice_get (stages_of ds) s ≡ Some x → IsPlane (graph_of ds) s
     → (links_at (graph_of ds) s).reads ≡ []
 plane_is_blank ds s x there plane =
-    let all = All-filter _ (Blank 0 ds) (declared_names ds) (blank_from 0 ds) in
+    let all = All-filter _ (Blank 0 ds) (symbols_declared_by_items ds) (blank_from 0 ds) in
     let here : Blank 0 ds x =
     subst (Blank 0 ds) (get_or_from_slice_get (stages_of ds) s x x there) (all s x (slice_get_within (stages_of ds) s x there)) in
     let is = stage_is ds s x there in

@@ -12,9 +12,9 @@ use Rattle.pipe_checks.specs.declared.fault.CheckFault.TheVariants.{Unknown, Twi
 use Rattle.pipe_checks.specs.declared.checked.Checked.{Checked}
 use Rattle.pipe_checks.specs.StageLinks.{StageLinks}
 use Rattle.pipe_checks.specs.Graph.{IsRanking, IsShortestCycle}
-use Rattle.pipe_checks.specs.Names.{declared_names, params_of, tables_of, stages_of, number_of}
+use Rattle.pipe_checks.specs.Names.{symbols_declared_by_items, params_of, tables_of, stages_of, number_of}
 use Rattle.pipe_checks.specs.Accesses.{graph_of}
-use Rattle.pipe_checks.specs.Twice.{item_variables, has_reused_variable}
+use Rattle.pipe_checks.specs.Twice.{item_variables, has_variable_with_name_used_twice}
 use Rattle.pipe_checks.specs.Uses.{places_of, are_served, IsFirstUnserved}
 
 -- ---- names that denote two things
@@ -28,7 +28,7 @@ pub record DeclaresAgain (names : List Symbol) (n : ℕ) : Type 0 where
   pub before : IsTrue (is_some (number_of (take place names) again.name))
 
 abbrev pub IsTwice : List Symbol → ℕ → Declaration → Type 0
-IsTwice names n d = DeclaresAgain names n ⊎ IsTrue (has_reused_variable names (item_variables d))
+IsTwice names n d = DeclaresAgain names n ⊎ IsTrue (has_variable_with_name_used_twice names (item_variables d))
 
 abbrev pub NoneTwice : List Symbol → List Declaration → Type 0
 NoneTwice names ds = (k : ℕ) (d : Declaration) → slice_get ds k ≡ Some d → ¬ (IsTwice names k d)
@@ -68,16 +68,16 @@ is_result (output o) = true
 
 -- each name denotes what its place requires
 pub record IsNamed (ds : List Declaration) : Type 0 where
-  pub once : NoneTwice (declared_names ds) ds
-  pub good : AllGood (declared_names ds) ds
+  pub once : NoneTwice (symbols_declared_by_items ds) ds
+  pub good : AllGood (symbols_declared_by_items ds) ds
 
 -- the first fault of a program, except for memory
 abbrev pub IsFault : List Declaration → CheckFault → Type 0
-IsFault ds (Twice n) = IsFirstTwice (declared_names ds) ds n
-IsFault ds (Unknown n) = NoneTwice (declared_names ds) ds × IsFirstWrong (declared_names ds) ds violation.Unknown n
-IsFault ds (Kind n) = NoneTwice (declared_names ds) ds × IsFirstWrong (declared_names ds) ds violation.Kind n
-IsFault ds (BadKernel n) = NoneTwice (declared_names ds) ds × IsFirstWrong (declared_names ds) ds violation.BadKernel n
-IsFault ds (BadLiteral n) = NoneTwice (declared_names ds) ds × IsFirstWrong (declared_names ds) ds violation.BadLiteral n
+IsFault ds (Twice n) = IsFirstTwice (symbols_declared_by_items ds) ds n
+IsFault ds (Unknown n) = NoneTwice (symbols_declared_by_items ds) ds × IsFirstWrong (symbols_declared_by_items ds) ds violation.Unknown n
+IsFault ds (Kind n) = NoneTwice (symbols_declared_by_items ds) ds × IsFirstWrong (symbols_declared_by_items ds) ds violation.Kind n
+IsFault ds (BadKernel n) = NoneTwice (symbols_declared_by_items ds) ds × IsFirstWrong (symbols_declared_by_items ds) ds violation.BadKernel n
+IsFault ds (BadLiteral n) = NoneTwice (symbols_declared_by_items ds) ds × IsFirstWrong (symbols_declared_by_items ds) ds violation.BadLiteral n
 IsFault ds NoResult = IsNamed ds × (list_any is_result ds ≡ false)
 IsFault ds (Cycle c) = IsNamed ds × (list_any is_result ds ≡ true) × IsShortestCycle (graph_of ds) c
 IsFault ds Memory = Unit {0}

@@ -29,8 +29,8 @@ abbrev pub names_from : ℕ → List Declaration → List Symbol
 names_from n [] = []
 names_from n (d ∷ ds) = item_names n d ++ names_from (n + 1) ds
 
-abbrev pub declared_names : List Declaration → List Symbol
-declared_names ds = names_from 0 ds
+abbrev pub symbols_declared_by_items : List Declaration → List Symbol
+symbols_declared_by_items ds = names_from 0 ds
 
 abbrev pub is_param : SymbolKind → Bool
 is_param Param = true
@@ -56,13 +56,13 @@ is_stage Accum = true
 
 -- the parameters of a program, its tables, and its stages: the number of each is its place here
 abbrev pub params_of : List Declaration → List Symbol
-params_of ds = filter (λ d. is_param d.kind) (declared_names ds)
+params_of ds = filter (λ d. is_param d.kind) (symbols_declared_by_items ds)
 
 abbrev pub tables_of : List Declaration → List Symbol
-tables_of ds = filter (λ d. is_table d.kind) (declared_names ds)
+tables_of ds = filter (λ d. is_table d.kind) (symbols_declared_by_items ds)
 
 abbrev pub stages_of : List Declaration → List Symbol
-stages_of ds = filter (λ d. is_stage d.kind) (declared_names ds)
+stages_of ds = filter (λ d. is_stage d.kind) (symbols_declared_by_items ds)
 
 -- the number of the first of the names that equals this one
 abbrev pub number_of : List Symbol → List ℕ → Option ℕ

@@ -15,14 +15,14 @@ item_variables (function f) = record { row = Some f.row.name; column = Some f.co
 item_variables (accumulator a) = record { row = Some a.row.name; column = Some a.column.name }
 item_variables (output o) = record { row = None; column = None }
 
-abbrev pub is_declared_variable : List Symbol → Option (List ℕ) → Bool
-is_declared_variable names None = false
-is_declared_variable names (Some x) = is_some (number_of names x)
+abbrev pub is_variable_with_declared_name : List Symbol → Option (List ℕ) → Bool
+is_variable_with_declared_name names None = false
+is_variable_with_declared_name names (Some x) = is_some (number_of names x)
 
 abbrev pub are_same_variables : Option (List ℕ) → Option (List ℕ) → Bool
 are_same_variables (Some x) (Some y) = bytes_eq x y
 are_same_variables x y = false
 
 -- a variable equals the other variable of its item or a declared name
-abbrev pub has_reused_variable : List Symbol → ItemVariables → Bool
-has_reused_variable names locals = are_same_variables locals.row locals.column || is_declared_variable names locals.row || is_declared_variable names locals.column
+abbrev pub has_variable_with_name_used_twice : List Symbol → ItemVariables → Bool
+has_variable_with_name_used_twice names locals = are_same_variables locals.row locals.column || is_variable_with_declared_name names locals.row || is_variable_with_declared_name names locals.column

@@ -186,12 +186,12 @@ abbrev pub wrong_shift : ℤ → Option Violation
 wrong_shift n = if int_le (negsuc 4095) n && int_le n (pos 4096) then None else Some BadLiteral
 
 -- a side of a kernel: odd, at most 15
-abbrev pub is_stencil_kernel_side : ℕ → Bool
-is_stencil_kernel_side n = (n % 2 == 1) && nat_le n 15
+abbrev pub is_odd_kernel_side_within_limit : ℕ → Bool
+is_odd_kernel_side_within_limit n = (n % 2 == 1) && nat_le n 15
 
 abbrev pub wrong_kernel : List (List ℤ) → Option Violation
 wrong_kernel rows =
-    if is_stencil_kernel_side (length rows) && (is_stencil_kernel_side (width_of rows) && list_all (λ row. length row == width_of rows) rows) then None
+    if is_odd_kernel_side_within_limit (length rows) && (is_odd_kernel_side_within_limit (width_of rows) && list_all (λ row. length row == width_of rows) rows) then None
     else Some BadKernel
 
 abbrev pub wrong_at : List Symbol → ItemVariables → Place → Option Violation

@@ -6,7 +6,7 @@ ghost use Rattle.std.specs.List.{list_any};
 ghost use Rattle.std.specs.Option.{option_copied};
 ghost use Rattle.pipe_tree.specs.Tree.{declaration, declarations};
 ghost use Rattle.pipe_tree.specs.Content.{content};
-ghost use Rattle.pipe_checks.specs.Names.{declared_names};
+ghost use Rattle.pipe_checks.specs.Names.{symbols_declared_by_items};
 ghost use Rattle.pipe_checks.specs.Graph.{IsRanking};
 ghost use Rattle.pipe_checks.specs.Twice.{item_variables};
 ghost use Rattle.pipe_checks.specs.Uses.{places_of, IsFirstUnserved};
@@ -15,14 +15,14 @@ ghost use Rattle.pipe_checks.specs.Checking.{ranks_in, is_result, is_good, reads
 ghost use Rattle.pipe_checks.specs.inside.Tables.{IsTableOf};
 ghost use Rattle.pipe_checks.specs.inside.Search.{IsCyclic, IsJudged, IsFound, fault_of};
 
-use crate::cycles::find_shortest_cycle;
+use crate::cycles::find_shortest_cycle_from_least_stage;
 use crate::fault::{CheckFault, Cycle, Violation};
 use crate::graph::{StageLinks, build_read_graph};
 use crate::ranks::compute_read_graph_ranks;
 use crate::symbol::{Symbol, filter_param_symbols, filter_stage_symbols, filter_table_symbols};
-use crate::table::{DeclaredNames, SymbolTable, declare_all_symbols};
+use crate::table::{DeclaredNames, SymbolTable, declare_symbols_of_all_items};
 use crate::twice::{find_item_with_name_declared_twice, item_variables};
-use crate::uses::check_item_places;
+use crate::uses::check_names_and_numbers_of_item;
 use pipe_tree::{Item, Tree};
 use std::alloc::Global;
 use std::marker::Model;
@@ -106,7 +106,7 @@ impl Checked {
     }
 }
 
-fn to_check_fault(violation: Violation, item: usize) -> CheckFault
+fn to_check_fault_of_item(violation: Violation, item: usize) -> CheckFault
     ensures { result ≡ fault_of violation item }
 {
     match violation {
@@ -123,7 +123,7 @@ fn check_item(names: &SymbolTable, item: &Item) -> Result<(), Violation>
     ensures wrong { IfErr result (IsFirstUnserved names.now (item_variables (declaration item.now))
         (places_of (declaration item.now))) }
 {
-    check_item_places(names, &item_variables(item), item)
+    check_names_and_numbers_of_item(names, &item_variables(item), item)
 }
 
 fn check_all_items(declared: &SymbolTable, items: &[Item]) -> Result<(), CheckFault>
@@ -131,7 +131,7 @@ fn check_all_items(declared: &SymbolTable, items: &[Item]) -> Result<(), CheckFa
 {
     for (number, item) in items.iter().enumerate() {
         if let Err(violation) = check_item(declared, item) {
-            return Err(to_check_fault(violation, number));
+            return Err(to_check_fault_of_item(violation, number));
         }
     }
     Ok(())
@@ -139,10 +139,13 @@ fn check_all_items(declared: &SymbolTable, items: &[Item]) -> Result<(), CheckFa
 
 // Checks that each name denotes one thing, and then that each place has what it requires.
 #[tactic(auto, using(crate::proofs::Faulting::judged_named, crate::proofs::Faulting::judged_fault))]
-fn check_names_and_item_places(declared: &DeclaredNames, items: &[Item]) -> Result<(), CheckFault>
-    requires { IsTableOf (declared_names (declarations items.now)) declared.now }
+fn check_unique_names_then_all_items(
+    declared: &DeclaredNames,
+    items: &[Item],
+) -> Result<(), CheckFault>
+    requires { IsTableOf (symbols_declared_by_items (declarations items.now)) declared.now }
     ensures ok { OnOk result (IsNamed (declarations items.now)) }
-    ensures same { OnOk result (declared.now.table ≡ declared_names (declarations items.now)) }
+    ensures same { OnOk result (declared.now.table ≡ symbols_declared_by_items (declarations items.now)) }
     ensures err { IfErr result (IsFault (declarations items.now)) }
 {
     match find_item_with_name_declared_twice(declared, items) {
@@ -151,7 +154,7 @@ fn check_names_and_item_places(declared: &DeclaredNames, items: &[Item]) -> Resu
     }
 }
 
-fn is_declared_result(item: &Item) -> bool
+fn is_declared_accum_or_output(item: &Item) -> bool
     ensures { result ≡ is_result (declaration item.now) }
 {
     match item {
@@ -160,11 +163,11 @@ fn is_declared_result(item: &Item) -> bool
     }
 }
 
-fn has_declared_result(items: &[Item]) -> bool
+fn has_declared_accum_or_output(items: &[Item]) -> bool
     ensures { result ≡ list_any is_result (declarations items.now) }
 {
     for item in items {
-        if is_declared_result(item) {
+        if is_declared_accum_or_output(item) {
             return true;
         }
     }
@@ -178,7 +181,7 @@ fn find_ranks_or_cycle(alloc: Global, graph: &[StageLinks]) -> Result<Vec<usize>
     match compute_read_graph_ranks(alloc, graph)? {
         Some(ranks) => Ok(ranks),
         None => Err(CheckFault::Cycle(Cycle {
-            stages: find_shortest_cycle(alloc, graph)?,
+            stages: find_shortest_cycle_from_least_stage(alloc, graph)?,
         })),
     }
 }
@@ -197,9 +200,9 @@ fn check_program_items(alloc: Global, items: &[Item]) -> Result<CheckedLists, Ch
     ensures ok { IfOk result (IsFound (declarations items.now)) }
     ensures err { IfErr result (IsFault (declarations items.now)) }
 {
-    let declared = declare_all_symbols(alloc, items)?;
-    check_names_and_item_places(&declared, items)?;
-    if !has_declared_result(items) {
+    let declared = declare_symbols_of_all_items(alloc, items)?;
+    check_unique_names_then_all_items(&declared, items)?;
+    if !has_declared_accum_or_output(items) {
         return Err(CheckFault::NoResult);
     }
     let names = declared.table.symbols();

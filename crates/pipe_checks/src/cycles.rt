@@ -45,7 +45,7 @@ fn can_extend_cycle_distances(graph: &[StageLinks], far: &[Option<usize>], steps
 }
 
 // The distance of a stage, where the distances up to `steps` are known.
-fn compute_next_cycle_distance(
+fn compute_next_cycle_distance_of_stage(
     graph: &[StageLinks],
     far: &[Option<usize>],
     steps: usize,
@@ -63,7 +63,7 @@ fn compute_next_cycle_distance(
 }
 
 // The distances, with those of `steps` + 1 added.
-fn extend_cycle_distances(
+fn compute_extended_cycle_distances(
     alloc: Global,
     graph: &[StageLinks],
     far: &[Option<usize>],
@@ -75,7 +75,7 @@ fn extend_cycle_distances(
 {
     let mut next = Vec::new(alloc);
     for stage in 0..graph.len() {
-        next.push(compute_next_cycle_distance(graph, far, steps, stage))?;
+        next.push(compute_next_cycle_distance_of_stage(graph, far, steps, stage))?;
     }
     Ok(next)
 }
@@ -98,7 +98,7 @@ fn init_cycle_distances(
 }
 
 // The number of reads from each stage to `goal`, where it can be reached.
-fn compute_cycle_distances(
+fn compute_cycle_distances_to_stage(
     alloc: Global,
     graph: &[StageLinks],
     goal: usize,
@@ -109,14 +109,14 @@ fn compute_cycle_distances(
     let mut far = init_cycle_distances(alloc, graph.len(), goal)?;
     let mut steps = 0;
     while can_extend_cycle_distances(graph, &far, steps) {
-        far = extend_cycle_distances(alloc, graph, &far, steps)?;
+        far = compute_extended_cycle_distances(alloc, graph, &far, steps)?;
         steps += 1;
     }
     Ok(far)
 }
 
 // The least known distance of a stage that this one reads.
-fn find_least_cycle_distance(links: &StageLinks, far: &[Option<usize>]) -> Option<usize>
+fn find_least_cycle_distance_of_reads(links: &StageLinks, far: &[Option<usize>]) -> Option<usize>
     ensures some { IfSome result (SomeAt far.now links.now.reads) }
     ensures least { IfSome result (λ d. (k : ℕ) → SomeAt far.now links.now.reads k → d ≤ k) }
     ensures none { IfNone result ((k : ℕ) → ¬ (SomeAt far.now links.now.reads k)) }
@@ -134,7 +134,11 @@ fn find_least_cycle_distance(links: &StageLinks, far: &[Option<usize>]) -> Optio
 }
 
 // The least of the stages read that have this distance.
-fn find_read_at_cycle_distance(links: &StageLinks, far: &[Option<usize>], steps: usize) -> usize
+fn find_least_read_at_cycle_distance(
+    links: &StageLinks,
+    far: &[Option<usize>],
+    steps: usize,
+) -> usize
     requires { SomeAt far.now links.now.reads steps }
     ensures read { Contains links.now.reads result }
     ensures at { slice_get far.now result ≡ Some (Some steps) }
@@ -175,14 +179,14 @@ fn trace_shortest_cycle(
     let mut steps = left + 1;
     while steps > 0 {
         steps -= 1;
-        at = find_read_at_cycle_distance(&graph[at], far, steps);
+        at = find_least_read_at_cycle_distance(&graph[at], far, steps);
         way.push(at)?;
     }
     Ok(way)
 }
 
 // The first of the shortest cycles from `start`, if there is one.
-fn find_cycle_from_stage(
+fn find_shortest_cycle_from_stage(
     alloc: Global,
     graph: &[StageLinks],
     start: usize,
@@ -191,15 +195,15 @@ fn find_cycle_from_stage(
     ensures some { IfOk result (λ o. IfSome o (λ v. IsShortestFrom graph.now start v.items)) }
     ensures none { IfOk result (λ o. IfNone o ((k : ℕ) → Way graph.now (suc k) start start → ⊥)) }
 {
-    let far = compute_cycle_distances(alloc, graph, start)?;
-    match find_least_cycle_distance(&graph[start], &far) {
+    let far = compute_cycle_distances_to_stage(alloc, graph, start)?;
+    match find_least_cycle_distance_of_reads(&graph[start], &far) {
         Some(left) => Ok(Some(trace_shortest_cycle(alloc, graph, &far, start, left)?)),
         None => Ok(None),
     }
 }
 
 /// The first of the shortest cycles of reads from the least stage that is on one.
-pub(crate) fn find_shortest_cycle(
+pub(crate) fn find_shortest_cycle_from_least_stage(
     alloc: Global,
     graph: &[StageLinks],
 ) -> Result<Vec<usize>, AllocError>
@@ -207,7 +211,7 @@ pub(crate) fn find_shortest_cycle(
     ensures { IfOk result (λ v. IsShortestCycle graph.now v.items) }
 {
     for start in 0..graph.len() {
-        if let Some(cycle) = find_cycle_from_stage(alloc, graph, start)? {
+        if let Some(cycle) = find_shortest_cycle_from_stage(alloc, graph, start)? {
             return Ok(cycle);
         }
     }

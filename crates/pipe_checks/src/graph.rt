@@ -53,7 +53,7 @@ pub(crate) fn get_graph_rank_or_distance(
     list.get(stage).copied()
 }
 
-fn push_case_accesses(
+fn push_accesses_of_all_cases(
     found: &mut Vec<Access>,
     stages: &[Symbol],
     cases: &[Case],
@@ -92,7 +92,7 @@ pub(crate) fn collect_item_accesses(
     let mut found = Vec::new(alloc);
     match item {
         Item::Func(func) => {
-            push_case_accesses(&mut found, stages, func.cases.case_list())?;
+            push_accesses_of_all_cases(&mut found, stages, func.cases.case_list())?;
             push_otherwise_accesses(&mut found, stages, &func.otherwise)?;
         }
         Item::Accum(accum) => {

@@ -125,7 +125,10 @@ fn push_item_symbols(names: &mut Vec<Symbol>, item: &Item, number: usize) -> Res
 }
 
 /// The declared names in the order of the text.
-pub(crate) fn declared_names(alloc: Global, items: &[Item]) -> Result<Vec<Symbol>, AllocError>
+pub(crate) fn symbols_declared_by_items(
+    alloc: Global,
+    items: &[Item],
+) -> Result<Vec<Symbol>, AllocError>
     ensures { IfOk result (λ v. v.items ≡ names_from 0 (declarations items.now)) }
 {
     let mut names = Vec::new(alloc);
@@ -191,7 +194,7 @@ pub fn find_symbol_number(names: &[Symbol], name: &Name) -> Option<usize>
 pub fn declared_stages(alloc: Global, items: &[Item]) -> Result<Vec<Symbol>, AllocError>
     ensures { IfOk result (λ v. v.items ≡ stages_of (declarations items.now)) }
 {
-    let names = declared_names(alloc, items)?;
+    let names = symbols_declared_by_items(alloc, items)?;
     filter_stage_symbols(alloc, &names)
 }
 
@@ -200,6 +203,6 @@ pub fn declared_stages(alloc: Global, items: &[Item]) -> Result<Vec<Symbol>, All
 pub fn declared_tables(alloc: Global, items: &[Item]) -> Result<Vec<Symbol>, AllocError>
     ensures { IfOk result (λ v. v.items ≡ tables_of (declarations items.now)) }
 {
-    let names = declared_names(alloc, items)?;
+    let names = symbols_declared_by_items(alloc, items)?;
     filter_table_symbols(alloc, &names)
 }

@@ -2,11 +2,11 @@
 //! Tables of names, in the order in which the names were first seen.
 
 ghost use Rattle.std.specs.Prelude.{◌≡◌, [], IfOk, OnOk, is_some};
-ghost use Rattle.pipe_checks.specs.Names.{number_of, declared_at, declared_names};
+ghost use Rattle.pipe_checks.specs.Names.{number_of, declared_at, symbols_declared_by_items};
 ghost use Rattle.pipe_tree.specs.Tree.{declarations};
 ghost use Rattle.pipe_checks.specs.inside.Tables.{put, earlier, IsTableOf};
 
-use crate::symbol::{Symbol, declared_names};
+use crate::symbol::{Symbol, symbols_declared_by_items};
 use indexmap::IndexMap;
 use pipe_tokens::Name;
 use pipe_tree::Item;
@@ -93,7 +93,10 @@ fn choose_first_redeclaring_item(again: Option<usize>, item: usize) -> usize
     }
 }
 
-fn build_symbol_table(alloc: Global, names: &[Symbol]) -> Result<DeclaredNames, AllocError>
+fn build_symbol_table_and_redeclaring_item(
+    alloc: Global,
+    names: &[Symbol],
+) -> Result<DeclaredNames, AllocError>
     ensures { IfOk result (IsTableOf names.now) }
 {
     let mut table = SymbolTable::new(alloc);
@@ -107,12 +110,12 @@ fn build_symbol_table(alloc: Global, names: &[Symbol]) -> Result<DeclaredNames, 
 }
 
 /// The names that the items declare, each found in the table or added at its end.
-pub(crate) fn declare_all_symbols(
+pub(crate) fn declare_symbols_of_all_items(
     alloc: Global,
     items: &[Item],
 ) -> Result<DeclaredNames, AllocError>
-    ensures { IfOk result (IsTableOf (declared_names (declarations items.now))) }
+    ensures { IfOk result (IsTableOf (symbols_declared_by_items (declarations items.now))) }
 {
-    let names = declared_names(alloc, items)?;
-    build_symbol_table(alloc, &names)
+    let names = symbols_declared_by_items(alloc, items)?;
+    build_symbol_table_and_redeclaring_item(alloc, &names)
 }

@@ -3,10 +3,10 @@
 
 ghost use Rattle.std.specs.Prelude.{◌≡◌, IfSome, IfNone};
 ghost use Rattle.pipe_tree.specs.Tree.{declaration, declarations};
-ghost use Rattle.pipe_checks.specs.Names.{declared_names};
+ghost use Rattle.pipe_checks.specs.Names.{symbols_declared_by_items};
 ghost use Rattle.pipe_checks.specs.Checking.{IsFirstTwice, NoneTwice};
-ghost use Rattle.pipe_checks.specs.inside.Tables.{is_redeclaring_item, IsTableOf};
-ghost use Rattle.pipe_checks.specs.Twice.{item_variables, is_declared_variable, are_same_variables, has_reused_variable};
+ghost use Rattle.pipe_checks.specs.inside.Tables.{is_first_redeclaring_item, IsTableOf};
+ghost use Rattle.pipe_checks.specs.Twice.{item_variables, is_variable_with_declared_name, are_same_variables, has_variable_with_name_used_twice};
 
 use crate::symbol::is_same_name;
 use crate::table::{DeclaredNames, SymbolTable};
@@ -34,8 +34,8 @@ pub(crate) fn item_variables(item: &Item) -> ItemVariables
     }
 }
 
-fn is_redeclaring_item(first: Option<usize>, item: usize) -> bool
-    ensures { result ≡ is_redeclaring_item first item }
+fn is_first_redeclaring_item(first: Option<usize>, item: usize) -> bool
+    ensures { result ≡ is_first_redeclaring_item first item }
 {
     match first {
         Some(first) => first == item,
@@ -44,8 +44,8 @@ fn is_redeclaring_item(first: Option<usize>, item: usize) -> bool
 }
 
 // Whether a variable of an item is a declared name.
-fn is_declared_variable(names: &SymbolTable, variable: &Option<Name>) -> bool
-    ensures { result ≡ is_declared_variable names.now variable.now }
+fn is_variable_with_declared_name(names: &SymbolTable, variable: &Option<Name>) -> bool
+    ensures { result ≡ is_variable_with_declared_name names.now variable.now }
 {
     match variable {
         Some(name) => names.find_symbol_number(name).is_some(),
@@ -63,12 +63,12 @@ fn are_same_variables(row: &Option<Name>, column: &Option<Name>) -> bool
 }
 
 // Whether a variable equals the other variable of its item or a declared name.
-fn has_reused_variable(names: &SymbolTable, locals: &ItemVariables) -> bool
-    ensures { result ≡ has_reused_variable names.now locals.now }
+fn has_variable_with_name_used_twice(names: &SymbolTable, locals: &ItemVariables) -> bool
+    ensures { result ≡ has_variable_with_name_used_twice names.now locals.now }
 {
     are_same_variables(&locals.row, &locals.column)
-        || is_declared_variable(names, &locals.row)
-        || is_declared_variable(names, &locals.column)
+        || is_variable_with_declared_name(names, &locals.row)
+        || is_variable_with_declared_name(names, &locals.column)
 }
 
 /// The first item with a name that denotes two things.
@@ -76,16 +76,16 @@ pub(crate) fn find_item_with_name_declared_twice(
     declared: &DeclaredNames,
     items: &[Item],
 ) -> Option<usize>
-    requires { IsTableOf (declared_names (declarations items.now)) declared.now }
+    requires { IsTableOf (symbols_declared_by_items (declarations items.now)) declared.now }
     ensures first { IfSome result
-        (IsFirstTwice (declared_names (declarations items.now)) (declarations items.now)) }
+        (IsFirstTwice (symbols_declared_by_items (declarations items.now)) (declarations items.now)) }
     ensures none { IfNone result
-        (NoneTwice (declared_names (declarations items.now)) (declarations items.now)) }
-    ensures same { IfNone result (declared.now.table ≡ declared_names (declarations items.now)) }
+        (NoneTwice (symbols_declared_by_items (declarations items.now)) (declarations items.now)) }
+    ensures same { IfNone result (declared.now.table ≡ symbols_declared_by_items (declarations items.now)) }
 {
     for (number, item) in items.iter().enumerate() {
-        if is_redeclaring_item(declared.again, number)
-            || has_reused_variable(&declared.table, &item_variables(item))
+        if is_first_redeclaring_item(declared.again, number)
+            || has_variable_with_name_used_twice(&declared.table, &item_variables(item))
         {
             return Some(number);
         }

@@ -6,7 +6,7 @@ ghost use Rattle.std.specs.List.{list_all};
 ghost use Rattle.std.specs.Option.{option_map};
 ghost use Rattle.pipe_tree.specs.Tree.{view, branch, branches, function_of, accumulator_of, declaration};
 ghost use Rattle.pipe_checks.specs.Uses.{is_variable_named, allows, role_of, role_at, wrong_name, wrong_range, wrong_remainder, wrong_shift};
-ghost use Rattle.pipe_checks.specs.Uses.{is_stencil_kernel_side, wrong_kernel, factor_places, affine_places, span_places, index_places};
+ghost use Rattle.pipe_checks.specs.Uses.{is_odd_kernel_side_within_limit, wrong_kernel, factor_places, affine_places, span_places, index_places};
 ghost use Rattle.pipe_checks.specs.Uses.{least_literal, greatest_literal, read_places, stencil_places, expr_places, test_places};
 ghost use Rattle.pipe_checks.specs.Uses.{tests_places, branch_places, branches_places, otherwise_places, function_places};
 ghost use Rattle.pipe_checks.specs.Uses.{accumulator_places, output_places, places_of};
@@ -122,7 +122,7 @@ fn to_name_role(kind: SymbolKind) -> NameRole
     }
 }
 
-fn check_literal_range(number: u32, least: u32, most: u32) -> Result<(), Violation>
+fn check_literal_from_least_to_most(number: u32, least: u32, most: u32) -> Result<(), Violation>
     ensures { result ≡ verdict (wrong_range number least most) }
 {
     if least <= number && number <= most {
@@ -132,7 +132,7 @@ fn check_literal_range(number: u32, least: u32, most: u32) -> Result<(), Violati
     }
 }
 
-fn check_test_remainder(number: u32, bound: u32) -> Result<(), Violation>
+fn check_test_remainder_below_modulus(number: u32, bound: u32) -> Result<(), Violation>
     ensures { result ≡ verdict (wrong_remainder number bound) }
 {
     if number < bound {
@@ -153,8 +153,8 @@ fn check_index_addend(number: i32) -> Result<(), Violation>
 }
 
 /// Whether a kernel may have a side of this length.
-pub(crate) fn is_stencil_kernel_side(length: usize) -> bool
-    ensures { result ≡ is_stencil_kernel_side length }
+pub(crate) fn is_odd_kernel_side_within_limit(length: usize) -> bool
+    ensures { result ≡ is_odd_kernel_side_within_limit length }
 {
     length % 2 == 1 && length <= MAX_SIDE
 }
@@ -165,13 +165,13 @@ fn is_kernel_side_of_each_row(rows: &[StencilRow], width: usize) -> bool
     rows.iter().all(|row| row.entries().len() == width)
 }
 
-fn check_stencil_kernel(kernel: &Kernel) -> Result<(), Violation>
+fn check_stencil_kernel_sides(kernel: &Kernel) -> Result<(), Violation>
     ensures { result ≡ verdict (wrong_kernel kernel.now) }
 {
     let rows = kernel.rows();
     let width = measure_kernel_side_of_first_row(rows);
-    if is_stencil_kernel_side(rows.len())
-        && is_stencil_kernel_side(width)
+    if is_odd_kernel_side_within_limit(rows.len())
+        && is_odd_kernel_side_within_limit(width)
         && is_kernel_side_of_each_row(rows, width)
     {
         Ok(())
@@ -184,8 +184,8 @@ fn check_operator_literal(op: LiteralOp, number: u32) -> Result<(), Violation>
     ensures { result ≡ verdict (wrong_range number (least_literal op) (greatest_literal op)) }
 {
     match op {
-        LiteralOp::Div | LiteralOp::Rem => check_literal_range(number, 1, MAX_NUMBER),
-        LiteralOp::Shl | LiteralOp::Shr => check_literal_range(number, 0, MAX_SHIFT),
+        LiteralOp::Div | LiteralOp::Rem => check_literal_from_least_to_most(number, 1, MAX_NUMBER),
+        LiteralOp::Shl | LiteralOp::Shr => check_literal_from_least_to_most(number, 0, MAX_SHIFT),
     }
 }
 
@@ -270,10 +270,10 @@ fn check_read_index(
 ) -> Result<(), Violation>
     ensures { result ≡ judged names.now locals.now (index_places index.now expected) }
 {
-    check_literal_range(index.mul, 1, MAX_SCALE)?;
+    check_literal_from_least_to_most(index.mul, 1, MAX_SCALE)?;
     check_name_role(names, locals, &index.name, expected)?;
     check_index_addend(index.add)?;
-    check_literal_range(index.div, 1, MAX_SCALE)
+    check_literal_from_least_to_most(index.div, 1, MAX_SCALE)
 }
 
 fn check_read_expr(
@@ -300,15 +300,15 @@ fn check_stencil_expr(
     ensures { result ≡ judged names.now locals.now (stencil_places name.now divisor kernel.now) }
 {
     check_name_role(names, locals, name, ExpectedNameRole::Readable)?;
-    check_literal_range(divisor, 1, MAX_NUMBER)?;
-    check_stencil_kernel(kernel)
+    check_literal_from_least_to_most(divisor, 1, MAX_NUMBER)?;
+    check_stencil_kernel_sides(kernel)
 }
 
 fn check_expr(names: &SymbolTable, locals: &ItemVariables, expr: &Expr) -> Result<(), Violation>
     ensures { result ≡ judged names.now locals.now (expr_places (view expr.now)) }
 {
     match expr {
-        Expr::Number(number) => check_literal_range(*number, 0, MAX_NUMBER),
+        Expr::Number(number) => check_literal_from_least_to_most(*number, 0, MAX_NUMBER),
         Expr::Name(name) => check_name_role(names, locals, name, ExpectedNameRole::Number),
         Expr::Read(name, row, column) => check_read_expr(names, locals, name, row, column),
         Expr::Lookup(name, index) => {
@@ -356,8 +356,8 @@ fn check_condition_test(
         }
         Test::Remainder(name, modulus, remainder) => {
             check_name_role(names, locals, name, ExpectedNameRole::Variable)?;
-            check_literal_range(*modulus, 1, MAX_NUMBER)?;
-            check_test_remainder(*remainder, *modulus)
+            check_literal_from_least_to_most(*modulus, 1, MAX_NUMBER)?;
+            check_test_remainder_below_modulus(*remainder, *modulus)
         }
     }
 }
@@ -391,7 +391,7 @@ fn check_cases(names: &SymbolTable, locals: &ItemVariables, cases: &[Case]) -> R
     Ok(())
 }
 
-fn check_otherwise_expr(
+fn check_otherwise_expr_if_any(
     names: &SymbolTable,
     locals: &ItemVariables,
     otherwise: &Option<Expr>,
@@ -415,7 +415,7 @@ fn check_func_item(
     check_affine_span(names, locals, &func.row.span)?;
     check_affine_span(names, locals, &func.column.span)?;
     check_cases(names, locals, func.cases.case_list())?;
-    check_otherwise_expr(names, locals, &func.otherwise)
+    check_otherwise_expr_if_any(names, locals, &func.otherwise)
 }
 
 fn check_accum_item(
@@ -432,7 +432,7 @@ fn check_accum_item(
     check_expr(names, locals, &accum.bin)
 }
 
-fn check_output_names(
+fn check_output_names_are_functions(
     names: &SymbolTable,
     locals: &ItemVariables,
     outputs: &Names,
@@ -450,7 +450,7 @@ fn check_output_names(
 }
 
 /// The first place of the item that does not have what it requires, as a fault.
-pub(crate) fn check_item_places(
+pub(crate) fn check_names_and_numbers_of_item(
     names: &SymbolTable,
     locals: &ItemVariables,
     item: &Item,
@@ -467,8 +467,8 @@ pub(crate) fn check_item_places(
         Item::Func(func) => check_func_item(names, locals, func),
         Item::Accum(accum) => check_accum_item(names, locals, accum),
         Item::Output(output) => {
-            check_output_names(names, locals, &output.names)?;
-            check_literal_range(output.max, 1, MAX_SAMPLE)
+            check_output_names_are_functions(names, locals, &output.names)?;
+            check_literal_from_least_to_most(output.max, 1, MAX_SAMPLE)
         }
     }
 }

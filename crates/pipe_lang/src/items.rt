@@ -41,12 +41,12 @@ fn parse_table_item(parser: &mut TermParser<'_>) -> Result<Table, ParseError>
     parser.expect_keyword(Keyword::Table, Role::Plain)?;
     let name = parser.parse_name(Role::Table)?;
     let span = parser.parse_affine_span()?;
-    Ok(parser.expect_closing_punct(Table { name, span }, Punct::Semicolon)?)
+    Ok(parser.expect_punct_and_return_value(Table { name, span }, Punct::Semicolon)?)
 }
 
 // One name, or three.
 #[tactic(auto, unfolding(pipe_tree::specs::Reading::names))]
-fn parse_names(parser: &mut TermParser<'_>, role: Role) -> Result<Names, ParseError>
+fn parse_one_or_three_names(parser: &mut TermParser<'_>, role: Role) -> Result<Names, ParseError>
     ensures exact { Reads (λ ns. (ns, at parser.new)) result (reading.names role (at parser.old)) }
     ensures shorter { length parser.new.rest.now ≤ length parser.old.rest.now }
 {
@@ -67,7 +67,7 @@ fn parse_image_item(parser: &mut TermParser<'_>) -> Result<Image, ParseError>
     ensures shorter { length parser.new.rest.now ≤ length parser.old.rest.now }
 {
     parser.expect_keyword(Keyword::Image, Role::Plain)?;
-    let names = parse_names(parser, Role::Stage)?;
+    let names = parse_one_or_three_names(parser, Role::Stage)?;
     parser.expect_punct(Punct::OpenRound, Role::Plain)?;
     let rows = parser.parse_affine()?;
     parser.expect_punct(Punct::Comma, Role::Plain)?;
@@ -88,9 +88,9 @@ fn parse_variable_pair(parser: &mut TermParser<'_>) -> Result<(Variable, Variabl
     ensures shorter { length parser.new.rest.now ≤ length parser.old.rest.now }
 {
     parser.expect_punct(Punct::OpenRound, Role::Plain)?;
-    let row = parser.parse_variable()?;
+    let row = parser.parse_variable_with_span()?;
     parser.expect_punct(Punct::Comma, Role::Plain)?;
-    let column = parser.parse_variable()?;
+    let column = parser.parse_variable_with_span()?;
     parser.expect_punct(Punct::CloseRound, Role::Plain)?;
     Ok((row, column))
 }
@@ -106,9 +106,9 @@ fn parse_test(parser: &mut TermParser<'_>) -> Result<Test, ParseError>
         return Ok(Test::Compare(name, relation, parser.parse_affine()?));
     }
     parser.expect_punct(Punct::Percent, Role::Plain)?;
-    let modulus = parser.parse_number(Role::Plain)?;
+    let modulus = parser.parse_unsigned_number(Role::Plain)?;
     parser.expect_punct(Punct::Equals, Role::Plain)?;
-    let remainder = parser.parse_number(Role::Plain)?;
+    let remainder = parser.parse_unsigned_number(Role::Plain)?;
     Ok(Test::Remainder(name, modulus, remainder))
 }
 
@@ -130,18 +130,18 @@ fn parse_condition(parser: &mut TermParser<'_>) -> Result<Condition, ParseError>
 
 // `: VALUE;`
 #[tactic(auto, unfolding(pipe_tree::specs::Reading::value))]
-fn parse_case_value(parser: &mut TermParser<'_>) -> Result<Expr, ParseError>
+fn parse_value_after_colon(parser: &mut TermParser<'_>) -> Result<Expr, ParseError>
     ensures exact { Reads (λ e. (view e, at parser.new)) result
         (reading.value most_levels (at parser.old)) }
     ensures shorter { length parser.new.rest.now ≤ length parser.old.rest.now }
 {
     parser.expect_punct(Punct::Colon, Role::Plain)?;
     let value = parser.parse_expression(MAX_LEVELS)?;
-    Ok(parser.expect_closing_punct(value, Punct::Semicolon)?)
+    Ok(parser.expect_punct_and_return_value(value, Punct::Semicolon)?)
 }
 
 #[tactic(auto, using(crate::proofs::ItemUnrolled::next_case), unfolding(pipe_tree::specs::Reading::cases_at))]
-fn parse_cases(parser: &mut TermParser<'_>) -> Result<Cases, ParseError>
+fn parse_cases_before_else(parser: &mut TermParser<'_>) -> Result<Cases, ParseError>
     ensures exact { Reads (λ cs. (branches (cases_of cs), at parser.new)) result
         (reading.cases_at most_levels (at parser.old)) }
     ensures shorter { length parser.new.rest.now ≤ length parser.old.rest.now }
@@ -150,14 +150,14 @@ fn parse_cases(parser: &mut TermParser<'_>) -> Result<Cases, ParseError>
     while parser.is_keyword_ahead(Keyword::Case) {
         parser.expect_keyword(Keyword::Case, Role::Case)?;
         let condition = parse_condition(parser)?;
-        let value = parse_case_value(parser)?;
+        let value = parse_value_after_colon(parser)?;
         cases.push(Case { condition, value })?;
     }
     Ok(Cases::new(cases))
 }
 
 #[tactic(auto, unfolding(pipe_tree::specs::Reading::otherwise))]
-fn parse_else_value(parser: &mut TermParser<'_>) -> Result<Option<Expr>, ParseError>
+fn parse_else_value_if_any(parser: &mut TermParser<'_>) -> Result<Option<Expr>, ParseError>
     ensures exact { Reads (λ e. (option_map view e, at parser.new)) result
         (reading.otherwise most_levels (at parser.old)) }
     ensures shorter { length parser.new.rest.now ≤ length parser.old.rest.now }
@@ -166,7 +166,7 @@ fn parse_else_value(parser: &mut TermParser<'_>) -> Result<Option<Expr>, ParseEr
         return Ok(None);
     }
     parser.expect_keyword(Keyword::Else, Role::Plain)?;
-    Ok(Some(parse_case_value(parser)?))
+    Ok(Some(parse_value_after_colon(parser)?))
 }
 
 #[tactic(auto, unfolding(pipe_tree::specs::Reading::a_function))]
@@ -180,8 +180,8 @@ fn parse_func_item(parser: &mut TermParser<'_>) -> Result<Func, ParseError>
     let name = parser.parse_name(Role::Stage)?;
     let (row, column) = parse_variable_pair(parser)?;
     parser.expect_punct(Punct::OpenCurly, Role::Plain)?;
-    let cases = parse_cases(parser)?;
-    let otherwise = parse_else_value(parser)?;
+    let cases = parse_cases_before_else(parser)?;
+    let otherwise = parse_else_value_if_any(parser)?;
     let func = Func {
         name,
         row,
@@ -189,7 +189,7 @@ fn parse_func_item(parser: &mut TermParser<'_>) -> Result<Func, ParseError>
         cases,
         otherwise,
     };
-    Ok(parser.expect_closing_punct(func, Punct::CloseCurly)?)
+    Ok(parser.expect_punct_and_return_value(func, Punct::CloseCurly)?)
 }
 
 #[tactic(auto, unfolding(pipe_tree::specs::Reading::an_accumulator))]
@@ -217,7 +217,7 @@ fn parse_accum_item(parser: &mut TermParser<'_>) -> Result<Accum, ParseError>
         value,
         bin,
     };
-    Ok(parser.expect_closing_punct(accum, Punct::Semicolon)?)
+    Ok(parser.expect_punct_and_return_value(accum, Punct::Semicolon)?)
 }
 
 #[tactic(auto, unfolding(pipe_tree::specs::Reading::an_output))]
@@ -227,9 +227,9 @@ fn parse_output_item(parser: &mut TermParser<'_>) -> Result<Output, ParseError>
     ensures passes { OnOk result (length parser.new.rest.now < length parser.old.rest.now) }
 {
     parser.expect_keyword(Keyword::Output, Role::Plain)?;
-    let names = parse_names(parser, Role::Plain)?;
+    let names = parse_one_or_three_names(parser, Role::Plain)?;
     parser.expect_keyword(Keyword::Max, Role::Plain)?;
-    let max = parser.parse_number(Role::Plain)?;
+    let max = parser.parse_unsigned_number(Role::Plain)?;
     parser.expect_punct(Punct::Semicolon, Role::Plain)?;
     Ok(Output { names, max })
 }
@@ -250,7 +250,7 @@ fn classify_item_start(token: Option<Token>) -> ItemStart
 
 // The item ahead, which is not an image.
 #[tactic(auto, unfolding(pipe_tree::specs::Reading::item))]
-fn parse_item(parser: &mut TermParser<'_>) -> Result<Item, ParseError>
+fn parse_item_other_than_image(parser: &mut TermParser<'_>) -> Result<Item, ParseError>
     ensures exact { Reads (λ i. (declaration i, at parser.new)) result
         (reading.item most_levels (at parser.old)) }
     ensures shorter { length parser.new.rest.now ≤ length parser.old.rest.now }
@@ -268,7 +268,7 @@ fn parse_item(parser: &mut TermParser<'_>) -> Result<Item, ParseError>
 
 // Adds the items up to an image, a second output or the end after those that were read.
 #[tactic(auto, using(crate::proofs::ItemUnrolled::next_item), unfolding(pipe_tree::specs::Reading::others))]
-fn parse_items_up_to_image(
+fn parse_more_items_until_image_or_end(
     parser: &mut TermParser<'_>,
     items: &mut Vec<Item>,
 ) -> Result<(), ParseError>
@@ -276,8 +276,8 @@ fn parse_items_up_to_image(
         (reading.others most_levels (declarations items.old.items) (at parser.old)) }
     ensures shorter { length parser.new.rest.now ≤ length parser.old.rest.now }
 {
-    while can_begin_next_item(parser.peek_token(), items) {
-        let item = parse_item(parser)?;
+    while can_token_begin_next_non_image_item(parser.peek_token(), items) {
+        let item = parse_item_other_than_image(parser)?;
         items.push(item)?;
     }
     Ok(())
@@ -291,10 +291,10 @@ fn parse_all_items(parser: &mut TermParser<'_>) -> Result<Vec<Item>, ParseError>
     ensures shorter { length parser.new.rest.now ≤ length parser.old.rest.now }
 {
     let mut items = Vec::new(parser.alloc);
-    parse_items_up_to_image(parser, &mut items)?;
+    parse_more_items_until_image_or_end(parser, &mut items)?;
     let image = parse_image_item(parser)?;
     items.push(Item::Image(image))?;
-    parse_items_up_to_image(parser, &mut items)?;
+    parse_more_items_until_image_or_end(parser, &mut items)?;
     match parser.peek_token() {
         Some(_) => Err(parser.build_unexpected_token_error()),
         None => Ok(items),
@@ -309,7 +309,7 @@ fn has_output_item(items: &[Item]) -> bool
 
 // Whether the token begins one more item that is not an image.
 #[tactic(auto, using(crate::proofs::ItemUnrolled::any_declaration))]
-fn can_begin_next_item(token: Option<Token>, items: &[Item]) -> bool
+fn can_token_begin_next_non_image_item(token: Option<Token>, items: &[Item]) -> bool
     ensures { result ≡ reading.goes_on (declarations items.now) token }
 {
     match classify_item_start(token) {
@@ -320,7 +320,10 @@ fn can_begin_next_item(token: Option<Token>, items: &[Item]) -> bool
 }
 
 /// The items of all of the tokens.
-pub(crate) fn parse_program(alloc: Global, tokens: &[Token]) -> Result<Vec<Item>, ParseError>
+pub(crate) fn parse_program_items_from_tokens(
+    alloc: Global,
+    tokens: &[Token],
+) -> Result<Vec<Item>, ParseError>
     ensures { Reads (λ items. declarations items.items) result (program_of tokens.now) }
 {
     parse_all_items(&mut TermParser::new(alloc, tokens))

@@ -8,7 +8,7 @@ ghost use Rattle.pipe_tree.specs.Content.{content};
 ghost use Rattle.pipe_tree.specs.Faults.{IsText, IsFault};
 ghost use Rattle.pipe_tree.specs.FaultOf.{fault_of};
 
-use crate::items::parse_program;
+use crate::items::parse_program_items_from_tokens;
 use pipe_term_parser::ParseError;
 use pipe_tokens::lex;
 use pipe_tree::{MAX_BYTES, ParseFault, ParseFaultKind, Tree};
@@ -34,7 +34,7 @@ pub fn parse(alloc: Global, text: &[u8]) -> Result<Tree, ParseFault>
         return Err(ParseFault::TooLong(MAX_BYTES));
     }
     let lexed = lex(alloc, text)?;
-    match parse_program(alloc, &lexed.tokens) {
+    match parse_program_items_from_tokens(alloc, &lexed.tokens) {
         Ok(items) => Ok(Tree::new(items)),
         Err(ParseError::Memory) => Err(ParseFault::Memory),
         Err(ParseError::Fault(halt)) => {

@@ -4,14 +4,14 @@
 ghost use Rattle.std.specs.Prelude.{◌≡◌, ◌++◌, OnOk};
 ghost use Rattle.pipe_print.specs.Canonical.{term_tokens, affine_tokens, span_tokens, variable_tokens};
 
-use crate::printer::Printer;
+use crate::printer::TokenPrinter;
 use pipe_tokens::{Keyword, Punct};
 use pipe_tree::{Affine, AffineSpan, AffineTerm, Variable};
 use std::alloc::AllocError;
 
-impl Printer {
+impl TokenPrinter {
     // A term without its sign.
-    fn print_affine_term(&mut self, term: &AffineTerm) -> Result<(), AllocError>
+    fn print_unsigned_affine_term(&mut self, term: &AffineTerm) -> Result<(), AllocError>
         ensures { OnOk result (self.new ≡ self.old ++ term_tokens term.now) }
     {
         match &term.name {
@@ -21,7 +21,7 @@ impl Printer {
     }
 
     // The first term has a sign only where it is subtracted.
-    pub fn print_affine(&mut self, affine: &Affine) -> Result<(), AllocError>
+    pub fn print_affine_sum(&mut self, affine: &Affine) -> Result<(), AllocError>
         ensures { OnOk result (self.new ≡ self.old ++ affine_tokens affine.now) }
     {
         let [first, others @ ..] = affine.terms() else {
@@ -30,10 +30,10 @@ impl Printer {
         if first.negative {
             self.print_punct(Punct::Minus)?;
         }
-        self.print_affine_term(first)?;
+        self.print_unsigned_affine_term(first)?;
         for term in others {
-            self.print_sign(term.negative)?;
-            self.print_affine_term(term)?;
+            self.print_plus_or_minus(term.negative)?;
+            self.print_unsigned_affine_term(term)?;
         }
         Ok(())
     }
@@ -42,9 +42,9 @@ impl Printer {
         ensures { OnOk result (self.new ≡ self.old ++ span_tokens span.now) }
     {
         self.print_punct(Punct::OpenSquare)?;
-        self.print_affine(&span.first)?;
+        self.print_affine_sum(&span.first)?;
         self.print_punct(Punct::DotDot)?;
-        self.print_affine(&span.last)?;
+        self.print_affine_sum(&span.last)?;
         self.print_punct(Punct::CloseSquare)
     }
 

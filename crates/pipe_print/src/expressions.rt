@@ -10,7 +10,7 @@ use crate::forms::{
     choose_printed_relation_punct, choose_printed_ternary_keyword, choose_printed_unary_form,
 };
 use crate::place::ExpressionPlace;
-use crate::printer::Printer;
+use crate::printer::TokenPrinter;
 use operators::{BinaryOp, Relation, UnaryOp};
 use pipe_tokens::{Keyword, Punct};
 use pipe_tree::Expr;
@@ -39,8 +39,8 @@ fn is_printed_in_parentheses(e: &Expr, place: ExpressionPlace) -> bool
     }
 }
 
-impl Printer {
-    pub fn print_relation(&mut self, relation: Relation) -> Result<(), AllocError>
+impl TokenPrinter {
+    pub fn print_relation_punct(&mut self, relation: Relation) -> Result<(), AllocError>
         ensures { OnOk result (self.new ≡ self.old ++ mark_tokens (relation_mark relation)) }
     {
         self.print_punct(choose_printed_relation_punct(relation))
@@ -53,10 +53,10 @@ impl Printer {
     {
         if is_printed_in_parentheses(e, place) {
             self.print_punct(Punct::OpenRound)?;
-            self.print_ungrouped_expression(e)?;
+            self.print_expression_without_parentheses(e)?;
             self.print_punct(Punct::CloseRound)
         } else {
-            self.print_ungrouped_expression(e)
+            self.print_expression_without_parentheses(e)
         }
     }
 
@@ -77,7 +77,7 @@ impl Printer {
 
     // The expression without parentheses around it.
     #[cycle(expression)]
-    fn print_ungrouped_expression(&mut self, e: &Expr) -> Result<(), AllocError>
+    fn print_expression_without_parentheses(&mut self, e: &Expr) -> Result<(), AllocError>
         ensures { OnOk result (self.new ≡ self.old ++ expression_tokens (view e.now) ExpressionPlace.Sum) }
     {
         match e {

@@ -6,12 +6,12 @@ ghost use Rattle.pipe_print.specs.Canonical.{◌⌢◌, scaled_tokens, addend_to
 ghost use Rattle.pipe_print.specs.Canonical.{stencil_tokens, row_tokens, entry_tokens};
 
 use crate::lists::ListEntry;
-use crate::printer::Printer;
+use crate::printer::TokenPrinter;
 use pipe_tokens::{Keyword, Name, Punct};
 use pipe_tree::{Index, Kernel, StencilRow};
 use std::alloc::AllocError;
 
-impl Printer {
+impl TokenPrinter {
     // A number that is added or subtracted; nothing for 0.
     fn print_index_addend(&mut self, add: i32) -> Result<(), AllocError>
         ensures { OnOk result (self.new ≡ self.old ++ addend_tokens add) }
@@ -19,7 +19,7 @@ impl Printer {
         if add == 0 {
             return Ok(());
         }
-        self.print_sign(add < 0)?;
+        self.print_plus_or_minus(add < 0)?;
         self.print_number(add.unsigned_abs())
     }
 
@@ -35,7 +35,7 @@ impl Printer {
     }
 
     // What is divided.
-    fn print_index_dividend(&mut self, index: &Index) -> Result<(), AllocError>
+    fn print_scaled_index_name_and_addend(&mut self, index: &Index) -> Result<(), AllocError>
         ensures { OnOk result (self.new
             ≡ self.old
             ++ (scaled_tokens index.now.mul index.now.name ⌢ addend_tokens index.now.add)) }
@@ -48,10 +48,10 @@ impl Printer {
         ensures { OnOk result (self.new ≡ self.old ++ index_tokens index.now) }
     {
         if index.add == 0 || index.div == 1 {
-            self.print_index_dividend(index)?;
+            self.print_scaled_index_name_and_addend(index)?;
         } else {
             self.print_punct(Punct::OpenRound)?;
-            self.print_index_dividend(index)?;
+            self.print_scaled_index_name_and_addend(index)?;
             self.print_punct(Punct::CloseRound)?;
         }
         self.print_index_divisor(index.div)
@@ -91,7 +91,7 @@ impl Printer {
 impl ListEntry for StencilRow {
     ghost tokens = { row_tokens };
 
-    fn print_list_entry(&self, printer: &mut Printer) -> Result<(), AllocError> {
+    fn print_list_entry(&self, printer: &mut TokenPrinter) -> Result<(), AllocError> {
         printer.print_bracketed_entries(self.entries())
     }
 }
@@ -100,7 +100,7 @@ impl ListEntry for StencilRow {
 impl ListEntry for i32 {
     ghost tokens = { entry_tokens };
 
-    fn print_list_entry(&self, printer: &mut Printer) -> Result<(), AllocError> {
+    fn print_list_entry(&self, printer: &mut TokenPrinter) -> Result<(), AllocError> {
         if *self < 0 {
             printer.print_punct(Punct::Minus)?;
         }

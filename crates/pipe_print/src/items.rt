@@ -11,7 +11,7 @@ ghost use Rattle.pipe_print.specs.Canonical.{update_tokens, accumulator_tokens, 
 
 use crate::lists::ListEntry;
 use crate::place::ExpressionPlace;
-use crate::printer::Printer;
+use crate::printer::TokenPrinter;
 use operators::ReductionOp;
 use pipe_tokens::{Keyword, Punct, Token};
 use pipe_tree::{
@@ -29,7 +29,7 @@ fn choose_printed_reduction_keyword(fold: ReductionOp) -> Keyword
     }
 }
 
-impl Printer {
+impl TokenPrinter {
     fn print_param_item(&mut self, param: &Param) -> Result<(), AllocError>
         ensures { OnOk result (self.new ≡ self.old ++ param_tokens param.now) }
     {
@@ -69,15 +69,19 @@ impl Printer {
         self.print_keyword(Keyword::Image)?;
         self.print_names(&image.names)?;
         self.print_punct(Punct::OpenRound)?;
-        self.print_affine(&image.rows)?;
+        self.print_affine_sum(&image.rows)?;
         self.print_punct(Punct::Comma)?;
-        self.print_affine(&image.columns)?;
+        self.print_affine_sum(&image.columns)?;
         self.print_punct(Punct::CloseRound)?;
         self.print_punct(Punct::Semicolon)
     }
 
     // The variables of rows and columns.
-    fn print_variable_pair(&mut self, row: &Variable, column: &Variable) -> Result<(), AllocError>
+    fn print_variable_pair_with_spans(
+        &mut self,
+        row: &Variable,
+        column: &Variable,
+    ) -> Result<(), AllocError>
         ensures { OnOk result (self.new ≡ self.old ++ variables_tokens row.now column.now) }
     {
         self.print_punct(Punct::OpenRound)?;
@@ -94,7 +98,7 @@ impl Printer {
     }
 
     // `: VALUE;`
-    fn print_case_value(&mut self, value: &Expr) -> Result<(), AllocError>
+    fn print_colon_value_and_semicolon(&mut self, value: &Expr) -> Result<(), AllocError>
         ensures { OnOk result (self.new ≡ self.old ++ value_tokens (view value.now)) }
     {
         self.print_punct(Punct::Colon)?;
@@ -108,7 +112,7 @@ impl Printer {
         for case in cases {
             self.print_keyword(Keyword::Case)?;
             self.print_condition(&case.condition)?;
-            self.print_case_value(&case.value)?;
+            self.print_colon_value_and_semicolon(&case.value)?;
         }
         Ok(())
     }
@@ -120,7 +124,7 @@ impl Printer {
         match otherwise {
             Some(value) => {
                 self.print_keyword(Keyword::Else)?;
-                self.print_case_value(value)
+                self.print_colon_value_and_semicolon(value)
             }
             None => Ok(()),
         }
@@ -131,7 +135,7 @@ impl Printer {
     {
         self.print_keyword(Keyword::Func)?;
         self.print_name(&func.name)?;
-        self.print_variable_pair(&func.row, &func.column)?;
+        self.print_variable_pair_with_spans(&func.row, &func.column)?;
         self.print_punct(Punct::OpenCurly)?;
         self.print_cases(func.cases.case_list())?;
         self.print_else_value(&func.otherwise)?;
@@ -157,7 +161,7 @@ impl Printer {
         self.print_name(&accum.name)?;
         self.print_affine_span(&accum.bins)?;
         self.print_keyword(Keyword::Over)?;
-        self.print_variable_pair(&accum.row, &accum.column)?;
+        self.print_variable_pair_with_spans(&accum.row, &accum.column)?;
         self.print_accum_update(accum)
     }
 
@@ -189,12 +193,12 @@ impl Printer {
 impl ListEntry for Test {
     ghost tokens = { test_tokens };
 
-    fn print_list_entry(&self, printer: &mut Printer) -> Result<(), AllocError> {
+    fn print_list_entry(&self, printer: &mut TokenPrinter) -> Result<(), AllocError> {
         match self {
             Test::Compare(name, relation, bound) => {
                 printer.print_name(name)?;
-                printer.print_relation(*relation)?;
-                printer.print_affine(bound)
+                printer.print_relation_punct(*relation)?;
+                printer.print_affine_sum(bound)
             }
             Test::Remainder(name, modulus, remainder) => {
                 printer.print_name(name)?;

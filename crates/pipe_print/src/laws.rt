@@ -12,7 +12,7 @@ ghost use Rattle.pipe_print.specs.Within.{IsTextWithin};
 
 /// If a tree has a text, its canonical text is one too, and keeps all limits that the text keeps. All texts of a tree contain the
 /// canonical tokens in their order, with others between them. None is shorter than the canonical text.
-pub fn canonical_text_is_least()
+pub fn canonical_text_is_shortest_of_its_tree()
     ensures text { (bytes : List ℕ) (tree : List Declaration) → IsText bytes tree
         → IsText (canonical tree) tree }
     ensures fewest_tokens { (bytes : List ℕ) (tree : List Declaration) → IsText bytes tree

@@ -5,7 +5,7 @@ ghost use Rattle.std.specs.Prelude.{◌≡◌, List, [], ◌∷◌, ◌++◌, On
 ghost use Rattle.pipe_tokens.specs.declared.token.Token.{Token as TokenType};
 ghost use Rattle.pipe_print.specs.Canonical.{separated, bracketed};
 
-use crate::printer::Printer;
+use crate::printer::TokenPrinter;
 use pipe_tokens::{Punct, Token};
 use std::alloc::AllocError;
 
@@ -13,11 +13,11 @@ use std::alloc::AllocError;
 pub(crate) trait ListEntry {
     ghost tokens: { Self → List TokenType };
 
-    fn print_list_entry(&self, printer: &mut Printer) -> Result<(), AllocError>
+    fn print_list_entry(&self, printer: &mut TokenPrinter) -> Result<(), AllocError>
         ensures { OnOk result (printer.new ≡ printer.old ++ tokens self.now) };
 }
 
-impl Printer {
+impl TokenPrinter {
     // The entries, with the separator between neighbours.
     pub fn print_separated_entries<T: ListEntry>(
         &mut self,

@@ -1,5 +1,5 @@
 #![tactic(auto)]
-//! The tokens that were printed so far, and how one more is added after them. Each rule of the grammar is a method of `Printer`
+//! The tokens that were printed so far, and how one more is added after them. Each rule of the grammar is a method of `TokenPrinter`
 //! that prints what a parser reads by it.
 
 ghost use Rattle.std.specs.Prelude.{◌≡◌, [], ◌∷◌, ◌++◌, OnOk};
@@ -10,11 +10,11 @@ use std::alloc::{AllocError, Global};
 use std::marker::Model;
 
 #[derive(Drop)]
-pub(crate) struct Printer {
+pub(crate) struct TokenPrinter {
     pub tokens: Vec<Token>,
 }
 
-impl Model for Printer {
+impl Model for TokenPrinter {
     ghost use Rattle.std.specs.Prelude.{List};
     ghost use Rattle.pipe_tokens.specs.declared.token.Token.{Token as TokenType};
 
@@ -23,11 +23,11 @@ impl Model for Printer {
     ghost view = { λ p. p.tokens.items };
 }
 
-impl Printer {
+impl TokenPrinter {
     pub fn new(alloc: Global) -> Self
         ensures { result ≡ [] }
     {
-        Printer {
+        TokenPrinter {
             tokens: Vec::new(alloc),
         }
     }
@@ -64,7 +64,7 @@ impl Printer {
     }
 
     // `-` or `+`.
-    pub fn print_sign(&mut self, negative: bool) -> Result<(), AllocError>
+    pub fn print_plus_or_minus(&mut self, negative: bool) -> Result<(), AllocError>
         ensures { OnOk result (self.new ≡ self.old ++ sign_tokens negative) }
     {
         self.print_punct(if negative { Punct::Minus } else { Punct::Plus })

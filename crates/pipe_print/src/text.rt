@@ -5,7 +5,7 @@ ghost use Rattle.std.specs.Prelude.{◌≡◌, IfOk};
 ghost use Rattle.pipe_tree.specs.Content.{content};
 ghost use Rattle.pipe_print.specs.Canonical.{canonical};
 
-use crate::printer::Printer;
+use crate::printer::TokenPrinter;
 use pipe_tokens::spell_tokens;
 use pipe_tree::Tree;
 use std::alloc::{AllocError, Global};
@@ -16,7 +16,7 @@ use std::alloc::{AllocError, Global};
 pub fn print(alloc: Global, tree: &Tree) -> Result<Vec<u8>, AllocError>
     ensures { IfOk result (λ text. text.items ≡ canonical (content tree.now)) }
 {
-    let mut printer = Printer::new(alloc);
+    let mut printer = TokenPrinter::new(alloc);
     for item in tree.items() {
         printer.print_item(item)?;
     }

@@ -33,7 +33,7 @@ impl TermParser<'_> {
         if !is_number_token_ahead(self.peek_token()) {
             return Ok((1, Some(self.parse_name(Role::Plain)?)));
         }
-        let factor = self.parse_number(Role::Plain)?;
+        let factor = self.parse_unsigned_number(Role::Plain)?;
         if !self.is_punct_ahead(Punct::Star) {
             return Ok((factor, None));
         }
@@ -42,7 +42,7 @@ impl TermParser<'_> {
     }
 
     // Adds one more term after the others.
-    fn parse_affine_term(
+    fn parse_and_append_affine_term(
         &mut self,
         terms: &mut Vec<AffineTerm>,
         negative: bool,
@@ -68,10 +68,10 @@ impl TermParser<'_> {
     {
         let mut terms = Vec::new(self.alloc);
         let negative = self.parse_optional_minus()?;
-        self.parse_affine_term(&mut terms, negative)?;
+        self.parse_and_append_affine_term(&mut terms, negative)?;
         while interpret_token_ahead_as_sign(self.peek_token()).is_some() {
             let negative = self.parse_sign(Role::Plain)?;
-            self.parse_affine_term(&mut terms, negative)?;
+            self.parse_and_append_affine_term(&mut terms, negative)?;
         }
         Ok(Affine::new(terms))
     }
@@ -92,7 +92,7 @@ impl TermParser<'_> {
 
     /// A variable with its span.
     #[tactic(auto, unfolding(pipe_tree::specs::Reading::a_variable))]
-    pub fn parse_variable(&mut self) -> Result<Variable, ParseError>
+    pub fn parse_variable_with_span(&mut self) -> Result<Variable, ParseError>
         ensures exact { Reads (λ v. (v, at self.new)) result (reading.a_variable (at self.old)) }
         ensures shorter { length self.new.rest.now ≤ length self.old.rest.now }
     {

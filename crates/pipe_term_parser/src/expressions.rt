@@ -19,7 +19,7 @@ use pipe_tree::{CallOp, Expr, Opening, ParseFaultKind, ProductOp, Role, UnarySta
 
 impl TermParser<'_> {
     // The levels that are left after the token ahead, which opens one.
-    fn open_expression_level(&self, levels: u32) -> Result<u32, ParseError>
+    fn compute_expression_levels_left(&self, levels: u32) -> Result<u32, ParseError>
         ensures ok { IfOk result (λ rest. levels ≡ suc rest) }
         ensures err { IfErr result
             (λ e. (levels ≡ 0) × (e ≡ ParseError.Fault (halt_of ParseFaultKind.TooDeep self.now.rest.now))) }
@@ -53,7 +53,7 @@ impl TermParser<'_> {
 
     // An expression in a box of its own, as the operand of another.
     #[cycle(expression)]
-    fn parse_boxed_operand(&mut self, levels: u32) -> Result<Box<Expr>, ParseError>
+    fn parse_boxed_expression(&mut self, levels: u32) -> Result<Box<Expr>, ParseError>
         ensures exact { Reads (λ e. (view e.value, at self.new)) result
             (expression_at levels (at self.old)) }
         ensures shorter { length self.new.rest.now ≤ length self.old.rest.now }
@@ -80,7 +80,7 @@ impl TermParser<'_> {
                 ProductOp::Literal(op) => Expr::Literal(
                     op,
                     product,
-                    self.parse_number(Role::Plain)?,
+                    self.parse_unsigned_number(Role::Plain)?,
                 ),
             };
         }
@@ -94,12 +94,12 @@ impl TermParser<'_> {
         ensures shorter { length self.new.rest.now ≤ length self.old.rest.now }
     {
         match classify_unary_by_token_ahead(self.peek_token()) {
-            UnaryStart::Number => Ok(Expr::Number(self.parse_number(Role::Node)?)),
+            UnaryStart::Number => Ok(Expr::Number(self.parse_unsigned_number(Role::Node)?)),
             UnaryStart::Name => self.parse_named_expression(levels),
             UnaryStart::Stencil => self.parse_stencil(),
             UnaryStart::Opening(opening) => {
-                let levels = self.open_expression_level(levels)?;
-                self.parse_opened_level(opening, levels)
+                let levels = self.compute_expression_levels_left(levels)?;
+                self.parse_expression_that_opens_level(opening, levels)
             }
             UnaryStart::Nothing => Err(self.build_unexpected_token_error()),
         }
@@ -118,7 +118,7 @@ impl TermParser<'_> {
             return self.parse_read_after_name(name);
         }
         if self.is_punct_ahead(Punct::OpenSquare) {
-            let levels = self.open_expression_level(levels)?;
+            let levels = self.compute_expression_levels_left(levels)?;
             return self.parse_table_entry(name, levels);
         }
         Ok(Expr::Name(name))
@@ -132,14 +132,18 @@ impl TermParser<'_> {
         ensures shorter { length self.new.rest.now ≤ length self.old.rest.now }
     {
         self.expect_punct(Punct::OpenSquare, Role::Plain)?;
-        let index = self.parse_boxed_operand(levels)?;
+        let index = self.parse_boxed_expression(levels)?;
         self.expect_punct(Punct::CloseSquare, Role::Plain)?;
         Ok(Expr::Lookup(name, index))
     }
 
     // What opens a level, with `levels` left after it.
     #[cycle(expression)]
-    fn parse_opened_level(&mut self, opening: Opening, levels: u32) -> Result<Expr, ParseError>
+    fn parse_expression_that_opens_level(
+        &mut self,
+        opening: Opening,
+        levels: u32,
+    ) -> Result<Expr, ParseError>
         ensures exact { Reads (λ e. (view e, at self.new)) result
             (reading.opened (unary_at levels) (expression_at levels) opening (at self.old)) }
         ensures shorter { length self.new.rest.now ≤ length self.old.rest.now }
@@ -153,13 +157,13 @@ impl TermParser<'_> {
             Opening::Group => {
                 self.expect_punct(Punct::OpenRound, Role::Plain)?;
                 let inner = self.parse_expression(levels)?;
-                Ok(self.expect_closing_punct(inner, Punct::CloseRound)?)
+                Ok(self.expect_punct_and_return_value(inner, Punct::CloseRound)?)
             }
             Opening::Call => {
                 let call = self.parse_called_operator()?;
                 self.expect_punct(Punct::OpenRound, Role::Plain)?;
-                let called = self.parse_call_arguments(call, levels)?;
-                Ok(self.expect_closing_punct(called, Punct::CloseRound)?)
+                let called = self.parse_arguments_into_call(call, levels)?;
+                Ok(self.expect_punct_and_return_value(called, Punct::CloseRound)?)
             }
             Opening::Select => self.parse_select(levels),
         }
@@ -167,25 +171,25 @@ impl TermParser<'_> {
 
     // The rest of a call, after its opening parenthesis.
     #[cycle(expression)]
-    fn parse_call_arguments(&mut self, call: CallOp, levels: u32) -> Result<Expr, ParseError>
+    fn parse_arguments_into_call(&mut self, call: CallOp, levels: u32) -> Result<Expr, ParseError>
         ensures exact { Reads (λ e. (view e, at self.new)) result
             (reading.arguments (expression_at levels) call (at self.old)) }
         ensures shorter { length self.new.rest.now ≤ length self.old.rest.now }
     {
         match call {
-            CallOp::Unary(op) => Ok(Expr::Unary(op, self.parse_boxed_operand(levels)?)),
+            CallOp::Unary(op) => Ok(Expr::Unary(op, self.parse_boxed_expression(levels)?)),
             CallOp::Binary(op) => {
-                let left = self.parse_boxed_operand(levels)?;
+                let left = self.parse_boxed_expression(levels)?;
                 self.expect_punct(Punct::Comma, Role::Plain)?;
-                let right = self.parse_boxed_operand(levels)?;
+                let right = self.parse_boxed_expression(levels)?;
                 Ok(Expr::Binary(op, left, right))
             }
             CallOp::Ternary(op) => {
-                let first = self.parse_boxed_operand(levels)?;
+                let first = self.parse_boxed_expression(levels)?;
                 self.expect_punct(Punct::Comma, Role::Plain)?;
-                let second = self.parse_boxed_operand(levels)?;
+                let second = self.parse_boxed_expression(levels)?;
                 self.expect_punct(Punct::Comma, Role::Plain)?;
-                let third = self.parse_boxed_operand(levels)?;
+                let third = self.parse_boxed_expression(levels)?;
                 Ok(Expr::Ternary(op, first, second, third))
             }
         }
@@ -199,13 +203,13 @@ impl TermParser<'_> {
     {
         self.expect_keyword(Keyword::Select, Role::Node)?;
         self.expect_punct(Punct::OpenRound, Role::Plain)?;
-        let left = self.parse_boxed_operand(levels)?;
+        let left = self.parse_boxed_expression(levels)?;
         let relation = self.parse_relation()?;
-        let right = self.parse_boxed_operand(levels)?;
+        let right = self.parse_boxed_expression(levels)?;
         self.expect_punct(Punct::Comma, Role::Plain)?;
-        let then = self.parse_boxed_operand(levels)?;
+        let then = self.parse_boxed_expression(levels)?;
         self.expect_punct(Punct::Comma, Role::Plain)?;
-        let otherwise = self.parse_boxed_operand(levels)?;
+        let otherwise = self.parse_boxed_expression(levels)?;
         self.expect_punct(Punct::CloseRound, Role::Plain)?;
         Ok(Expr::Select(left, relation, right, then, otherwise))
     }

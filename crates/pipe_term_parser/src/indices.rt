@@ -36,7 +36,7 @@ impl TermParser<'_> {
         if !is_number_token_ahead(self.peek_token()) {
             return Ok((1, self.parse_name(Role::Plain)?));
         }
-        let mul = self.parse_number(Role::Plain)?;
+        let mul = self.parse_unsigned_number(Role::Plain)?;
         self.expect_punct(Punct::Star, Role::Plain)?;
         Ok((mul, self.parse_name(Role::Plain)?))
     }
@@ -51,7 +51,7 @@ impl TermParser<'_> {
             return Ok(0);
         }
         let negative = self.parse_sign(Role::Plain)?;
-        let number = self.parse_number(Role::Plain)?;
+        let number = self.parse_unsigned_number(Role::Plain)?;
         Ok(apply_sign_to_literal(negative, number))
     }
 
@@ -61,7 +61,7 @@ impl TermParser<'_> {
         ensures shorter { length self.new.rest.now ≤ length self.old.rest.now }
     {
         self.expect_punct(Punct::Slash, Role::Plain)?;
-        self.parse_number(Role::Plain)
+        self.parse_unsigned_number(Role::Plain)
     }
 
     #[tactic(auto, unfolding(pipe_tree::specs::Reading::index))]
@@ -132,7 +132,7 @@ impl TermParser<'_> {
         self.expect_punct(Punct::OpenRound, Role::Plain)?;
         let name = self.parse_name(Role::Plain)?;
         self.expect_punct(Punct::Comma, Role::Plain)?;
-        let divisor = self.parse_number(Role::Plain)?;
+        let divisor = self.parse_unsigned_number(Role::Plain)?;
         self.expect_punct(Punct::Comma, Role::Plain)?;
         let kernel = self.parse_kernel()?;
         self.expect_punct(Punct::CloseRound, Role::Plain)?;
@@ -181,7 +181,7 @@ impl TermParser<'_> {
         ensures shorter { length self.new.rest.now ≤ length self.old.rest.now }
     {
         let negative = self.parse_optional_minus()?;
-        let number = self.parse_number(Role::Plain)?;
+        let number = self.parse_unsigned_number(Role::Plain)?;
         Ok(apply_sign_to_literal(negative, number))
     }
 }

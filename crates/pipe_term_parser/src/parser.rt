@@ -104,12 +104,12 @@ impl TermParser<'_> {
     }
 
     // Passes the token ahead, which counts as the role.
-    pub(crate) fn consume_token(&mut self, role: Role) -> Result<(), ParseError>
+    pub(crate) fn consume_and_count_token(&mut self, role: Role) -> Result<(), ParseError>
         ensures exact { Reads (λ _. (tt, at self.new)) result (reading.begin role (at self.old)) }
         ensures shorter { length self.new.rest.now ≤ length self.old.rest.now }
         ensures passes { OnOk result (self.new.rest.now ≡ tail self.old.rest.now) }
     {
-        let Some(counts) = self.counts.increment_within_limits(role) else {
+        let Some(counts) = self.counts.compute_counts_within_limits_after_role(role) else {
             return Err(self.build_parse_error(ParseFaultKind::TooMany));
         };
         self.counts = counts;
@@ -128,7 +128,7 @@ impl TermParser<'_> {
         ensures passes { OnOk result (length self.new.rest.now < length self.old.rest.now) }
     {
         if self.is_punct_ahead(mark) {
-            self.consume_token(role)
+            self.consume_and_count_token(role)
         } else {
             Err(self.build_unexpected_token_error())
         }
@@ -149,12 +149,16 @@ impl TermParser<'_> {
         let Some(meaning) = meaning else {
             return Err(self.build_unexpected_token_error());
         };
-        self.consume_token(role)?;
+        self.consume_and_count_token(role)?;
         Ok(meaning)
     }
 
     /// Returns what was read, if this punctuation comes after it.
-    pub fn expect_closing_punct<T: Drop>(&mut self, value: T, mark: Punct) -> Result<T, ParseError>
+    pub fn expect_punct_and_return_value<T: Drop>(
+        &mut self,
+        value: T,
+        mark: Punct,
+    ) -> Result<T, ParseError>
         ensures exact { Reads (λ _. (tt, at self.new)) result
             (reading.mark mark Role.Plain (at self.old)) }
         ensures shorter { length self.new.rest.now ≤ length self.old.rest.now }
@@ -173,7 +177,7 @@ impl TermParser<'_> {
         ensures passes { OnOk result (length self.new.rest.now < length self.old.rest.now) }
     {
         if self.is_keyword_ahead(word) {
-            self.consume_token(role)
+            self.consume_and_count_token(role)
         } else {
             Err(self.build_unexpected_token_error())
         }
@@ -189,14 +193,14 @@ impl TermParser<'_> {
     }
 
     /// Reads a number of at most 2,147,483,647, which counts as the role.
-    pub fn parse_number(&mut self, role: Role) -> Result<u32, ParseError>
+    pub fn parse_unsigned_number(&mut self, role: Role) -> Result<u32, ParseError>
         ensures exact { Reads (λ n. (n, at self.new)) result (reading.int role (at self.old)) }
         ensures shorter { length self.new.rest.now ≤ length self.old.rest.now }
         ensures fits { IfOk result (λ n. n ≤ MAX_NUMBER) }
     {
         match self.peek_token() {
             Some(Token::Int(value)) if value <= MAX_NUMBER => {
-                self.consume_token(role)?;
+                self.consume_and_count_token(role)?;
                 Ok(value)
             }
             Some(Token::Int(_) | Token::TooBig) => Err(self.build_parse_error(

@@ -16,7 +16,7 @@ use Rattle.std.proofs.lemmas.List.Recursion.{same_from_clauses}
 use Rattle.pipe_tokens.specs.declared.token.Token.{Token}
 use Rattle.pipe_tokens.specs.declared.token.Token.TheVariants as tokens
 use Rattle.pipe_tokens.specs.Character.{is_white, is_comment_byte, is_name_byte}
-use Rattle.pipe_tokens.specs.Naming.{is_identifier, is_name}
+use Rattle.pipe_tokens.specs.Naming.{is_identifier, is_identifier_of_name_length}
 use Rattle.pipe_tokens.specs.Spelled.{bytes_of_word}
 use Rattle.pipe_tokens.specs.Lexing.{gap, lexeme, token_of_word, token_of_digits, word_piece, digits_piece, piece_of}
 use Rattle.pipe_tokens.specs.Spelling.{bytes_of, begins_word, HasSpelling}
@@ -80,14 +80,14 @@ pub token_is_piece : (token : Token) (rest : List ℕ) → HasSpelling token →
 token_is_piece (tokens.Keyword word) rest h stops =
     identifier_is_piece (bytes_of_word word) rest (word_is_identifier word) (stops refl)
     ∙ ap (λ (found : Option _). lexeme
-    (unwrap_or (option_map tokens.Keyword found) (cond (is_name (bytes_of_word word)) (tokens.Name (bytes_of_word word)) tokens.Bad))
+    (unwrap_or (option_map tokens.Keyword found) (cond (is_identifier_of_name_length (bytes_of_word word)) (tokens.Name (bytes_of_word word)) tokens.Bad))
     (length (bytes_of_word word))) (word_of-bytes_of_word word)
 token_is_piece (tokens.Punct mark) rest h stops = mark_is_piece mark rest
 token_is_piece (tokens.Name name) rest h stops =
     identifier_is_piece name rest (and_parts (is_identifier name) (leb (length name) 32) h.0).0 (stops refl)
-    ∙ ap (λ (found : Option _). lexeme (unwrap_or (option_map tokens.Keyword found) (cond (is_name name) (tokens.Name name) tokens.Bad))
+    ∙ ap (λ (found : Option _). lexeme (unwrap_or (option_map tokens.Keyword found) (cond (is_identifier_of_name_length name) (tokens.Name name) tokens.Bad))
     (length name)) h.1
-    ∙ ap (λ (t : Token). lexeme t (length name)) (cond-true (is_name name) (tokens.Name name) tokens.Bad h.0)
+    ∙ ap (λ (t : Token). lexeme t (length name)) (cond-true (is_identifier_of_name_length name) (tokens.Name name) tokens.Bad h.0)
 token_is_piece (tokens.Int value) rest h stops =
     let small : value < 2 ^ 64 = omega arith in
     let value_is : digits_value 10 (decimal value) ≡ value = digits_value-decimal numerals value small in

@@ -16,7 +16,7 @@ use Rattle.pipe_tokens.specs.declared.token.Keyword.{Keyword}
 use Rattle.pipe_tokens.specs.declared.token.Punct.{Punct}
 use Rattle.pipe_tokens.specs.declared.piece.Piece.{Piece}
 use Rattle.pipe_tokens.specs.Character.{is_comment_byte, is_name_byte}
-use Rattle.pipe_tokens.specs.Naming.{is_identifier, is_name}
+use Rattle.pipe_tokens.specs.Naming.{is_identifier, is_identifier_of_name_length}
 use Rattle.pipe_tokens.specs.Spelled.{word_of, bytes_of_mark, mark_at}
 use Rattle.pipe_tokens.specs.Lexing.{lexeme, token_of_word, token_of_digits, piece_from, piece_of, is_fault}
 use Rattle.pipe_tokens.specs.Cutting.{Gap, white, comment, IsDigits, Spells, IsLongest, BeginsNothing, BeginsDigitsAndLetter, StandsAt}
@@ -65,7 +65,7 @@ identifier_in_name (b ∷ bytes) e =
     let parts = and_parts (is_ascii_alphabetic b) (list_all is_name_byte bytes) e in
     (omega arith, and_from (is_name_byte b) (list_all is_name_byte bytes) (letter_in_name b parts.0) parts.1)
 
-pub named_identifier : (name : List ℕ) → is_name name ≡ true → is_identifier name ≡ true
+pub named_identifier : (name : List ℕ) → is_identifier_of_name_length name ≡ true → is_identifier name ≡ true
 named_identifier name e = (and_parts (is_identifier name) (leb (length name) 32) e).0
 
 -- ---- what begins as the text does
@@ -148,12 +148,12 @@ module _ (b : ℕ) (bytes : List ℕ) where
       parts = sym (take-append-drop (prefix_len is_name_byte text) text)
 
       go : (found : Option Keyword) → word_of run ≡ found
-          → Stands (unwrap_or (option_map tokens.Keyword found) (cond (is_name run) (tokens.Name run) tokens.Bad))
+          → Stands (unwrap_or (option_map tokens.Keyword found) (cond (is_identifier_of_name_length run) (tokens.Name run) tokens.Bad))
           (prefix_len is_name_byte text)
       go (Some word) is =
           (λ _. word_longest (tokens.Keyword word) (prefix_len is_name_byte text) some refl (sym (word_is run word is)), λ fault. absurd cc)
       go None is =
-          cond_both (is_name run) (tokens.Name run) tokens.Bad (λ (t : Token). Stands t (prefix_len is_name_byte text))
+          cond_both (is_identifier_of_name_length run) (tokens.Name run) tokens.Bad (λ (t : Token). Stands t (prefix_len is_name_byte text))
           (λ short. (λ _. word_longest (tokens.Name run) (prefix_len is_name_byte text) some refl ((short, is), refl), λ fault. absurd cc))
           (λ long. fault_stands tokens.Bad (prefix_len is_name_byte text) refl (
             refl,
@@ -161,7 +161,7 @@ module _ (b : ℕ) (bytes : List ℕ) where
                 { name = run; others = drop (prefix_len is_name_byte text) text; parts = parts; named = named; long = long_of long })),
           ))
         where
-          long_of : is_name run ≡ false → 32 < length run
+          long_of : is_identifier_of_name_length run ≡ false → 32 < length run
           long_of fails =
               elim (and_cases (is_identifier run) (leb (length run) 32) fails)
               [ inl h ↦ absurd (both_ways (is_identifier run) h named) | inr h ↦ leb-false (length run) 32 h ]

@@ -3,13 +3,13 @@ use Rattle.std.proofs.Common.{◌≡◌, ℕ, ◌-◌, ◌≤◌, true, List, �
 use Rattle.std.specs.Prelude.{IsTrue, replicate}
 use Rattle.std.proofs.lemmas.List.{length-append, length-replicate, take_at, drop_at, drop-replicate}
 use Rattle.std.proofs.lemmas.Bool.{and_parts, leb-true}
-use Rattle.pipe_tokens.specs.Naming.{is_identifier, is_name, HoldsName}
+use Rattle.pipe_tokens.specs.Naming.{is_identifier, is_identifier_of_name_length, HoldsName}
 
 -- a name has at most 32 bytes
-pub short_name : (bytes : List ℕ) → is_name bytes ≡ true → length bytes ≤ 32
+pub short_name : (bytes : List ℕ) → is_identifier_of_name_length bytes ≡ true → length bytes ≤ 32
 short_name bytes e = leb-true _ _ (and_parts (is_identifier bytes) _ e).1
 
-pub holds_name : (bytes : List ℕ) → is_name bytes ≡ true → HoldsName (bytes ++ drop (length bytes) (replicate 32 0)) (length bytes)
+pub holds_name : (bytes : List ℕ) → is_identifier_of_name_length bytes ≡ true → HoldsName (bytes ++ drop (length bytes) (replicate 32 0)) (length bytes)
 holds_name bytes e =
     let short = short_name bytes e in
     let zeros : drop (length bytes) (replicate 32 0) ≡ replicate (32 - length bytes) 0 = drop-replicate (length bytes) 32 0 in
@@ -21,6 +21,6 @@ holds_name bytes e =
       name =
           let same : take (length bytes) (bytes ++ drop (length bytes) (replicate 32 0)) ≡ bytes =
           take_at bytes (drop (length bytes) (replicate 32 0)) (length bytes) refl in
-          subst (λ (x : List ℕ). IsTrue (is_name x)) (sym same) e;
+          subst (λ (x : List ℕ). IsTrue (is_identifier_of_name_length x)) (sym same) e;
       padded = drop_at bytes (drop (length bytes) (replicate 32 0)) (length bytes) refl ∙ zeros;
     }

@@ -17,7 +17,7 @@ use Rattle.pipe_tokens.specs.declared.token.Keyword.{Keyword}
 use Rattle.pipe_tokens.specs.declared.token.Punct.{Punct}
 use Rattle.pipe_tokens.specs.declared.piece.Piece.{Piece}
 use Rattle.pipe_tokens.specs.Character.{is_white, is_comment_byte, is_name_byte}
-use Rattle.pipe_tokens.specs.Naming.{is_identifier, is_name}
+use Rattle.pipe_tokens.specs.Naming.{is_identifier, is_identifier_of_name_length}
 use Rattle.pipe_tokens.specs.Spelled.{word_of, bytes_of_mark, mark_at}
 use Rattle.pipe_tokens.specs.Lexing.{gap, lexeme, token_of_word, token_of_digits, word_piece, digits_piece, mark_piece, piece_of}
 use Rattle.pipe_tokens.specs.Lexing.{Lexeme, is_fault, lexemes_with, lexemes_from, tokens_of, starts_of}
@@ -94,17 +94,17 @@ pub longest_is_piece : (token : Token) (bytes rest : List ℕ) → IsLongest tok
     → piece_of (bytes ++ rest) ≡ lexeme token (length bytes)
 longest_is_piece (tokens.Keyword word) bytes rest h =
     word_piece_is (tokens.Keyword word) bytes rest (ap is_identifier h.spelled ∙ word_is_identifier word) h
-    (ap (λ (found : Option Keyword). unwrap_or (option_map tokens.Keyword found) (cond (is_name bytes) (tokens.Name bytes) tokens.Bad))
+    (ap (λ (found : Option Keyword). unwrap_or (option_map tokens.Keyword found) (cond (is_identifier_of_name_length bytes) (tokens.Name bytes) tokens.Bad))
     (ap word_of h.spelled ∙ word_of-bytes_of_word word))
 longest_is_piece (tokens.Punct mark) bytes rest h =
     ap (λ (x : List ℕ). piece_of (x ++ rest)) h.spelled ∙ mark_is_piece mark rest
     ∙ ap (λ (x : List ℕ). lexeme (tokens.Punct mark) (length x)) (sym h.spelled)
 longest_is_piece (tokens.Name name) bytes rest h =
-    let named : is_name bytes ≡ true = ap is_name h.spelled.1 ∙ h.spelled.0.0 in
+    let named : is_identifier_of_name_length bytes ≡ true = ap is_identifier_of_name_length h.spelled.1 ∙ h.spelled.0.0 in
     word_piece_is (tokens.Name name) bytes rest (named_identifier bytes named) h
-    (ap (λ (found : Option Keyword). unwrap_or (option_map tokens.Keyword found) (cond (is_name bytes) (tokens.Name bytes) tokens.Bad))
+    (ap (λ (found : Option Keyword). unwrap_or (option_map tokens.Keyword found) (cond (is_identifier_of_name_length bytes) (tokens.Name bytes) tokens.Bad))
     (ap word_of h.spelled.1 ∙ h.spelled.0.1)
-    ∙ cond-true (is_name bytes) (tokens.Name bytes) tokens.Bad named ∙ ap tokens.Name h.spelled.1)
+    ∙ cond-true (is_identifier_of_name_length bytes) (tokens.Name bytes) tokens.Bad named ∙ ap tokens.Name h.spelled.1)
 longest_is_piece (tokens.Int value) bytes rest h =
     digits_piece_is (tokens.Int value) bytes rest h.spelled.0 h
     (cond-true (leb (digits_value 10 bytes) 2147483647) (tokens.Int (digits_value 10 bytes)) tokens.TooBig
@@ -186,10 +186,10 @@ long_run_is_bad b bytes letter long =
     len = length-prefix_len is_name_byte (b ∷ bytes)
 
     go : (found : Option Keyword) → word_of run ≡ found
-        → unwrap_or (option_map tokens.Keyword found) (cond (is_name run) (tokens.Name run) tokens.Bad) ≡ tokens.Bad
+        → unwrap_or (option_map tokens.Keyword found) (cond (is_identifier_of_name_length run) (tokens.Name run) tokens.Bad) ≡ tokens.Bad
     go (Some word) is = absurd (omega (arith, word_short word, ap length (word_is run word is), len, long))
     go None is =
-        cond-false (is_name run) (tokens.Name run) tokens.Bad
+        cond-false (is_identifier_of_name_length run) (tokens.Name run) tokens.Bad
         (and_right (is_identifier run) (leb (length run) 32) (lt-leb (length run) 32 (omega (arith, len, long))))
 
 long_name_is_bad : (text : List ℕ) → BeginsLongName text → (piece_of text).token ≡ Some tokens.Bad

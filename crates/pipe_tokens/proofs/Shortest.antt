@@ -20,7 +20,7 @@ use Rattle.pipe_tokens.specs.declared.token.Keyword.{Keyword}
 use Rattle.pipe_tokens.specs.declared.token.Punct.{Punct}
 use Rattle.pipe_tokens.specs.declared.piece.Piece.{Piece}
 use Rattle.pipe_tokens.specs.Character.{is_name_byte}
-use Rattle.pipe_tokens.specs.Naming.{is_name}
+use Rattle.pipe_tokens.specs.Naming.{is_identifier_of_name_length}
 use Rattle.pipe_tokens.specs.Spelled.{bytes_of_word, word_of, all_words, bytes_of_mark, mark_at}
 use Rattle.pipe_tokens.specs.Lexing.{lexeme, token_of_word, token_of_digits}
 use Rattle.pipe_tokens.specs.Lexing.{piece_of, Lexeme, is_fault, lexemes_with, lexemes_from, tokens_of}
@@ -53,11 +53,11 @@ word_taken : (text bytes : List ℕ) (len : ℕ) → length bytes ≡ len → 0 
 word_taken text bytes len len_is begins stops = go (word_of bytes) refl
   where
     go : (found : Option Keyword) → word_of bytes ≡ found
-        → Taken text (unwrap_or (option_map tokens.Keyword found) (cond (is_name bytes) (tokens.Name bytes) tokens.Bad)) len
+        → Taken text (unwrap_or (option_map tokens.Keyword found) (cond (is_identifier_of_name_length bytes) (tokens.Name bytes) tokens.Bad)) len
     go (Some word) e =
         record { short = omega (arith, ap length (word_is bytes word e), len_is); begins = λ _. begins; stops = λ _. stops; readable = tt }
     go None e =
-        cond_both (is_name bytes) (tokens.Name bytes) tokens.Bad (λ (t : Token). Taken text t len)
+        cond_both (is_identifier_of_name_length bytes) (tokens.Name bytes) tokens.Bad (λ (t : Token). Taken text t len)
         (λ named. record { short = omega (arith, len_is); begins = λ _. begins; stops = λ _. stops; readable = (named, e) })
         (λ _. record { short = omega arith; begins = λ no_word. absurd cc; stops = λ no_word. absurd cc; readable = tt })
 

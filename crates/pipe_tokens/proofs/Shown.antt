@@ -8,7 +8,7 @@ use Rattle.std.proofs.lemmas.Bool.{and_parts, or_cases, leb-true, eqb-true}
 use Rattle.std.specs.Int.{is_in_range}
 use Rattle.std.proofs.lemmas.Str.{IsUtf8-from_ascii}
 use Rattle.pipe_tokens.specs.Character.{is_name_byte}
-use Rattle.pipe_tokens.specs.Naming.{is_identifier, is_name}
+use Rattle.pipe_tokens.specs.Naming.{is_identifier, is_identifier_of_name_length}
 use Rattle.pipe_tokens.proofs.Characters.{letter_in_name}
 
 range_below : (lo hi b : ℕ) → is_in_range lo hi b ≡ true → b ≤ hi
@@ -36,5 +36,5 @@ identifier_low [] h i = absurd (cc)
 identifier_low (b ∷ bytes) h zero = name_byte_low b (letter_in_name b (and_parts (is_ascii_alphabetic b) (list_all is_name_byte bytes) h).0)
 identifier_low (b ∷ bytes) h (suc i) = bytes_low bytes (and_parts (is_ascii_alphabetic b) (list_all is_name_byte bytes) h).1 i
 
-pub name_is_text : (bytes : List ℕ) → IsTrue (is_name bytes) → IsUtf8 bytes
+pub name_is_text : (bytes : List ℕ) → IsTrue (is_identifier_of_name_length bytes) → IsUtf8 bytes
 name_is_text bytes h = IsUtf8-from_ascii bytes (identifier_low bytes (and_parts (is_identifier bytes) _ h).0)

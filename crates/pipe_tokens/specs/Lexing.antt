@@ -9,7 +9,7 @@ use Rattle.pipe_tokens.specs.declared.token.Token.{Token}
 use Rattle.pipe_tokens.specs.declared.token.Token.TheVariants as tokens
 use Rattle.pipe_tokens.specs.declared.piece.Piece.{Piece}
 use Rattle.pipe_tokens.specs.Character.{is_white, is_comment_byte, is_name_byte}
-use Rattle.pipe_tokens.specs.Naming.{is_name}
+use Rattle.pipe_tokens.specs.Naming.{is_identifier_of_name_length}
 use Rattle.pipe_tokens.specs.Spelled.{bytes_of_mark, word_of, mark_at}
 
 abbrev pub gap : ℕ → Piece
@@ -20,7 +20,7 @@ lexeme token len = record { token = Some token; len = len }
 
 -- the token of letters, digits and `_`: a reserved word, else a name, if they are few enough
 abbrev pub token_of_word : List ℕ → Token
-token_of_word bytes = unwrap_or (option_map tokens.Keyword (word_of bytes)) (if is_name bytes then tokens.Name bytes else tokens.Bad)
+token_of_word bytes = unwrap_or (option_map tokens.Keyword (word_of bytes)) (if is_identifier_of_name_length bytes then tokens.Name bytes else tokens.Bad)
 
 -- the token of digits: their value, if it is small enough
 abbrev pub token_of_digits : List ℕ → Token

@@ -3,7 +3,7 @@ use Rattle.std.specs.Prelude.{◌≡◌, ℕ, ◌≤◌, ◌&&◌, Bool, true, f
 use Rattle.std.specs.Fmt.{decimal}
 use Rattle.pipe_tokens.specs.declared.token.Token.{Token}
 use Rattle.pipe_tokens.specs.declared.token.Token.TheVariants as tokens
-use Rattle.pipe_tokens.specs.Naming.{is_name}
+use Rattle.pipe_tokens.specs.Naming.{is_identifier_of_name_length}
 use Rattle.pipe_tokens.specs.Spelled.{bytes_of_word, bytes_of_mark, word_of}
 
 -- the spelling of a token; a number without leading zeros
@@ -35,7 +35,7 @@ spelling (token ∷ others) = bytes_of token ++ (blank_behind (begins_word token
 abbrev pub HasSpelling : Token → Type 0
 HasSpelling (tokens.Keyword word) = Unit {0}
 HasSpelling (tokens.Punct mark) = Unit {0}
-HasSpelling (tokens.Name name) = (is_name name ≡ true) × (word_of name ≡ None)
+HasSpelling (tokens.Name name) = (is_identifier_of_name_length name ≡ true) × (word_of name ≡ None)
 HasSpelling (tokens.Int value) = value ≤ 2147483647
 HasSpelling _ = ⊥
 

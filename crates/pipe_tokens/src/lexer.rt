@@ -32,10 +32,10 @@ pub fn lex(alloc: Global, text: &[u8]) -> Result<TokenList, AllocError>
     ensures within { IfOk result
         (λ lexed. All (λ start. start < length text.now) lexed.starts.items) }
 {
-    cut_into_tokens(alloc, text)
+    lex_text_piece_by_piece(alloc, text)
 }
 
-fn cut_into_tokens(alloc: Global, text: &[u8]) -> Result<TokenList, AllocError>
+fn lex_text_piece_by_piece(alloc: Global, text: &[u8]) -> Result<TokenList, AllocError>
     ensures tokens { IfOk result (λ lexed. lexed.tokens.items ≡ tokens_of text.now) }
     ensures starts { IfOk result (λ lexed. lexed.starts.items ≡ starts_of text.now) }
 {

@@ -3,7 +3,7 @@
 ghost use Rattle.std.specs.Prelude.{◌≡◌, IsTrue, IsSome, IfSome, ◌↔◌};
 ghost use Rattle.std.specs.List.{list_all};
 ghost use Rattle.pipe_tokens.specs.Character.{is_name_byte};
-ghost use Rattle.pipe_tokens.specs.Naming.{is_identifier, is_name};
+ghost use Rattle.pipe_tokens.specs.Naming.{is_identifier, is_identifier_of_name_length};
 
 use crate::character::is_name_byte;
 use std::marker::Model;
@@ -38,10 +38,10 @@ impl Model for Name {
 impl Name {
     /// The name that the bytes spell, if they are one.
     pub fn from_bytes(bytes: &[u8]) -> Option<Self>
-        ensures named { IsSome result ↔ IsTrue (is_name bytes.now) }
+        ensures named { IsSome result ↔ IsTrue (is_identifier_of_name_length bytes.now) }
         ensures same { IfSome result (λ name. name ≡ bytes.now) }
     {
-        if !is_name(bytes) {
+        if !is_identifier_of_name_length(bytes) {
             return None;
         }
         let mut padded = [0; MAX_NAME];
@@ -55,7 +55,7 @@ impl Name {
     /// The bytes of the name.
     pub fn as_bytes(&self) -> &[u8]
         ensures bytes { result.now ≡ self.now }
-        ensures name { IsTrue (is_name result.now) }
+        ensures name { IsTrue (is_identifier_of_name_length result.now) }
     {
         &self.bytes[..self.len as usize]
     }
@@ -91,8 +91,8 @@ fn has_only_name_bytes(bytes: &[u8]) -> bool
     bytes.iter().all(|b| is_name_byte(*b))
 }
 
-fn is_name(bytes: &[u8]) -> bool
-    ensures { result ≡ is_name bytes.now }
+fn is_identifier_of_name_length(bytes: &[u8]) -> bool
+    ensures { result ≡ is_identifier_of_name_length bytes.now }
 {
     is_identifier(bytes) && bytes.len() <= MAX_NAME
 }

@@ -46,7 +46,7 @@ pub fn lex_longest_piece(text: &[u8]) -> Piece
     if is_white_byte(first) {
         new_piece_without_token(1)
     } else if first == b'#' {
-        new_piece_without_token(count_comment_bytes(text))
+        new_piece_without_token(count_leading_comment_bytes(text))
     } else if first.is_ascii_alphabetic() {
         lex_word(text)
     } else if first.is_ascii_digit() {
@@ -58,20 +58,20 @@ pub fn lex_longest_piece(text: &[u8]) -> Piece
     }
 }
 
-fn count_comment_bytes(text: &[u8]) -> usize
+fn count_leading_comment_bytes(text: &[u8]) -> usize
     ensures { result ≡ prefix_len character.is_comment_byte text.now }
 {
     text.iter().take_while(|b| is_comment_byte(**b)).count()
 }
 
-fn count_name_bytes(text: &[u8]) -> usize
+fn count_leading_name_bytes(text: &[u8]) -> usize
     ensures len { result ≡ prefix_len character.is_name_byte text.now }
     ensures within { result ≤ length text.now }
 {
     text.iter().take_while(|b| is_name_byte(**b)).count()
 }
 
-fn count_token_digits(text: &[u8]) -> usize
+fn count_leading_token_digits(text: &[u8]) -> usize
     ensures len { result ≡ prefix_len is_ascii_digit text.now }
     ensures within { result ≤ length text.now }
 {
@@ -81,7 +81,7 @@ fn count_token_digits(text: &[u8]) -> usize
 fn lex_word(text: &[u8]) -> Piece
     ensures { result ≡ lexing.word_piece text.now }
 {
-    let len = count_name_bytes(text);
+    let len = count_leading_name_bytes(text);
     new_token_piece(convert_word_to_token(&text[..len]), len)
 }
 
@@ -100,8 +100,8 @@ fn convert_word_to_token(bytes: &[u8]) -> Token
 fn lex_digits(text: &[u8]) -> Piece
     ensures { result ≡ lexing.digits_piece text.now }
 {
-    let len = count_token_digits(text);
-    if count_name_bytes(text) != len {
+    let len = count_leading_token_digits(text);
+    if count_leading_name_bytes(text) != len {
         return new_token_piece(Token::Bad, len);
     }
     new_token_piece(convert_digits_to_token(&text[..len]), len)

@@ -57,7 +57,7 @@ pub struct TextCounts {
 
 impl TextCounts {
     // With one more, unless that exceeds its limit.
-    pub fn increment_within_limits(self, role: Role) -> Option<TextCounts>
+    pub fn compute_counts_within_limits_after_role(self, role: Role) -> Option<TextCounts>
         ensures { result ≡ counted role self }
     {
         match role {

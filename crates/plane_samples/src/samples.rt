@@ -48,9 +48,13 @@ impl PlaneSamples<'_> {
         ensures { result ≡ sample_in self.now place }
     {
         match self {
-            PlaneSamples::Words(words) => load_sample_from_words(words, place),
-            PlaneSamples::Bytes(spaced) => load_sample_from_bytes(spaced.bytes, spaced.step, place),
-            PlaneSamples::Pairs(spaced) => load_sample_from_byte_pairs(
+            PlaneSamples::Words(words) => load_sample_from_u16_words(words, place),
+            PlaneSamples::Bytes(spaced) => load_sample_from_spaced_bytes(
+                spaced.bytes,
+                spaced.step,
+                place,
+            ),
+            PlaneSamples::Pairs(spaced) => load_sample_from_spaced_byte_pairs(
                 spaced.bytes,
                 spaced.step,
                 place,
@@ -59,21 +63,21 @@ impl PlaneSamples<'_> {
     }
 }
 
-fn load_sample_from_words(words: &[u16], place: usize) -> u16
+fn load_sample_from_u16_words(words: &[u16], place: usize) -> u16
     requires { place < length words.now }
     ensures { result ≡ slice_index words.now place }
 {
     words[place]
 }
 
-fn load_sample_from_bytes(bytes: &[u8], step: usize, place: usize) -> u16
+fn load_sample_from_spaced_bytes(bytes: &[u8], step: usize, place: usize) -> u16
     requires { place * step < length bytes.now }
     ensures { result ≡ slice_index bytes.now (place * step) }
 {
     u16::from(bytes[place * step])
 }
 
-fn load_sample_from_byte_pairs(bytes: &[u8], step: usize, place: usize) -> u16
+fn load_sample_from_spaced_byte_pairs(bytes: &[u8], step: usize, place: usize) -> u16
     requires { place * step + 1 < length bytes.now }
     ensures { result
         ≡ 256 * slice_index bytes.now (place * step) + slice_index bytes.now (place * step + 1) }

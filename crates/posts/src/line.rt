@@ -24,7 +24,7 @@ impl<'a, C: NamedCatalog> MailboxPort<'a, C> {
     {
         MailboxPort {
             post,
-            pass: post.issue_pass(),
+            pass: post.issue_pass_to_mailbox(),
         }
     }
 

@@ -50,19 +50,19 @@ impl<C: NamedCatalog> Post<C> {
         let _ = catalog;
         let (queue, _) = ParcelQueue::<C>::ruled(alloc, capacity as usize)?;
         let post = Post { queue };
-        let passes = post.issue_passes(alloc, passes)?;
+        let passes = post.issue_passes_to_mailbox(alloc, passes)?;
         Ok((post, passes))
     }
 
     // `count` more passes.
-    fn issue_passes(&self, alloc: Global, count: u32) -> Result<Vec<Pass<C>>, AllocError>
+    fn issue_passes_to_mailbox(&self, alloc: Global, count: u32) -> Result<Vec<Pass<C>>, AllocError>
         ensures count { IfOk result (λ all. length all.items ≡ count) }
         ensures fresh { IfOk result (λ all. All
             (λ p. IsPassOf self.now.queue p.seat × (view p.seat ≡ moves [] [])) all.items) }
     {
         let mut all = Vec::new(alloc);
         for _ in 0..count {
-            let pass = self.issue_pass();
+            let pass = self.issue_pass_to_mailbox();
             all.reserve(1)?;
             all.push_reserved(pass);
         }
@@ -70,7 +70,7 @@ impl<C: NamedCatalog> Post<C> {
     }
 
     /// One more pass, by which nothing was put or taken. No memory is allocated.
-    pub fn issue_pass(&self) -> Pass<C>
+    pub fn issue_pass_to_mailbox(&self) -> Pass<C>
         ensures { IsPassOf self.now.queue result.seat × (view result.seat ≡ moves [] []) }
     {
         Pass {

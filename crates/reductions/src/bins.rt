@@ -7,12 +7,12 @@ ghost use Rattle.operators.specs.declared.operator.ReductionOp.TheVariants.{Sum}
 ghost use Rattle.tile_eval.specs.Rows.{EachPlace, at};
 ghost use Rattle.reductions.specs.inside.Gathering.{once_came, after_values, values_of_bin};
 
-use crate::join::join_bin_numbers;
+use crate::join::join_two_numbers_of_bin;
 use operators::ReductionOp;
 
 /// The place of a bin, if it is one of `count` bins from `lo` on.
 #[inline]
-pub(crate) fn find_bin_place(lo: i32, count: usize, bin: i32) -> Option<usize>
+pub(crate) fn find_place_of_bin_number(lo: i32, count: usize, bin: i32) -> Option<usize>
     requires { count < 4611686018427387904 }
     ensures some { IfSome result (λ place. (place < count) × (lo +ℤ pos place ≡ bin)) }
     ensures none { IfNone result ((place : ℕ) → place < count → lo +ℤ pos place ≢ bin) }
@@ -24,12 +24,17 @@ pub(crate) fn find_bin_place(lo: i32, count: usize, bin: i32) -> Option<usize>
 
 /// Accumulates a value in the bin at a place, whatever the first bin is.
 #[inline]
-pub(crate) fn accumulate_at_bin_place(op: ReductionOp, bins: &mut [i64], place: usize, value: i32)
+pub(crate) fn accumulate_value_at_bin_place(
+    op: ReductionOp,
+    bins: &mut [i64],
+    place: usize,
+    value: i32,
+)
     requires { place < length bins.old }
     ensures { (lo : ℤ) → EachPlace (length bins.old) (λ j. at bins.new j
         ≡ once_came op (int_eq (lo +ℤ pos place) (lo +ℤ pos j)) (at bins.old j) value) }
 {
-    bins[place] = join_bin_numbers(op, bins[place], i64::from(value));
+    bins[place] = join_two_numbers_of_bin(op, bins[place], i64::from(value));
 }
 
 // Accumulates a value in its bin; a value whose bin is none of these, from `lo` on, changes nothing.
@@ -38,14 +43,14 @@ fn accumulate_value_in_bin(op: ReductionOp, lo: i32, bins: &mut [i64], value: i3
     ensures { EachPlace (length bins.old) (λ j. at bins.new j
         ≡ once_came op (int_eq bin (lo +ℤ pos j)) (at bins.old j) value) }
 {
-    if let Some(place) = find_bin_place(lo, bins.len(), bin) {
-        accumulate_at_bin_place(op, bins, place, value);
+    if let Some(place) = find_place_of_bin_number(lo, bins.len(), bin) {
+        accumulate_value_at_bin_place(op, bins, place, value);
     }
 }
 
 // Accumulates a row of values in their bins by an operation.
 #[inline]
-fn accumulate_each_value_in_bins(
+fn accumulate_each_value_in_its_bin(
     op: ReductionOp,
     lo: i32,
     bins: &mut [i64],
@@ -63,7 +68,7 @@ fn accumulate_each_value_in_bins(
 }
 
 /// Accumulates a row of values in their bins, from `lo` on. A second row has the bin of each value.
-pub(crate) fn accumulate_values_in_bins(
+pub(crate) fn accumulate_row_of_values_in_bins(
     op: ReductionOp,
     lo: i32,
     bins: &mut [i64],
@@ -77,21 +82,21 @@ pub(crate) fn accumulate_values_in_bins(
 {
     // each operation has a loop of its own, so that it is not selected again at each point
     match op {
-        ReductionOp::Sum => accumulate_each_value_in_bins(
+        ReductionOp::Sum => accumulate_each_value_in_its_bin(
             ReductionOp::Sum,
             lo,
             bins,
             values,
             bins_of,
         ),
-        ReductionOp::Min => accumulate_each_value_in_bins(
+        ReductionOp::Min => accumulate_each_value_in_its_bin(
             ReductionOp::Min,
             lo,
             bins,
             values,
             bins_of,
         ),
-        ReductionOp::Max => accumulate_each_value_in_bins(
+        ReductionOp::Max => accumulate_each_value_in_its_bin(
             ReductionOp::Max,
             lo,
             bins,
@@ -102,7 +107,12 @@ pub(crate) fn accumulate_values_in_bins(
 }
 
 /// Adds a number to the bin of each point of a row.
-pub(crate) fn add_number_to_point_bins(lo: i32, bins: &mut [i64], number: i32, bins_of: &[i32])
+pub(crate) fn add_number_to_bin_of_each_point(
+    lo: i32,
+    bins: &mut [i64],
+    number: i32,
+    bins_of: &[i32],
+)
     ensures { EachPlace (length bins.old) (λ j. at bins.new j
         ≡ after_values Sum (at bins.old j)
         (values_of_bin (replicate (length bins_of.now) number) bins_of.now (lo +ℤ pos j))) }

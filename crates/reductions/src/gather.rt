@@ -13,10 +13,10 @@ ghost use Rattle.reductions.specs.Accumulating.{HasFormulas, ReadsAt, HasRoomAlo
 ghost use Rattle.reductions.specs.inside.Gathering.{points_along};
 
 use crate::bin_starts::create_start_bins;
-use crate::bins::{accumulate_values_in_bins, add_number_to_point_bins};
+use crate::bins::{accumulate_row_of_values_in_bins, add_number_to_bin_of_each_point};
 use crate::row_bins::find_adjacent_bins_place;
 use crate::row_buffers::AccumulatorBuffers;
-use crate::side_by_side::{accumulate_in_adjacent_bins, accumulate_in_one_bin};
+use crate::side_by_side::{accumulate_values_in_adjacent_bins, accumulate_values_in_one_bin};
 use domains::Area;
 use job::Accumulator;
 use operators::ReductionOp;
@@ -24,7 +24,7 @@ use std::alloc::{AllocError, Global};
 use tile_eval::{RowSource, RowSpan, SourceRow, borrow_or_evaluate_row, find_constant_along_row};
 
 // Accumulates a row of points in the bins.
-fn accumulate_row_in_bins<S: RowSource>(
+fn accumulate_point_row_in_bins<S: RowSource>(
     row: &SourceRow<'_, S>,
     accumulator: &Accumulator,
     bins: &mut [i64],
@@ -48,24 +48,24 @@ fn accumulate_row_in_bins<S: RowSource>(
     let (op, lo) = (accumulator.fold(), accumulator.bins().lo());
     if let Some(place) = find_adjacent_bins_place(bin, points, accumulator.bins()) {
         let line = borrow_or_evaluate_row(source, points, value, values, temps);
-        return accumulate_in_adjacent_bins(op, bins, place, line);
+        return accumulate_values_in_adjacent_bins(op, bins, place, line);
     }
     if let Some(one) = find_constant_along_row(bin, points) {
         let line = borrow_or_evaluate_row(source, points, value, values, temps);
-        return accumulate_in_one_bin(op, lo, bins, line, one);
+        return accumulate_values_in_one_bin(op, lo, bins, line, one);
     }
     let each = borrow_or_evaluate_row(source, points, bin, bins_of, temps);
     match (op, find_constant_along_row(value, points)) {
-        (ReductionOp::Sum, Some(number)) => add_number_to_point_bins(lo, bins, number, each),
+        (ReductionOp::Sum, Some(number)) => add_number_to_bin_of_each_point(lo, bins, number, each),
         _ => {
             let line = borrow_or_evaluate_row(source, points, value, values, temps);
-            accumulate_values_in_bins(op, lo, bins, line, each);
+            accumulate_row_of_values_in_bins(op, lo, bins, line, each);
         }
     }
 }
 
 /// Accumulates the points of an area in the bins, row by row.
-pub(crate) fn accumulate_rows_in_bins<S: RowSource>(
+pub(crate) fn accumulate_area_rows_in_bins<S: RowSource>(
     source: &S,
     accumulator: &Accumulator,
     area: &Area,
@@ -89,7 +89,7 @@ pub(crate) fn accumulate_rows_in_bins<S: RowSource>(
     for i in 0..area.rows.len() as usize {
         let points = RowSpan::from_area_row(area, i);
         let row = SourceRow { source, points };
-        accumulate_row_in_bins(&row, accumulator, bins, values, bins_of, temps);
+        accumulate_point_row_in_bins(&row, accumulator, bins, values, bins_of, temps);
     }
 }
 
@@ -117,6 +117,6 @@ pub(crate) fn compute_area_totals<S: RowSource>(
     let mut bins = create_start_bins(alloc, accumulator.fold(), accumulator.bins())?;
     let mut rows = AccumulatorBuffers::new(alloc);
     rows.grow_for_area(accumulator, area)?;
-    rows.accumulate_area(source, accumulator, area, &mut bins);
+    rows.accumulate_area_into_bins(source, accumulator, area, &mut bins);
     Ok(bins)
 }

@@ -9,7 +9,7 @@ use operators::ReductionOp;
 
 /// Joins two numbers of one bin: sums wrap at 64 bits.
 #[tactic(auto, using(std::proofs::lemmas::Int::wraps))]
-pub(crate) fn join_bin_numbers(op: ReductionOp, first: i64, second: i64) -> i64
+pub(crate) fn join_two_numbers_of_bin(op: ReductionOp, first: i64, second: i64) -> i64
     ensures { result ≡ joined_of op first second }
 {
     match op {
@@ -26,7 +26,7 @@ fn join_each_bin(op: ReductionOp, bins: &mut [i64], others: &[i64])
     ensures { bins.new ≡ joined_bins op bins.old others.now }
 {
     for k in 0..bins.len() {
-        bins[k] = join_bin_numbers(op, bins[k], others[k]);
+        bins[k] = join_two_numbers_of_bin(op, bins[k], others[k]);
     }
 }
 
@@ -43,7 +43,7 @@ pub fn join_into(op: ReductionOp, bins: &mut [i64], others: &[i64])
 }
 
 /// Joins each of these with the bins, one after the other.
-pub fn join_lists_of_bins(op: ReductionOp, bins: &mut [i64], all: &[Vec<i64>])
+pub fn join_all_lists_into_bins(op: ReductionOp, bins: &mut [i64], all: &[Vec<i64>])
     requires { All (λ others. length others.items ≡ length bins.old) all.now }
     ensures { bins.new ≡ fold (joined_bins op) bins.old (map (λ others. others.items) all.now) }
 {

@@ -13,6 +13,6 @@ mod side_by_side;
 mod whole_totals;
 
 pub use bin_starts::create_start_bins;
-pub use join::{join_into, join_lists_of_bins};
+pub use join::{join_all_lists_into_bins, join_into};
 pub use row_buffers::AccumulatorBuffers;
 pub use whole_totals::{compute_true_partial, find_accumulator_tile_area, whole};

@@ -8,14 +8,14 @@ ghost use Rattle.job.specs.declared.formula.Formula.TheVariants.{Coordinate};
 ghost use Rattle.job.specs.Values.{Valuation, formula_value};
 ghost use Rattle.job.specs.Views.{formula_view};
 
-use crate::bins::find_bin_place;
+use crate::bins::find_place_of_bin_number;
 use domains::{LIMIT, Span};
 use job::{Axis, Formula};
 use operators::BinaryOp;
 use tile_eval::{RowSpan, find_constant_along_row};
 
 // The number, if it is in the range of the numbers of spans.
-fn accept_bin_number_within_limits(number: i32) -> Option<i32>
+fn keep_bin_number_if_within_limits(number: i32) -> Option<i32>
     ensures number { IfSome result (λ it. it ≡ number) }
     ensures least { IfSome result (λ it. negsuc 1048575 ≤ℤ it) }
     ensures most { IfSome result (λ it. it ≤ℤ pos 1048576) }
@@ -30,7 +30,7 @@ fn accept_bin_number_within_limits(number: i32) -> Option<i32>
 
 // The first number of a formula along a row of points, if it rises by one from each point to the next: the column, or the column
 // with a number added or subtracted.
-fn find_first_adjacent_bin(formula: &Formula, points: &RowSpan) -> Option<i32>
+fn find_first_bin_if_row_bins_rise_by_one(formula: &Formula, points: &RowSpan) -> Option<i32>
     ensures least { IfSome result (λ first. negsuc 1048575 ≤ℤ first) }
     ensures most { IfSome result (λ first. first ≤ℤ pos 1048576) }
     ensures values { IfSome result (λ first. (env : Valuation) (k : ℕ) → k < points.now.len
@@ -43,12 +43,16 @@ fn find_first_adjacent_bin(formula: &Formula, points: &RowSpan) -> Option<i32>
     match formula {
         Formula::Coordinate(Axis::Column) => Some(points.col),
         Formula::Binary(BinaryOp::Add, a, b) => {
-            let first = find_first_adjacent_bin(a, points)?;
-            accept_bin_number_within_limits(first.checked_add(find_constant_along_row(b, points)?)?)
+            let first = find_first_bin_if_row_bins_rise_by_one(a, points)?;
+            keep_bin_number_if_within_limits(first.checked_add(find_constant_along_row(
+                b, points,
+            )?)?)
         }
         Formula::Binary(BinaryOp::Sub, a, b) => {
-            let first = find_first_adjacent_bin(a, points)?;
-            accept_bin_number_within_limits(first.checked_sub(find_constant_along_row(b, points)?)?)
+            let first = find_first_bin_if_row_bins_rise_by_one(a, points)?;
+            keep_bin_number_if_within_limits(first.checked_sub(find_constant_along_row(
+                b, points,
+            )?)?)
         }
         _ => None,
     }
@@ -70,9 +74,9 @@ pub(crate) fn find_adjacent_bins_place(
         → (place : ℕ) → bins.now.lo +ℤ pos place ≡ points.now.col
         → ¬ (place + points.now.len ≤ len_of bins.now)) }
 {
-    let first = find_first_adjacent_bin(formula, points)?;
+    let first = find_first_bin_if_row_bins_rise_by_one(formula, points)?;
     let count = bins.len() as usize;
-    let place = find_bin_place(bins.lo(), count, first)?;
+    let place = find_place_of_bin_number(bins.lo(), count, first)?;
     if points.len <= count - place {
         Some(place)
     } else {

@@ -11,18 +11,18 @@ ghost use Rattle.job.specs.WellFormed.{InDomainRange};
 ghost use Rattle.reductions.specs.Bins.{joined_bins};
 ghost use Rattle.reductions.specs.Accumulating.{AreBins, HasFormulas, HasRoomAlong, ReadsAt};
 
-use crate::gather::accumulate_rows_in_bins;
+use crate::gather::accumulate_area_rows_in_bins;
 use domains::Area;
 use job::Accumulator;
 use std::alloc::{AllocError, Global};
-use tile_eval::{RowSource, compute_formula_capacity};
+use tile_eval::{RowSource, compute_operand_capacity_of_formula};
 
 // The capacity for the operands of both formulas at `n` points, if it can be counted.
-fn find_accumulator_buffer_capacity(accumulator: &Accumulator, n: usize) -> Option<usize>
+fn compute_accumulator_buffer_capacity(accumulator: &Accumulator, n: usize) -> Option<usize>
     ensures { IfSome result (HasRoomAlong accumulator.now n) }
 {
-    let value = compute_formula_capacity(accumulator.value(), n)?;
-    let bin = compute_formula_capacity(accumulator.bin(), n)?;
+    let value = compute_operand_capacity_of_formula(accumulator.value(), n)?;
+    let bin = compute_operand_capacity_of_formula(accumulator.bin(), n)?;
     Some(value.max(bin))
 }
 
@@ -69,7 +69,7 @@ impl AccumulatorBuffers {
         ensures { OnOk result (HasRowsOver accumulator.now area.now self.new) }
     {
         let n = area.cols.len() as usize;
-        let room = find_accumulator_buffer_capacity(accumulator, n).ok_or(AllocError)?;
+        let room = compute_accumulator_buffer_capacity(accumulator, n).ok_or(AllocError)?;
         grow_accumulator_buffer(&mut self.values, n)?;
         grow_accumulator_buffer(&mut self.bins_of, n)?;
         grow_accumulator_buffer(&mut self.temps, room)?;
@@ -78,7 +78,7 @@ impl AccumulatorBuffers {
 
     /// Joins to each bin what the accumulator accumulates in it over the area, where all its reads are available. No memory is
     /// allocated.
-    pub fn accumulate_area<S: RowSource>(
+    pub fn accumulate_area_into_bins<S: RowSource>(
         &mut self,
         source: &S,
         accumulator: &Accumulator,
@@ -101,7 +101,7 @@ impl AccumulatorBuffers {
         let n = area.cols.len() as usize;
         let values = &mut self.values[..n];
         let bins_of = &mut self.bins_of[..n];
-        accumulate_rows_in_bins(
+        accumulate_area_rows_in_bins(
             source,
             accumulator,
             area,

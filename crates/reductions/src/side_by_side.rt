@@ -6,8 +6,8 @@ ghost use Rattle.domains.specs.Span.{numbers_from};
 ghost use Rattle.tile_eval.specs.Rows.{EachPlace, at};
 ghost use Rattle.reductions.specs.inside.Gathering.{after_values, values_of_bin};
 
-use crate::bins::{accumulate_at_bin_place, find_bin_place};
-use crate::join::join_bin_numbers;
+use crate::bins::{accumulate_value_at_bin_place, find_place_of_bin_number};
+use crate::join::join_two_numbers_of_bin;
 use operators::ReductionOp;
 
 // Accumulates a row of values by an operation, each in the bin after that of the one before.
@@ -19,13 +19,13 @@ fn accumulate_each_in_adjacent_bins(op: ReductionOp, bins: &mut [i64], place: us
         (numbers_from (lo +ℤ pos place) (length values.now)) (lo +ℤ pos j))) }
 {
     for k in 0..values.len() {
-        accumulate_at_bin_place(op, bins, place + k, values[k]);
+        accumulate_value_at_bin_place(op, bins, place + k, values[k]);
     }
 }
 
 /// Accumulates a row of values in the bins from a place on, whatever the first bin is: each in the bin after that of the one
 /// before.
-pub(crate) fn accumulate_in_adjacent_bins(
+pub(crate) fn accumulate_values_in_adjacent_bins(
     op: ReductionOp,
     bins: &mut [i64],
     place: usize,
@@ -46,29 +46,29 @@ pub(crate) fn accumulate_in_adjacent_bins(
 
 // The content of a bin after it accumulated a row of values by an operation.
 #[inline]
-fn reduce_each_row_value(op: ReductionOp, total: i64, values: &[i32]) -> i64
+fn reduce_each_value_into_total(op: ReductionOp, total: i64, values: &[i32]) -> i64
     ensures { result ≡ after_values op total values.now }
 {
     let mut so_far = total;
     for k in 0..values.len() {
-        so_far = join_bin_numbers(op, so_far, i64::from(values[k]));
+        so_far = join_two_numbers_of_bin(op, so_far, i64::from(values[k]));
     }
     so_far
 }
 
 // The content of a bin after it accumulated a row of values.
-fn reduce_row_values(op: ReductionOp, total: i64, values: &[i32]) -> i64
+fn reduce_row_values_into_bin_total(op: ReductionOp, total: i64, values: &[i32]) -> i64
     ensures { result ≡ after_values op total values.now }
 {
     match op {
-        ReductionOp::Sum => reduce_each_row_value(ReductionOp::Sum, total, values),
-        ReductionOp::Min => reduce_each_row_value(ReductionOp::Min, total, values),
-        ReductionOp::Max => reduce_each_row_value(ReductionOp::Max, total, values),
+        ReductionOp::Sum => reduce_each_value_into_total(ReductionOp::Sum, total, values),
+        ReductionOp::Min => reduce_each_value_into_total(ReductionOp::Min, total, values),
+        ReductionOp::Max => reduce_each_value_into_total(ReductionOp::Max, total, values),
     }
 }
 
 /// Accumulates a row of values in one bin, if it is one of these, from `lo` on.
-pub(crate) fn accumulate_in_one_bin(
+pub(crate) fn accumulate_values_in_one_bin(
     op: ReductionOp,
     lo: i32,
     bins: &mut [i64],
@@ -79,7 +79,7 @@ pub(crate) fn accumulate_in_one_bin(
         ≡ after_values op (at bins.old j) (values_of_bin values.now
         (replicate (length values.now) bin) (lo +ℤ pos j))) }
 {
-    if let Some(place) = find_bin_place(lo, bins.len(), bin) {
-        bins[place] = reduce_row_values(op, bins[place], values);
+    if let Some(place) = find_place_of_bin_number(lo, bins.len(), bin) {
+        bins[place] = reduce_row_values_into_bin_total(op, bins[place], values);
     }
 }

@@ -13,12 +13,12 @@ use crate::gather::compute_area_totals;
 use domains::{Area, Grid};
 use job::{Body, Job};
 use std::alloc::{AllocError, Global};
-use whole_stages::WholeStages;
+use whole_stages::ComputedWholeStages;
 
 // What a stage accumulates over a part of its domain; nothing if it is no accumulator.
 fn compute_true_area_totals(
     alloc: Global,
-    stages: &WholeStages<'_>,
+    stages: &ComputedWholeStages<'_>,
     stage: usize,
     area: &Area,
 ) -> Result<Vec<i64>, AllocError>
@@ -69,7 +69,7 @@ pub fn whole(alloc: Global, job: &Job, stage: usize) -> Result<Vec<i64>, AllocEr
     let Some(domain) = job.domain(stage) else {
         return Ok(Vec::new(alloc));
     };
-    let stages = WholeStages::from_job(alloc, job, &[stage])?;
+    let stages = ComputedWholeStages::from_job(alloc, job, &[stage])?;
     compute_true_area_totals(alloc, &stages, stage, &domain)
 }
 
@@ -81,7 +81,7 @@ pub fn whole(alloc: Global, job: &Job, stage: usize) -> Result<Vec<i64>, AllocEr
 /// Fails only where memory is refused.
 pub fn compute_true_partial(
     alloc: Global,
-    stages: &WholeStages<'_>,
+    stages: &ComputedWholeStages<'_>,
     stage: usize,
     row: u32,
     col: u32,

@@ -32,7 +32,7 @@ pub(crate) fn count_span_steps_to_number(span: &Span, v: i32) -> usize
 }
 
 // `count` numbers from a place on.
-fn slice_buffer_view_values(values: &[i32], place: usize, count: usize) -> &[i32]
+fn slice_buffer_view_values_from_place(values: &[i32], place: usize, count: usize) -> &[i32]
     requires { place + count ≤ length values.now }
     ensures count { length result.now ≡ count }
     ensures values { EachPlace count (λ k. at result.now k ≡ at values.now (place + k)) }
@@ -83,7 +83,7 @@ impl<'a> BufferView<'a> {
         if count == 0 {
             return &[];
         }
-        slice_buffer_view_values(self.values, self.locate_point(row, first), count)
+        slice_buffer_view_values_from_place(self.values, self.locate_point(row, first), count)
     }
 
     /// Writes the values along a row, at the columns that an index takes at the columns of some points.

@@ -122,7 +122,7 @@ impl NumberMap for ShiftEpilogue {
     #[inline]
     fn apply_to_number(&self, number: i32) -> i32 {
         floor_shr(
-            add_to_number_before_shift(number, self.add),
+            add_epilogue_addend_to_number(number, self.add),
             self.count.bits,
         )
     }
@@ -130,7 +130,7 @@ impl NumberMap for ShiftEpilogue {
 
 // The sum of two numbers. (Nothing is added where the right one is 0, so that there is nothing to choose.)
 #[inline]
-fn add_to_number_before_shift(left: i32, right: i32) -> i32
+fn add_epilogue_addend_to_number(left: i32, right: i32) -> i32
     ensures { result ≡ added left right }
 {
     wrapping_add(left, right)

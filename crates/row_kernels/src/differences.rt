@@ -9,7 +9,7 @@ ghost use Rattle.row_kernels.specs.Operands.{operand_at, Serves};
 ghost use Rattle.row_loops.specs.Rows.{EachPlace, at};
 
 use crate::finish::Epilogue;
-use crate::finishes::apply_epilogue_to_row;
+use crate::finishes::write_operand_with_epilogue;
 use crate::operand::Operand;
 use crate::operand_rows::write_operand_to_row;
 use domains::arithmetic::{wrapping_add, wrapping_mul, wrapping_sub};
@@ -32,7 +32,7 @@ trait RowUpdate: Copy {
     ghost value: { Self → ℤ → ℕ → ℤ };
 
     /// Computes it.
-    fn update_number_at_place(&self, number: i32, k: usize) -> i32
+    fn compute_updated_number_at_place(&self, number: i32, k: usize) -> i32
         requires { has self.now k }
         ensures { result ≡ value self.now number k };
 }
@@ -57,7 +57,7 @@ impl<'a> RowUpdate for ClampedDifference<'a> {
     ghost value = { λ d n k. wrapped (n +ℤ difference_at d k) };
 
     #[inline]
-    fn update_number_at_place(&self, number: i32, k: usize) -> i32 {
+    fn compute_updated_number_at_place(&self, number: i32, k: usize) -> i32 {
         wrapping_add(number, self.compute_addend_at_place(k))
     }
 }
@@ -72,7 +72,7 @@ impl<'a> RowUpdate for ReplacingDifference<'a> {
     ghost value = { λ s n k. difference_at s.0 k };
 
     #[inline]
-    fn update_number_at_place(&self, _number: i32, k: usize) -> i32 {
+    fn compute_updated_number_at_place(&self, _number: i32, k: usize) -> i32 {
         self.0.compute_addend_at_place(k)
     }
 }
@@ -87,9 +87,9 @@ impl<U: RowUpdate, V: RowUpdate> RowUpdate for UpdateSequence<U, V> {
     ghost value = { λ s n k. V.value s.1 (U.value s.0 n k) k };
 
     #[inline]
-    fn update_number_at_place(&self, number: i32, k: usize) -> i32 {
+    fn compute_updated_number_at_place(&self, number: i32, k: usize) -> i32 {
         self.1
-            .update_number_at_place(self.0.update_number_at_place(number, k), k)
+            .compute_updated_number_at_place(self.0.compute_updated_number_at_place(number, k), k)
     }
 }
 
@@ -99,12 +99,12 @@ fn apply_update_to_row<U: RowUpdate>(out: &mut [i32], make: U)
     ensures { EachPlace (length out.old) (λ k. at out.new k ≡ U.value make (at out.old k) k) }
 {
     for k in 0..out.len() {
-        out[k] = make.update_number_at_place(out[k], k);
+        out[k] = make.compute_updated_number_at_place(out[k], k);
     }
 }
 
 // Writes an operand, updates it, and applies an epilogue.
-fn update_operand_with_epilogue<U: RowUpdate>(
+fn write_updated_operand_with_epilogue<U: RowUpdate>(
     out: &mut [i32],
     first: Operand,
     make: U,
@@ -117,7 +117,7 @@ fn update_operand_with_epilogue<U: RowUpdate>(
 {
     write_operand_to_row(out, first);
     apply_update_to_row(out, make);
-    apply_epilogue_to_row(out, Operand::Written, finish);
+    write_operand_with_epilogue(out, Operand::Written, finish);
 }
 
 /// Writes what an epilogue makes of a clamped difference.
@@ -126,11 +126,11 @@ pub fn write_clamped_difference(out: &mut [i32], of: ClampedDifference, finish: 
     ensures { EachPlace (length out.old)
         (λ k. at out.new k ≡ epilogue_value finish (difference_at of.entry k)) }
 {
-    update_operand_with_epilogue(out, Operand::Written, ReplacingDifference(of), finish);
+    write_updated_operand_with_epilogue(out, Operand::Written, ReplacingDifference(of), finish);
 }
 
 /// Writes what an epilogue makes of the sum of an operand and a clamped difference.
-pub fn add_clamped_difference(
+pub fn add_clamped_difference_to_operand(
     out: &mut [i32],
     first: Operand,
     second: ClampedDifference,
@@ -141,11 +141,11 @@ pub fn add_clamped_difference(
     ensures { EachPlace (length out.old) (λ k. at out.new k ≡ epilogue_value finish
         (wrapped (operand_at first.entry out.old k +ℤ difference_at second.entry k))) }
 {
-    update_operand_with_epilogue(out, first, second, finish);
+    write_updated_operand_with_epilogue(out, first, second, finish);
 }
 
 /// Writes what an epilogue makes of the sum of an operand and two clamped differences.
-pub fn add_two_clamped_differences(
+pub fn add_two_clamped_differences_to_operand(
     out: &mut [i32],
     first: Operand,
     second: ClampedDifference,
@@ -158,11 +158,11 @@ pub fn add_two_clamped_differences(
         (wrapped (wrapped (operand_at first.entry out.old k +ℤ difference_at second.entry k)
         +ℤ difference_at third.entry k))) }
 {
-    update_operand_with_epilogue(out, first, UpdateSequence(second, third), finish);
+    write_updated_operand_with_epilogue(out, first, UpdateSequence(second, third), finish);
 }
 
 /// Writes what an epilogue makes of the sum of an operand and four clamped differences.
-pub fn add_four_clamped_differences(
+pub fn add_four_clamped_differences_to_operand(
     out: &mut [i32],
     first: Operand,
     second: ClampedDifference,
@@ -180,7 +180,7 @@ pub fn add_four_clamped_differences(
         +ℤ difference_at fourth.entry k) +ℤ difference_at fifth.entry k))) }
 {
     let front = UpdateSequence(second, third);
-    update_operand_with_epilogue(
+    write_updated_operand_with_epilogue(
         out,
         first,
         UpdateSequence(front, UpdateSequence(fourth, fifth)),

@@ -39,7 +39,7 @@ fn get_gather_divisor(index: &Index) -> u32
 
 // The remainder of the division at a column.
 #[tactic(auto, using(std::proofs::lemmas::Int::ints))]
-fn find_gather_remainder(index: &Index, col: i32) -> u32
+fn compute_gather_remainder_at_column(index: &Index, col: i32) -> u32
     requires least { negsuc 32767 ≤ℤ col }
     requires most { col ≤ℤ pos 32768 }
     ensures rest { floor_rem (index.now.mul *ℤ col +ℤ index.now.add) index.now.div ≡ pos result }
@@ -51,7 +51,7 @@ fn find_gather_remainder(index: &Index, col: i32) -> u32
 
 impl DividedColumns {
     ghost use Rattle.domains.specs.Index.{index_at};
-    ghost use Rattle.row_kernels.specs.inside.Divided.{column_steps};
+    ghost use Rattle.row_kernels.specs.inside.Divided.{compute_column_offset_at_place};
 
     /// Those of an index from a column on.
     #[tactic(auto, using(std::proofs::lemmas::Int::ints))]
@@ -60,10 +60,10 @@ impl DividedColumns {
         requires least { negsuc 32767 ≤ℤ col }
         requires most { col ≤ℤ pos 32768 }
         ensures { (k : ℕ) → index_at index.now (col +ℤ pos k)
-            ≡ index_at index.now col +ℤ pos (column_steps result k) }
+            ≡ index_at index.now col +ℤ pos (compute_column_offset_at_place result k) }
     {
         DividedColumns {
-            left: find_gather_remainder(index, col),
+            left: compute_gather_remainder_at_column(index, col),
             step: get_gather_multiplier(index),
             reciprocal: Reciprocal::new(get_gather_divisor(index)),
         }
@@ -86,9 +86,9 @@ impl DividedColumns {
 
     /// How far the column at point number `k` lies after the first.
     #[inline]
-    pub fn column_steps(&self, k: usize) -> usize
+    pub fn compute_column_offset_at_place(&self, k: usize) -> usize
         requires { k < 65536 }
-        ensures { result ≡ column_steps self.now k }
+        ensures { result ≡ compute_column_offset_at_place self.now k }
     {
         self.reciprocal.quotient(self.left + k as u32 * self.step) as usize
     }

@@ -10,7 +10,7 @@ ghost use Rattle.row_loops.specs.Rows.{EachPlace, at};
 
 use crate::extreme::Extreme;
 use crate::finish::Epilogue;
-use crate::finishes::apply_epilogue_to_row;
+use crate::finishes::write_operand_with_epilogue;
 use crate::line_pair::LinePair;
 use crate::operand::Operand;
 use crate::sums::combine_three_operands_to_row;
@@ -53,7 +53,7 @@ fn combine_extremes_of_row_pairs<P: PairMap<Made = i32>>(
 
 // Writes what an outer pair makes of the results of an inner one: at the first two lines, and at what the outer pair makes of the
 // next two and the fifth.
-fn combine_extremes_into_medians<P: PairMap<Made = i32>, Q: PairMap<Made = i32>>(
+fn combine_five_rows_by_two_extremes<P: PairMap<Made = i32>, Q: PairMap<Made = i32>>(
     out: &mut [i32],
     first: &[i32],
     second: &[i32],
@@ -80,7 +80,7 @@ fn combine_extremes_into_medians<P: PairMap<Made = i32>, Q: PairMap<Made = i32>>
 }
 
 /// Writes the least or the greatest of three operands, with an epilogue.
-pub fn write_extremes_of_three(
+pub fn write_extremes_of_three_operands(
     extreme: Extreme,
     out: &mut [i32],
     first: Operand,
@@ -101,11 +101,11 @@ pub fn write_extremes_of_three(
             out, first, second, third, Greatest, Greatest,
         ),
     }
-    apply_epilogue_to_row(out, Operand::Written, finish);
+    write_operand_with_epilogue(out, Operand::Written, finish);
 }
 
 /// Writes the least or the greatest number of two pairs of lines, with an epilogue.
-pub fn write_extremes_of_pairs(
+pub fn write_extremes_of_four_rows(
     extreme: Extreme,
     out: &mut [i32],
     pair: LinePair,
@@ -122,13 +122,13 @@ pub fn write_extremes_of_pairs(
         Extreme::Least => combine_extremes_of_row_pairs(out, a, b, c, d, Least),
         Extreme::Greatest => combine_extremes_of_row_pairs(out, a, b, c, d, Greatest),
     }
-    apply_epilogue_to_row(out, Operand::Written, finish);
+    write_operand_with_epilogue(out, Operand::Written, finish);
 }
 
 /// For the greatest, writes the greater of two numbers: the lesser of the first pair, and the lesser of the fifth line and the
 /// greater of the other pair. For the least, the same with least and greatest exchanged. With the same two lines in both pairs,
 /// it is the median of three. An epilogue is applied to it.
-pub fn write_medians_to_row(
+pub fn write_alternating_extremes_of_five_rows(
     extreme: Extreme,
     out: &mut [i32],
     pair: LinePair,
@@ -145,8 +145,12 @@ pub fn write_medians_to_row(
 {
     let (a, b, c, d) = (pair.left, pair.right, other.left, other.right);
     match extreme {
-        Extreme::Least => combine_extremes_into_medians(out, a, b, c, d, fifth, Greatest, Least),
-        Extreme::Greatest => combine_extremes_into_medians(out, a, b, c, d, fifth, Least, Greatest),
+        Extreme::Least => combine_five_rows_by_two_extremes(
+            out, a, b, c, d, fifth, Greatest, Least,
+        ),
+        Extreme::Greatest => combine_five_rows_by_two_extremes(
+            out, a, b, c, d, fifth, Least, Greatest,
+        ),
     }
-    apply_epilogue_to_row(out, Operand::Written, finish);
+    write_operand_with_epilogue(out, Operand::Written, finish);
 }

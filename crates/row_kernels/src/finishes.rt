@@ -19,7 +19,7 @@ use operators::{LiteralOp, TernaryOp, UnaryOp};
 use row_loops::PairMap;
 
 /// Writes what an epilogue makes of an operand.
-pub fn apply_epilogue_to_row(out: &mut [i32], of: Operand, finish: Epilogue)
+pub fn write_operand_with_epilogue(out: &mut [i32], of: Operand, finish: Epilogue)
     requires { Serves (length out.old) of }
     ensures { EachPlace (length out.old)
         (λ k. at out.new k ≡ epilogue_value finish (operand_at of.entry out.old k)) }
@@ -127,7 +127,7 @@ impl Epilogue {
     }
 
     /// The epilogue that first does the work of an operator with a literal as its right operand, if there is one.
-    pub fn prepend_literal(self, op: LiteralOp, number: u32) -> Option<Epilogue>
+    pub fn prepend_literal_op(self, op: LiteralOp, number: u32) -> Option<Epilogue>
         requires { IsLiteral op number }
         ensures { IfSome result (λ finish. (v : ℤ) → epilogue_value finish v
             ≡ epilogue_value self (literal_value op v number)) }

@@ -4,7 +4,7 @@
 ghost use Rattle.std.specs.Prelude.{◌≡◌, ◌<◌, ◌+◌, ◌*◌, ◌/◌, ◌^◌, ℕ, pos, length};
 ghost use Rattle.row_kernels.specs.Columns.{column_gap};
 ghost use Rattle.row_loops.specs.Rows.{EachPlace, at};
-ghost use Rattle.row_kernels.specs.inside.Divided.{column_steps};
+ghost use Rattle.row_kernels.specs.inside.Divided.{compute_column_offset_at_place};
 
 use crate::divided_columns::DividedColumns;
 use crate::row_span::RowSpan;
@@ -77,15 +77,15 @@ fn gather_divided_columns<V: RowNumbers>(
     requires short { length out.old < 65536 }
     requires few { (j : ℕ) → V.has numbers j → j < 2 ^ 64 }
     requires there { EachPlace (length out.old)
-        (λ k. V.has numbers (place + column_steps columns.now k)) }
+        (λ k. V.has numbers (place + compute_column_offset_at_place columns.now k)) }
     ensures { EachPlace (length out.old)
-        (λ k. at out.new k ≡ V.number numbers (place + column_steps columns.now k)) }
+        (λ k. at out.new k ≡ V.number numbers (place + compute_column_offset_at_place columns.now k)) }
 {
     if columns.is_halving() {
         return gather_each_twice(numbers, place, columns.first_remainder(), out);
     }
     for k in 0..out.len() {
-        out[k] = numbers.read_number_at_place(place + columns.column_steps(k));
+        out[k] = numbers.read_number_at_place(place + columns.compute_column_offset_at_place(k));
     }
 }
 

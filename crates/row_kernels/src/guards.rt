@@ -142,7 +142,7 @@ fn count_columns_to_remainder(left: u32, modulus: u32, rest: u32) -> usize
 }
 
 // Takes the numbers of the other row at every second place. (Each place is written, which allows vector code.)
-fn copy_columns_of_remainder_by_two(out: &mut [i32], other: &[i32], first: u32)
+fn copy_places_with_remainder_by_two(out: &mut [i32], other: &[i32], first: u32)
     requires other { length other.now ≡ length out.old }
     requires short { length out.old < 65536 }
     ensures { EachPlace (length out.old) (λ k. at out.new k
@@ -155,7 +155,13 @@ fn copy_columns_of_remainder_by_two(out: &mut [i32], other: &[i32], first: u32)
 }
 
 // Takes the numbers of the other row in the columns whose remainder by `modulus` is `rest`.
-fn copy_remainder_columns(out: &mut [i32], other: &[i32], modulus: u32, rest: u32, points: &RowSpan)
+fn copy_columns_with_remainder(
+    out: &mut [i32],
+    other: &[i32],
+    modulus: u32,
+    rest: u32,
+    points: &RowSpan,
+)
     requires other { length other.now ≡ length out.old }
     requires modulus { IsDivisor modulus }
     requires fits { length out.old ≡ points.now.len }
@@ -172,7 +178,7 @@ fn copy_remainder_columns(out: &mut [i32], other: &[i32], modulus: u32, rest: u3
         rest,
     );
     if modulus == 2 {
-        return copy_columns_of_remainder_by_two(out, other, first as u32);
+        return copy_places_with_remainder_by_two(out, other, first as u32);
     }
     let mut k = first;
     while k < out.len() {
@@ -221,7 +227,7 @@ pub fn copy_row_where_mask_holds(
         then at other.now k else at out.old k)) }
 {
     match passed {
-        RowMask::Leaving(modulus, rest) => copy_remainder_columns(
+        RowMask::Leaving(modulus, rest) => copy_columns_with_remainder(
             out, other, modulus, rest, points,
         ),
         _ => copy_row_where_mask_tests_pass(out, other, tests, points),

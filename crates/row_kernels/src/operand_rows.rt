@@ -10,7 +10,7 @@ use crate::operand::Operand;
 use crate::values::RowNumbers;
 use row_loops::{
     NumberMap, PairMap, SwappedOperands, choose_number, combine_row_in_place, fill_row,
-    map_row_in_place, write_combined_rows, write_mapped_row,
+    map_row_in_place, write_combination_of_two_rows, write_mapped_row,
 };
 
 /// Writes the numbers of an operand.
@@ -51,7 +51,9 @@ pub(crate) fn combine_operands_to_row<P: PairMap<Made = i32>>(
         ≡ P.value make (operand_at left.entry out.old k) (operand_at right.entry out.old k)) }
 {
     match (left, right) {
-        (Operand::Line(left), Operand::Line(right)) => write_combined_rows(out, left, right, make),
+        (Operand::Line(left), Operand::Line(right)) => write_combination_of_two_rows(
+            out, left, right, make,
+        ),
         (Operand::Line(left), Operand::Written) => combine_row_in_place(
             out,
             left,
@@ -73,7 +75,7 @@ pub(crate) fn combine_operands_to_row<P: PairMap<Made = i32>>(
 }
 
 // Keeps its own number where that of a line is related to one, and takes the other number elsewhere.
-fn keep_numbers_where_related<R: PairMap<Made = bool>, V: RowNumbers, W: RowNumbers>(
+fn keep_numbers_where_rows_related<R: PairMap<Made = bool>, V: RowNumbers, W: RowNumbers>(
     out: &mut [i32],
     other: W,
     left: &[i32],
@@ -98,7 +100,7 @@ fn keep_numbers_where_related<R: PairMap<Made = bool>, V: RowNumbers, W: RowNumb
 }
 
 // Keeps a number where that of a line is related to another one, and takes the operand elsewhere.
-fn keep_numbers_or_take_operand<R: PairMap<Made = bool>, V: RowNumbers>(
+fn take_operand_where_rows_unrelated<R: PairMap<Made = bool>, V: RowNumbers>(
     out: &mut [i32],
     left: &[i32],
     right: V,
@@ -113,8 +115,8 @@ fn keep_numbers_or_take_operand<R: PairMap<Made = bool>, V: RowNumbers>(
         else operand_at other.entry out.old k)) }
 {
     match other {
-        Operand::Line(other) => keep_numbers_where_related(out, other, left, right, relate),
-        Operand::Number(other) => keep_numbers_where_related(out, other, left, right, relate),
+        Operand::Line(other) => keep_numbers_where_rows_related(out, other, left, right, relate),
+        Operand::Number(other) => keep_numbers_where_rows_related(out, other, left, right, relate),
         Operand::Written => {}
     }
 }
@@ -135,14 +137,14 @@ pub(crate) fn keep_numbers_where_operands_related<R: PairMap<Made = bool>>(
         then at out.old k else operand_at other.entry out.old k)) }
 {
     match (left, right) {
-        (Operand::Line(left), Operand::Line(right)) => keep_numbers_or_take_operand(
+        (Operand::Line(left), Operand::Line(right)) => take_operand_where_rows_unrelated(
             out, left, right, other, relate,
         ),
-        (Operand::Line(left), Operand::Number(right)) => keep_numbers_or_take_operand(
+        (Operand::Line(left), Operand::Number(right)) => take_operand_where_rows_unrelated(
             out, left, right, other, relate,
         ),
         (Operand::Number(left), Operand::Line(right)) => {
-            keep_numbers_or_take_operand(out, right, left, other, SwappedOperands(relate))
+            take_operand_where_rows_unrelated(out, right, left, other, SwappedOperands(relate))
         }
         (Operand::Number(left), Operand::Number(right)) => {
             if !relate.apply_to_pair(left, right) {

@@ -3,7 +3,7 @@
 
 ghost use Rattle.std.specs.Prelude.{◌≡◌, ◌<◌, ◌≤◌, ◌*◌, ◌/◌, ◌^◌, ◌+ℤ◌, pos};
 ghost use Rattle.domains.specs.Arithmetic.{floor_div, floor_rem};
-ghost use Rattle.row_kernels.specs.inside.Reciprocal.{IsReciprocal, complement_negative_dividend, restore_sign};
+ghost use Rattle.row_kernels.specs.inside.Reciprocal.{IsReciprocal, complement_negative_dividend, undo_complement_of_dividend};
 
 /// A divisor, with a factor. The product with the factor, without its last `shift` bits, is used instead of a division.
 #[derive(Clone, Copy, Debug)]
@@ -54,7 +54,7 @@ impl Reciprocal {
     pub fn floor_quotient(&self, a: i32) -> i32
         ensures { result ≡ floor_div a (pos self.now.divisor) }
     {
-        restore_sign(a, self.quotient(complement_negative_dividend(a)))
+        undo_complement_of_dividend(a, self.quotient(complement_negative_dividend(a)))
     }
 
     /// The remainder of that division, from 0 up to below the divisor.
@@ -81,9 +81,9 @@ fn complement_negative_dividend(a: i32) -> u32
 // `n` if `a` is at least 0, else -1 - `n`.
 #[inline]
 #[tactic(auto, using(std::proofs::lemmas::Int::ints))]
-fn restore_sign(a: i32, n: u32) -> i32
+fn undo_complement_of_dividend(a: i32, n: u32) -> i32
     requires { n < 2 ^ 31 }
-    ensures { result ≡ restore_sign a n }
+    ensures { result ≡ undo_complement_of_dividend a n }
 {
     if a < 0 { -1 - n as i32 } else { n as i32 }
 }

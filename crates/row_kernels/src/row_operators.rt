@@ -13,7 +13,7 @@ use crate::changes::{
     AbsoluteValue, DivisionRemainder, LastBits, LeftShift, Negation, RightShift, ShiftCount,
 };
 use crate::finish::Epilogue;
-use crate::finishes::{apply_epilogue_to_row, combine_operands_with_epilogue};
+use crate::finishes::{combine_operands_with_epilogue, write_operand_with_epilogue};
 use crate::operand::Operand;
 use crate::operand_rows::{
     combine_operands_to_row, keep_numbers_where_operands_related, map_operand_to_row,
@@ -28,7 +28,7 @@ use row_loops::{
 
 /// Writes the results of an operator, with an epilogue. (For the lesser and the greater number the epilogue is a second pass,
 /// so that fewer loops are compiled.)
-pub fn apply_binary_to_row(
+pub fn write_binary_results_to_row(
     op: BinaryOp,
     out: &mut [i32],
     left: Operand,
@@ -49,11 +49,11 @@ pub fn apply_binary_to_row(
         BinaryOp::Min => combine_operands_to_row(out, left, right, Least),
         BinaryOp::Max => combine_operands_to_row(out, left, right, Greatest),
     }
-    apply_epilogue_to_row(out, Operand::Written, finish);
+    write_operand_with_epilogue(out, Operand::Written, finish);
 }
 
 /// Writes the results of an operator whose right operand is multiplied by a factor, with an epilogue.
-pub fn apply_scaled_binary_to_row(
+pub fn combine_with_scaled_operand(
     op: BinaryOp,
     out: &mut [i32],
     left: Operand,
@@ -101,11 +101,11 @@ pub fn apply_scaled_binary_to_row(
             ScaledRightOperand(Greatest, factor),
         ),
     }
-    apply_epilogue_to_row(out, Operand::Written, finish);
+    write_operand_with_epilogue(out, Operand::Written, finish);
 }
 
 /// Writes the quotients by a literal, rounded down.
-pub fn write_quotients_to_row(out: &mut [i32], of: Operand, number: u32)
+pub fn write_quotients_by_literal_to_row(out: &mut [i32], of: Operand, number: u32)
     requires of { Serves (length out.old) of }
     requires number { IsDivisor number }
     ensures { EachPlace (length out.old)
@@ -123,7 +123,7 @@ pub fn write_quotients_to_row(out: &mut [i32], of: Operand, number: u32)
 }
 
 /// Writes the remainders of the division by a literal, rounded down.
-fn write_remainders_to_row(out: &mut [i32], of: Operand, number: u32)
+fn write_remainders_by_literal_to_row(out: &mut [i32], of: Operand, number: u32)
     requires of { Serves (length out.old) of }
     requires number { IsDivisor number }
     ensures { EachPlace (length out.old)
@@ -144,15 +144,15 @@ fn write_remainders_to_row(out: &mut [i32], of: Operand, number: u32)
 }
 
 /// Writes the results of an operator whose right operand is a literal.
-pub fn apply_literal_op_to_row(op: LiteralOp, out: &mut [i32], left: Operand, number: u32)
+pub fn write_literal_op_results_to_row(op: LiteralOp, out: &mut [i32], left: Operand, number: u32)
     requires left { Serves (length out.old) left }
     requires number { IsLiteral op number }
     ensures { EachPlace (length out.old)
         (λ k. at out.new k ≡ literal_value op (operand_at left.entry out.old k) number) }
 {
     match op {
-        LiteralOp::Div => write_quotients_to_row(out, left, number),
-        LiteralOp::Rem => write_remainders_to_row(out, left, number),
+        LiteralOp::Div => write_quotients_by_literal_to_row(out, left, number),
+        LiteralOp::Rem => write_remainders_by_literal_to_row(out, left, number),
         LiteralOp::Shl => map_operand_to_row(out, left, LeftShift(ShiftCount { bits: number })),
         LiteralOp::Shr => map_operand_to_row(out, left, RightShift(ShiftCount { bits: number })),
     }
@@ -169,7 +169,7 @@ pub fn apply_unary_to_number(op: UnaryOp, number: i32) -> i32
 }
 
 /// Writes the results of an operator.
-pub fn apply_unary_to_row(op: UnaryOp, out: &mut [i32], of: Operand)
+pub fn write_unary_results_to_row(op: UnaryOp, out: &mut [i32], of: Operand)
     requires { Serves (length out.old) of }
     ensures { EachPlace (length out.old)
         (λ k. at out.new k ≡ unary_value op (operand_at of.entry out.old k)) }
@@ -181,7 +181,7 @@ pub fn apply_unary_to_row(op: UnaryOp, out: &mut [i32], of: Operand)
 }
 
 /// Writes the results of an operator. (If the second and the third operand are numbers, an epilogue may do its work.)
-pub fn apply_ternary_to_row(
+pub fn write_ternary_results_to_row(
     op: TernaryOp,
     out: &mut [i32],
     first: Operand,
@@ -204,7 +204,7 @@ pub fn apply_ternary_to_row(
 }
 
 /// Keeps a number where the left operand is in the relation to the right one, and takes the other operand elsewhere.
-pub fn select_by_operand_relation(
+pub fn keep_row_where_operand_relation_holds(
     out: &mut [i32],
     left: Operand,
     relation: Relation,

@@ -24,7 +24,7 @@ pub struct RowSpan {
 /// The number `k` after `first`.
 #[inline]
 #[tactic(auto, using(std::proofs::lemmas::Int::ints))]
-pub fn find_coordinate_at_place(first: i32, k: usize) -> i32
+pub fn compute_coordinate_at_place(first: i32, k: usize) -> i32
     requires least { negsuc 1048575 ≤ℤ first }
     requires most { (first +ℤ pos k) ≤ℤ pos 1048576 }
     ensures { result ≡ first +ℤ pos k }
@@ -43,7 +43,7 @@ impl RowSpan {
         ensures len { result.len ≡ len_of area.now.cols }
     {
         RowSpan {
-            row: find_coordinate_at_place(area.rows.lo(), row),
+            row: compute_coordinate_at_place(area.rows.lo(), row),
             col: area.cols.lo(),
             len: area.cols.len() as usize,
         }
@@ -69,7 +69,7 @@ impl RowSpan {
         requires { k < self.now.len }
         ensures { result ≡ self.now.col +ℤ pos k }
     {
-        find_coordinate_at_place(self.col, k)
+        compute_coordinate_at_place(self.col, k)
     }
 
     /// The first `n` points.
@@ -96,7 +96,7 @@ impl RowSpan {
     {
         RowSpan {
             row: self.row,
-            col: find_coordinate_at_place(self.col, from),
+            col: compute_coordinate_at_place(self.col, from),
             len: to - from,
         }
     }
@@ -154,14 +154,14 @@ impl RowSpan {
     }
 
     /// The points that lie `rows` further down.
-    pub fn move_down(&self, rows: usize) -> RowSpan
+    pub fn copy_moved_down_by_rows(&self, rows: usize) -> RowSpan
         requires { (self.now.row +ℤ pos rows) ≤ℤ pos 16384 }
         ensures row { result.row ≡ self.now.row +ℤ pos rows }
         ensures col { result.col ≡ self.now.col }
         ensures len { result.len ≡ self.now.len }
     {
         RowSpan {
-            row: find_coordinate_at_place(self.row, rows),
+            row: compute_coordinate_at_place(self.row, rows),
             col: self.col,
             len: self.len,
         }

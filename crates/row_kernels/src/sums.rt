@@ -10,12 +10,13 @@ ghost use Rattle.row_kernels.specs.Terms.{addend_at};
 
 use crate::changes::PairWithEpilogue;
 use crate::finish::Epilogue;
-use crate::finishes::apply_epilogue_to_row;
+use crate::finishes::write_operand_with_epilogue;
 use crate::operand::Operand;
 use crate::operand_rows::combine_operands_to_row;
 use crate::term::Addend;
 use row_loops::{
-    PairMap, ScaledRightOperand, Sum, combine_row_with_two_rows_in_place, write_three_combined_rows,
+    PairMap, ScaledRightOperand, Sum, combine_row_with_two_rows_in_place,
+    write_combination_of_three_rows,
 };
 
 /// Writes what a pair makes of two operands, joined with a third one by another pair: in one pass if both at the right are lines.
@@ -36,7 +37,7 @@ pub(crate) fn combine_three_operands_to_row<P: PairMap<Made = i32>, Q: PairMap<M
 {
     match (first, second, third) {
         (Operand::Line(first), Operand::Line(second), Operand::Line(third)) => {
-            write_three_combined_rows(out, first, second, third, inner, outer)
+            write_combination_of_three_rows(out, first, second, third, inner, outer)
         }
         (Operand::Written, Operand::Line(second), Operand::Line(third)) => {
             combine_row_with_two_rows_in_place(out, second, third, inner, outer)
@@ -76,11 +77,11 @@ fn combine_three_operands_with_epilogue<P: PairMap<Made = i32>, Q: PairMap<Made 
         );
     }
     combine_three_operands_to_row(out, first, second, third, inner, outer);
-    apply_epilogue_to_row(out, Operand::Written, finish);
+    write_operand_with_epilogue(out, Operand::Written, finish);
 }
 
 /// Writes what an epilogue makes of the sum of an operand and two addends.
-pub fn write_sum_of_addends_to_row(
+pub fn write_sum_of_operand_and_two_addends(
     out: &mut [i32],
     first: Operand,
     second: Addend,

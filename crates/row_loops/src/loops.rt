@@ -59,7 +59,7 @@ pub fn combine_row_in_place<P: PairMap<Made = i32>>(out: &mut [i32], right: &[i3
 }
 
 /// Writes what a pair makes of the numbers of two lines.
-pub fn write_combined_rows<P: PairMap<Made = i32>>(
+pub fn write_combination_of_two_rows<P: PairMap<Made = i32>>(
     out: &mut [i32],
     left: &[i32],
     right: &[i32],
@@ -94,7 +94,7 @@ pub fn combine_row_with_two_rows_in_place<P: PairMap<Made = i32>, Q: PairMap<Mad
 }
 
 /// Writes the numbers of two lines, joined, and then joined with those of a third.
-pub fn write_three_combined_rows<P: PairMap<Made = i32>, Q: PairMap<Made = i32>>(
+pub fn write_combination_of_three_rows<P: PairMap<Made = i32>, Q: PairMap<Made = i32>>(
     out: &mut [i32],
     first: &[i32],
     second: &[i32],

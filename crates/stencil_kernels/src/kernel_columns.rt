@@ -12,7 +12,7 @@ use operators::{Kernel, KernelFactors};
 use std::marker::Model;
 
 // The factor of a row that has no other.
-fn read_single_factor(row: &KernelFactors) -> Option<i32>
+fn find_only_factor_of_kernel_row(row: &KernelFactors) -> Option<i32>
     ensures is { IfSome result (λ f. row.now ≡ f ∷ []) }
     ensures none { IfNone result (¬ (length row.now ≡ 1)) }
 {
@@ -24,13 +24,13 @@ fn read_single_factor(row: &KernelFactors) -> Option<i32>
 
 /// A kernel of three rows of one factor. Contracts see the list of its rows.
 #[derive(Debug, Drop)]
-pub struct Kernel3x1 {
+pub struct ThreeFactorColumnKernel {
     top: i32,
     middle: i32,
     bottom: i32,
 }
 
-impl Model for Kernel3x1 {
+impl Model for ThreeFactorColumnKernel {
     ghost use Rattle.std.specs.Prelude.{List, [], ◌∷◌, ℤ};
 
     ghost Value = { List (List ℤ) };
@@ -38,18 +38,18 @@ impl Model for Kernel3x1 {
     ghost view = { λ s. (s.top ∷ []) ∷ (s.middle ∷ []) ∷ (s.bottom ∷ []) ∷ [] };
 }
 
-impl Kernel3x1 {
+impl ThreeFactorColumnKernel {
     /// This kernel, if it has three rows of one factor.
-    pub fn from_kernel(kernel: &Kernel) -> Option<Kernel3x1>
+    pub fn from_kernel(kernel: &Kernel) -> Option<ThreeFactorColumnKernel>
         ensures is { IfSome result (λ s. s ≡ kernel.now) }
         ensures column { IfSome result (λ s. HasSize 3 1 kernel.now) }
         ensures none { IfNone result (¬ (HasSize 3 1 kernel.now)) }
     {
         match kernel.as_slice() {
-            [top, middle, bottom] => Some(Kernel3x1 {
-                top: read_single_factor(top)?,
-                middle: read_single_factor(middle)?,
-                bottom: read_single_factor(bottom)?,
+            [top, middle, bottom] => Some(ThreeFactorColumnKernel {
+                top: find_only_factor_of_kernel_row(top)?,
+                middle: find_only_factor_of_kernel_row(middle)?,
+                bottom: find_only_factor_of_kernel_row(bottom)?,
             }),
             _ => None,
         }
@@ -88,7 +88,7 @@ impl Kernel3x1 {
 
 /// A kernel of five rows of one factor. Contracts see the list of its rows.
 #[derive(Debug, Drop)]
-pub struct Kernel5x1 {
+pub struct FiveFactorColumnKernel {
     first: i32,
     second: i32,
     third: i32,
@@ -96,7 +96,7 @@ pub struct Kernel5x1 {
     fifth: i32,
 }
 
-impl Model for Kernel5x1 {
+impl Model for FiveFactorColumnKernel {
     ghost use Rattle.std.specs.Prelude.{List, [], ◌∷◌, ℤ};
 
     ghost Value = { List (List ℤ) };
@@ -105,20 +105,20 @@ impl Model for Kernel5x1 {
         ∷ (s.fifth ∷ []) ∷ [] };
 }
 
-impl Kernel5x1 {
+impl FiveFactorColumnKernel {
     /// This kernel, if it has five rows of one factor.
-    pub fn from_kernel(kernel: &Kernel) -> Option<Kernel5x1>
+    pub fn from_kernel(kernel: &Kernel) -> Option<FiveFactorColumnKernel>
         ensures is { IfSome result (λ s. s ≡ kernel.now) }
         ensures column { IfSome result (λ s. HasSize 5 1 kernel.now) }
         ensures none { IfNone result (¬ (HasSize 5 1 kernel.now)) }
     {
         match kernel.as_slice() {
-            [first, second, third, fourth, fifth] => Some(Kernel5x1 {
-                first: read_single_factor(first)?,
-                second: read_single_factor(second)?,
-                third: read_single_factor(third)?,
-                fourth: read_single_factor(fourth)?,
-                fifth: read_single_factor(fifth)?,
+            [first, second, third, fourth, fifth] => Some(FiveFactorColumnKernel {
+                first: find_only_factor_of_kernel_row(first)?,
+                second: find_only_factor_of_kernel_row(second)?,
+                third: find_only_factor_of_kernel_row(third)?,
+                fourth: find_only_factor_of_kernel_row(fourth)?,
+                fifth: find_only_factor_of_kernel_row(fifth)?,
             }),
             _ => None,
         }

@@ -1,6 +1,6 @@
 //! Stencils along rows of numbers: sums of factors and numbers of lines, by what the kernel looks like.
 //!
-//! Words: factor, tap, separable kernel, kernel3x1, kernel5x1, kernel3x3.
+//! Words: factor, tap, separable kernel, kernel3x3.
 #![tactic(auto)]
 
 mod kernel_columns;
@@ -12,7 +12,7 @@ mod stencil;
 mod stencil3x3;
 mod sums_of_nine;
 
-pub use kernel_columns::{Kernel3x1, Kernel5x1};
+pub use kernel_columns::{FiveFactorColumnKernel, ThreeFactorColumnKernel};
 pub use row_sums::write_tap_sums;
 pub use separable::SeparableKernel;
 pub use stencil::{add_line_times_factor, add_tap_sums};

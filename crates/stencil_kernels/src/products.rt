@@ -18,7 +18,13 @@ pub fn add_tap_product(sum: i32, factor: i32, line: &[i32], k: usize) -> i32
 
 /// A sum plus the product of a factor and the difference of the numbers of two lines, wrapped at 32 bits.
 #[inline]
-pub fn add_tap_difference(sum: i32, factor: i32, from: &[i32], to: &[i32], k: usize) -> i32
+pub fn add_tap_product_of_line_difference(
+    sum: i32,
+    factor: i32,
+    from: &[i32],
+    to: &[i32],
+    k: usize,
+) -> i32
     requires from { k < length from.now }
     requires to { k < length to.now }
     ensures { (s : ℤ) → sum ≡ wrapped s

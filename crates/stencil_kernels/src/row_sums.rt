@@ -14,7 +14,7 @@ use row_loops::fill_row;
 
 // Writes the sums of the products of the first factors of a line: of five if there are so many, else of three, else of none.
 // Returns how many.
-fn write_first_tap_sums(out: &mut [i32], line: &[i32], factors: &[i32]) -> usize
+fn write_first_tap_sums_and_count_taps(out: &mut [i32], line: &[i32], factors: &[i32]) -> usize
     requires { length line.now + 1 ≡ length out.old + length factors.now }
     ensures within { result ≤ length factors.now }
     ensures sums { EachPlace (length out.old) (λ k. at out.new k
@@ -38,7 +38,7 @@ pub fn write_tap_sums(out: &mut [i32], line: &[i32], factors: &[i32])
     ensures { EachPlace (length out.old)
         (λ k. at out.new k ≡ wrapped (tap_sum factors.now line.now k)) }
 {
-    let b = write_first_tap_sums(out, line, factors);
+    let b = write_first_tap_sums_and_count_taps(out, line, factors);
     if b < factors.len() {
         add_tap_sums(out, &line[b..], &factors[b..]);
     }

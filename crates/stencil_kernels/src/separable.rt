@@ -25,14 +25,14 @@ impl SeparableKernel {
     }
 
     /// The factors of the rows, from the top.
-    pub fn column_factors(&self) -> &[i32]
+    pub fn borrow_factor_of_each_row(&self) -> &[i32]
         ensures { result.now ≡ self.now.down.items }
     {
         self.down.as_slice()
     }
 
     /// The factors of the columns, from the left.
-    pub fn row_factors(&self) -> &[i32]
+    pub fn borrow_factor_of_each_column(&self) -> &[i32]
         ensures { result.now ≡ self.now.along.items }
     {
         self.along.as_slice()
@@ -58,7 +58,7 @@ fn find_common_factor_of_kernel_row(row: &[i32]) -> u32 {
 }
 
 // The quotients of a row and a number, if the row is no longer than that of a kernel.
-fn divide_row_factors(row: &[i32], divisor: i32) -> Option<ArrayVec<i32, 15>> {
+fn list_quotients_of_row_factors(row: &[i32], divisor: i32) -> Option<ArrayVec<i32, 15>> {
     let mut quotients = ArrayVec::new();
     for number in row {
         quotients.try_push(number.checked_div(divisor)?).ok()?;
@@ -71,14 +71,14 @@ fn find_base_row_of_factors(kernel: &Kernel) -> Option<ArrayVec<i32, 15>> {
     for row in kernel.as_slice() {
         let divisor = find_common_factor_of_kernel_row(row.as_slice());
         if divisor != 0 {
-            return divide_row_factors(row.as_slice(), i32::try_from(divisor).ok()?);
+            return list_quotients_of_row_factors(row.as_slice(), i32::try_from(divisor).ok()?);
         }
     }
     None
 }
 
 // The factor of the base in the row, by the first place where the base is not 0.
-fn find_factor_of_base_in_row(row: &[i32], base: &[i32]) -> Option<i32> {
+fn find_candidate_factor_of_base_in_row(row: &[i32], base: &[i32]) -> Option<i32> {
     for b in 0..base.len() {
         if base[b] != 0 {
             return row.get(b)?.checked_div(base[b]);
@@ -111,7 +111,7 @@ fn find_factors_of_base_in_kernel(kernel: &Kernel, base: &[i32]) -> Option<Array
 {
     let mut down = ArrayVec::new();
     for row in kernel.as_slice() {
-        let times = find_factor_of_base_in_row(row.as_slice(), base)?;
+        let times = find_candidate_factor_of_base_in_row(row.as_slice(), base)?;
         if !is_base_times_factor(row.as_slice(), times, base) {
             return None;
         }

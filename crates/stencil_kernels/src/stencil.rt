@@ -25,7 +25,7 @@ pub fn add_line_times_factor(out: &mut [i32], line: &[i32], factor: i32)
 }
 
 // Adds the products of the first factors of a line: of five if there are so many, else of three, else of one. Returns how many.
-fn add_first_tap_sums(out: &mut [i32], line: &[i32], factors: &[i32]) -> usize
+fn add_first_tap_sums_and_count_taps(out: &mut [i32], line: &[i32], factors: &[i32]) -> usize
     requires some { 0 < length factors.now }
     requires line { length line.now + 1 ≡ length out.old + length factors.now }
     ensures more { 0 < result }
@@ -54,6 +54,6 @@ pub fn add_tap_sums(out: &mut [i32], line: &[i32], factors: &[i32])
 {
     let mut b = 0;
     while b < factors.len() {
-        b += add_first_tap_sums(out, &line[b..], &factors[b..]);
+        b += add_first_tap_sums_and_count_taps(out, &line[b..], &factors[b..]);
     }
 }

@@ -8,7 +8,7 @@ ghost use Rattle.row_loops.specs.Rows.{EachPlace, at};
 ghost use Rattle.stencil_kernels.specs.Stencil.{tap_sum, HasSize};
 ghost use Rattle.stencil_kernels.specs.inside.Triples.{three_ones, three_zeros, negated, IsDifference, HasDifferences};
 
-use crate::products::add_tap_difference;
+use crate::products::add_tap_product_of_line_difference;
 use crate::sums_of_nine::{write_nine_unit_tap_sums, write_three_unit_tap_sums};
 use domains::arithmetic::{wrapping_add, wrapping_mul, wrapping_neg, wrapping_sub};
 use operators::Kernel;
@@ -83,7 +83,7 @@ impl FactorTriple {
     }
 
     // Whether the left factor is the negation of the right one, and the middle one is 0.
-    fn is_difference(&self) -> bool
+    fn is_scaled_right_minus_left(&self) -> bool
         ensures { IsTrue result → IsDifference self.now }
     {
         self.middle == 0 && self.left == wrapping_neg(self.right)
@@ -100,20 +100,20 @@ impl FactorTriple {
 
     // What the factors give along a line from place `k` on, and their negations along another.
     #[inline]
-    fn sum_products_of_line_gaps(&self, from: &[i32], to: &[i32], k: usize) -> i32
+    fn sum_products_of_line_difference(&self, from: &[i32], to: &[i32], k: usize) -> i32
         requires from { k + 2 < length from.now }
         requires to { k + 2 < length to.now }
         ensures { result
             ≡ wrapped (tap_sum (negated self.now) from.now k +ℤ tap_sum self.now to.now k) }
     {
-        let one = add_tap_difference(0, self.left, from, to, k);
-        let two = add_tap_difference(one, self.middle, from, to, k + 1);
-        add_tap_difference(two, self.right, from, to, k + 2)
+        let one = add_tap_product_of_line_difference(0, self.left, from, to, k);
+        let two = add_tap_product_of_line_difference(one, self.middle, from, to, k + 1);
+        add_tap_product_of_line_difference(two, self.right, from, to, k + 2)
     }
 
     // A sum and what the factors give from place `k` on, by one product.
     #[inline]
-    fn add_scaled_difference(&self, sum: i32, line: &[i32], k: usize) -> i32
+    fn add_scaled_right_minus_left_sample(&self, sum: i32, line: &[i32], k: usize) -> i32
         requires row { IsDifference self.now }
         requires line { k + 2 < length line.now }
         ensures { (s : ℤ) → sum ≡ wrapped s
@@ -252,7 +252,7 @@ impl Kernel3x3 {
 
     // What the outer rows give along their lines from place `k` on.
     #[inline]
-    fn sum_outer_rows(&self, top: &[i32], bottom: &[i32], k: usize) -> i32
+    fn sum_outer_row_products(&self, top: &[i32], bottom: &[i32], k: usize) -> i32
         requires top { k + 2 < length top.now }
         requires bottom { k + 2 < length bottom.now }
         ensures { result
@@ -273,12 +273,12 @@ impl Kernel3x3 {
             ≡ wrapped (tap_sum (factors self 0) top.now k +ℤ tap_sum (factors self 2) bottom.now k)) }
     {
         for k in 0..out.len() {
-            out[k] = self.sum_outer_rows(top, bottom, k);
+            out[k] = self.sum_outer_row_products(top, bottom, k);
         }
     }
 
     // Whether the top row subtracts what the bottom row adds.
-    fn has_opposite_outer_rows(&self) -> bool
+    fn is_top_row_negated_bottom_row(&self) -> bool
         ensures { IsTrue result → factors self.now 0 ≡ negated (factors self.now 2) }
     {
         self.top.is_negation_of(&self.bottom)
@@ -286,7 +286,7 @@ impl Kernel3x3 {
 
     // What the outer rows give along their lines from place `k` on, by one product for two factors.
     #[inline]
-    fn sum_outer_differences(&self, top: &[i32], bottom: &[i32], k: usize) -> i32
+    fn sum_bottom_minus_top_products(&self, top: &[i32], bottom: &[i32], k: usize) -> i32
         requires rows { factors self.now 0 ≡ negated (factors self.now 2) }
         requires top { k + 2 < length top.now }
         requires bottom { k + 2 < length bottom.now }
@@ -294,11 +294,11 @@ impl Kernel3x3 {
             ≡ wrapped (tap_sum (factors self.now 0) top.now k
             +ℤ tap_sum (factors self.now 2) bottom.now k) }
     {
-        self.bottom.sum_products_of_line_gaps(top, bottom, k)
+        self.bottom.sum_products_of_line_difference(top, bottom, k)
     }
 
     // Writes what the outer rows give, if they are opposites.
-    fn write_outer_row_differences(self, out: &mut [i32], top: &[i32], bottom: &[i32])
+    fn write_bottom_minus_top_product_sums(self, out: &mut [i32], top: &[i32], bottom: &[i32])
         requires rows { factors self 0 ≡ negated (factors self 2) }
         requires top { length top.now ≡ length out.old + 2 }
         requires bottom { length bottom.now ≡ length out.old + 2 }
@@ -306,7 +306,7 @@ impl Kernel3x3 {
             ≡ wrapped (tap_sum (factors self 0) top.now k +ℤ tap_sum (factors self 2) bottom.now k)) }
     {
         for k in 0..out.len() {
-            out[k] = self.sum_outer_differences(top, bottom, k);
+            out[k] = self.sum_bottom_minus_top_products(top, bottom, k);
         }
     }
 
@@ -317,23 +317,31 @@ impl Kernel3x3 {
         ensures { EachPlace (length out.old) (λ k. at out.new k
             ≡ wrapped (tap_sum (factors self 0) top.now k +ℤ tap_sum (factors self 2) bottom.now k)) }
     {
-        if self.has_opposite_outer_rows() {
-            self.write_outer_row_differences(out, top, bottom);
+        if self.is_top_row_negated_bottom_row() {
+            self.write_bottom_minus_top_product_sums(out, top, bottom);
         } else {
             self.write_outer_row_products(out, top, bottom);
         }
     }
 
     // Whether each row is a difference.
-    fn has_difference_rows(&self) -> bool
+    fn has_only_right_minus_left_rows(&self) -> bool
         ensures { IsTrue result → HasDifferences self.now }
     {
-        self.top.is_difference() && self.middle.is_difference() && self.bottom.is_difference()
+        self.top.is_scaled_right_minus_left()
+            && self.middle.is_scaled_right_minus_left()
+            && self.bottom.is_scaled_right_minus_left()
     }
 
     // What the rows give, by one product each.
     #[inline]
-    fn sum_row_differences(&self, top: &[i32], middle: &[i32], bottom: &[i32], k: usize) -> i32
+    fn sum_right_minus_left_products(
+        &self,
+        top: &[i32],
+        middle: &[i32],
+        bottom: &[i32],
+        k: usize,
+    ) -> i32
         requires rows { HasDifferences self.now }
         requires top { k + 2 < length top.now }
         requires middle { k + 2 < length middle.now }
@@ -343,13 +351,22 @@ impl Kernel3x3 {
             +ℤ tap_sum (factors self.now 1) middle.now k
             +ℤ tap_sum (factors self.now 2) bottom.now k) }
     {
-        let one = self.top.add_scaled_difference(0, top, k);
-        let two = self.middle.add_scaled_difference(one, middle, k);
-        self.bottom.add_scaled_difference(two, bottom, k)
+        let one = self.top.add_scaled_right_minus_left_sample(0, top, k);
+        let two = self
+            .middle
+            .add_scaled_right_minus_left_sample(one, middle, k);
+        self.bottom
+            .add_scaled_right_minus_left_sample(two, bottom, k)
     }
 
     // Writes what the rows give, if they are differences.
-    fn write_row_differences(self, out: &mut [i32], top: &[i32], middle: &[i32], bottom: &[i32])
+    fn write_right_minus_left_product_sums(
+        self,
+        out: &mut [i32],
+        top: &[i32],
+        middle: &[i32],
+        bottom: &[i32],
+    )
         requires rows { HasDifferences self }
         requires top { length top.now ≡ length out.old + 2 }
         requires middle { length middle.now ≡ length out.old + 2 }
@@ -359,7 +376,7 @@ impl Kernel3x3 {
             +ℤ tap_sum (factors self 2) bottom.now k)) }
     {
         for k in 0..out.len() {
-            out[k] = self.sum_row_differences(top, middle, bottom, k);
+            out[k] = self.sum_right_minus_left_products(top, middle, bottom, k);
         }
     }
 
@@ -376,8 +393,8 @@ impl Kernel3x3 {
             write_nine_unit_tap_sums(out, top, middle, bottom);
         } else if self.has_zero_middle_row() {
             self.write_outer_row_sums(out, top, bottom);
-        } else if self.has_difference_rows() {
-            self.write_row_differences(out, top, middle, bottom);
+        } else if self.has_only_right_minus_left_rows() {
+            self.write_right_minus_left_product_sums(out, top, middle, bottom);
         } else {
             self.write_product_sums(out, top, middle, bottom);
         }

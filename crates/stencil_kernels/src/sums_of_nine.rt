@@ -12,7 +12,7 @@ use domains::arithmetic::wrapping_add;
 
 // Three numbers of a line from place `k` on, added up.
 #[inline]
-fn sum_three_unit_taps(line: &[i32], k: usize) -> i32
+fn sum_three_unit_taps_of_point(line: &[i32], k: usize) -> i32
     requires { k + 2 < length line.now }
     ensures { result ≡ wrapped (tap_sum three_ones line.now k) }
 {
@@ -26,13 +26,13 @@ pub fn write_three_unit_tap_sums(out: &mut [i32], line: &[i32])
         (λ k. at out.new k ≡ wrapped (tap_sum three_ones line.now k)) }
 {
     for k in 0..out.len() {
-        out[k] = sum_three_unit_taps(line, k);
+        out[k] = sum_three_unit_taps_of_point(line, k);
     }
 }
 
 // Three numbers of each of three lines from place `k` on, added up.
 #[inline]
-fn sum_nine_unit_taps(top: &[i32], middle: &[i32], bottom: &[i32], k: usize) -> i32
+fn sum_nine_unit_taps_of_point(top: &[i32], middle: &[i32], bottom: &[i32], k: usize) -> i32
     requires top { k + 2 < length top.now }
     requires middle { k + 2 < length middle.now }
     requires bottom { k + 2 < length bottom.now }
@@ -40,8 +40,11 @@ fn sum_nine_unit_taps(top: &[i32], middle: &[i32], bottom: &[i32], k: usize) -> 
         ≡ wrapped (tap_sum three_ones top.now k +ℤ tap_sum three_ones middle.now k
         +ℤ tap_sum three_ones bottom.now k) }
 {
-    let sum = wrapping_add(sum_three_unit_taps(top, k), sum_three_unit_taps(middle, k));
-    wrapping_add(sum, sum_three_unit_taps(bottom, k))
+    let sum = wrapping_add(
+        sum_three_unit_taps_of_point(top, k),
+        sum_three_unit_taps_of_point(middle, k),
+    );
+    wrapping_add(sum, sum_three_unit_taps_of_point(bottom, k))
 }
 
 /// Writes at each place three numbers of each line from there on, added up and wrapped at 32 bits.
@@ -54,6 +57,6 @@ pub fn write_nine_unit_tap_sums(out: &mut [i32], top: &[i32], middle: &[i32], bo
         +ℤ tap_sum three_ones bottom.now k)) }
 {
     for k in 0..out.len() {
-        out[k] = sum_nine_unit_taps(top, middle, bottom, k);
+        out[k] = sum_nine_unit_taps_of_point(top, middle, bottom, k);
     }
 }

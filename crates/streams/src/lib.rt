@@ -7,4 +7,4 @@ mod stream;
 mod whole;
 
 pub use stream::{Metered, Sink, Source};
-pub use whole::{SourceFault, WriteFailed, read_all_bytes, write_all_bytes};
+pub use whole::{SourceFault, WriteFailed, read_all_bytes_within_limit, write_all_bytes};

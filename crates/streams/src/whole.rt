@@ -28,7 +28,7 @@ pub struct WriteFailed;
 const PIECE: usize = 65536;
 
 /// Reads to the end, if it comes after at most `limit` bytes.
-pub fn read_all_bytes<R: Source>(
+pub fn read_all_bytes_within_limit<R: Source>(
     alloc: Global,
     reader: &mut R,
     limit: usize,

@@ -65,5 +65,5 @@ words_once (name ∷ ends ∷ entries) s t x y = tells_once name ends entries s 
 words_once [] s t x y = absurd x
 words_once (w ∷ []) s t x y = absurd x
 
-pub lines_describe_one_table : (line : List ℕ) (s t : Table) → IsTableLine line s → IsTableLine line t → s ≡ t
-lines_describe_one_table line s t x y = words_once (parts 32 line) s t x y
+pub line_describes_at_most_one_table : (line : List ℕ) (s t : Table) → IsTableLine line s → IsTableLine line t → s ≡ t
+line_describes_at_most_one_table line s t x y = words_once (parts 32 line) s t x y

@@ -6,7 +6,7 @@ use Rattle.std.specs.Int.{w64}
 use Rattle.std.specs.Str.Parse.{IsNumeral, digits_value, starts_with_minus}
 use Rattle.domains.specs.Arithmetic.{clamped}
 use Rattle.domains.specs.Span.{Ends}
-use Rattle.pipe_tokens.specs.Naming.{is_name}
+use Rattle.pipe_tokens.specs.Naming.{is_identifier_of_name_length}
 use Rattle.pipe_tokens.specs.Spelled.{word_of}
 use Rattle.tables.specs.Entries.{AreEntries, AreIndices}
 use Rattle.tables.specs.declared.table.Table.{Table}
@@ -47,7 +47,7 @@ cut_to_32 z = clamped z (negsuc 2147483647) (pos 2147483647)
 
 -- a name of the language that is no reserved word
 pub record IsTableName (word : List ℕ) : Type 0 where
-  pub name : IsTrue (is_name word)
+  pub name : IsTrue (is_identifier_of_name_length word)
   pub free : word_of word ≡ None
 
 -- `LO..HI` of indices, split at dots: nothing is between the two

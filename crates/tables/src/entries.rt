@@ -37,7 +37,7 @@ impl TableEntries {
     /// # Errors
     ///
     /// Fails only if there are too many copies to count.
-    pub fn from_table(table: &Table) -> Result<Option<TableEntries>, AllocError>
+    pub fn from_table_if_within_limits(table: &Table) -> Result<Option<TableEntries>, AllocError>
         ensures some { IfOk result (λ found. IfSome found (λ e. e
             ≡ record {
               span =
@@ -76,7 +76,7 @@ impl TableEntries {
     }
 
     /// The entry at an index, which is clamped to the span.
-    pub fn look_up_entry(&self, index: i32) -> i32
+    pub fn look_up_entry_at_clamped_index(&self, index: i32) -> i32
         ensures { result ≡ entry_at self.now index }
     {
         self.values.as_slice()[compute_offset_in_table_span(

@@ -5,6 +5,6 @@ ghost use Rattle.tables.specs.Lines.{IsTableLine};
 ghost use Rattle.tables.specs.declared.table.Table.{Table as TableType};
 
 /// A line describes at most one table.
-pub fn lines_describe_one_table()
+pub fn line_describes_at_most_one_table()
     ensures { (line : List ℕ) (s t : TableType) → IsTableLine line s → IsTableLine line t → s ≡ t }
 {}

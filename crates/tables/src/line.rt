@@ -17,19 +17,19 @@ use sequences::SharedSequence;
 use std::alloc::Global;
 
 /// The table that the words of a line describe.
-pub fn parse_table_words(alloc: Global, words: &[&[u8]]) -> Result<Table, TableFault>
+pub fn parse_table_from_words(alloc: Global, words: &[&[u8]]) -> Result<Table, TableFault>
     ensures found { IfOk result (TellTable (map (λ w. w.now) words.now)) }
     ensures fault { IfErr result (λ fault. fault ≡ BadLine
         → (table : TableType) → ¬ TellTable (map (λ w. w.now) words.now) table) }
 {
     match words {
-        [name, ends, entries @ ..] => parse_table_fields(alloc, name, ends, entries),
+        [name, ends, entries @ ..] => parse_table_from_fields(alloc, name, ends, entries),
         _ => Err(TableFault::BadLine),
     }
 }
 
 // The table of this name, these ends and these entries.
-fn parse_table_fields(
+fn parse_table_from_fields(
     alloc: Global,
     name: &[u8],
     ends: &[u8],
@@ -42,7 +42,7 @@ fn parse_table_fields(
     let Some(name) = parse_table_name(name) else {
         return Err(TableFault::BadLine);
     };
-    let span = parse_table_span(alloc, ends)?;
+    let span = parse_table_span_with_colon(alloc, ends)?;
     if entries.len() > MOST_ENTRIES || entries.len() != span.len() as usize {
         return Err(TableFault::BadLine);
     }
@@ -67,31 +67,31 @@ fn parse_table_name(word: &[u8]) -> Option<Name>
 }
 
 // The indices that `LO..HI:` spells.
-fn parse_table_span(alloc: Global, word: &[u8]) -> Result<Span, TableFault>
+fn parse_table_span_with_colon(alloc: Global, word: &[u8]) -> Result<Span, TableFault>
     ensures found { IfOk result (SpellSpan (parts 58 word.now)) }
     ensures within { IfOk result AreIndices }
     ensures fault { IfErr result (λ fault. fault ≡ BadLine → (span : Ends)
         → ¬ SpellSpan (parts 58 word.now) span) }
 {
     let halves = split_table_span_at_colons(alloc, word)?;
-    parse_table_span_halves(alloc, &halves)
+    parse_table_span_from_colon_parts(alloc, &halves)
 }
 
 // The same, from the parts between colons.
-fn parse_table_span_halves(alloc: Global, halves: &[&[u8]]) -> Result<Span, TableFault>
+fn parse_table_span_from_colon_parts(alloc: Global, halves: &[&[u8]]) -> Result<Span, TableFault>
     ensures found { IfOk result (SpellSpan (map (λ h. h.now) halves.now)) }
     ensures within { IfOk result AreIndices }
     ensures fault { IfErr result (λ fault. fault ≡ BadLine → (span : Ends)
         → ¬ SpellSpan (map (λ h. h.now) halves.now) span) }
 {
     match halves {
-        [ends, behind] => parse_table_span_before_colon(alloc, ends, behind),
+        [ends, behind] => parse_table_span_around_colon(alloc, ends, behind),
         _ => Err(TableFault::BadLine),
     }
 }
 
 // The same, from what is before the colon and after it.
-fn parse_table_span_before_colon(
+fn parse_table_span_around_colon(
     alloc: Global,
     ends: &[u8],
     behind: &[u8],
@@ -105,27 +105,27 @@ fn parse_table_span_before_colon(
         return Err(TableFault::BadLine);
     }
     let ends = split_table_span_at_dots(alloc, ends)?;
-    match parse_table_span_ends(&ends) {
+    match parse_table_span_from_dot_parts(&ends) {
         Some(span) => Ok(span),
         None => Err(TableFault::BadLine),
     }
 }
 
 // The indices whose ends are spelled by the parts of `LO..HI` between dots.
-fn parse_table_span_ends(ends: &[&[u8]]) -> Option<Span>
+fn parse_table_span_from_dot_parts(ends: &[&[u8]]) -> Option<Span>
     ensures some { IfSome result (SpellEnds (map (λ e. e.now) ends.now)) }
     ensures within { IfSome result AreIndices }
     ensures none { IfNone result ((span : Ends)
         → ¬ SpellEnds (map (λ e. e.now) ends.now) span) }
 {
     match ends {
-        [first, between, last] => parse_table_ends_around_dots(first, between, last),
+        [first, between, last] => parse_table_span_around_dots(first, between, last),
         _ => None,
     }
 }
 
 // The same, from what is before two dots, between them, and after them.
-fn parse_table_ends_around_dots(first: &[u8], between: &[u8], last: &[u8]) -> Option<Span>
+fn parse_table_span_around_dots(first: &[u8], between: &[u8], last: &[u8]) -> Option<Span>
     ensures some { IfSome result (SpellEnds (first.now ∷ between.now ∷ last.now ∷ [])) }
     ensures within { IfSome result AreIndices }
     ensures none { IfNone result ((span : Ends)

@@ -6,8 +6,8 @@ ghost use Rattle.tables.specs.Lines.{IsTableLine};
 ghost use Rattle.tables.specs.declared.fault.TableFault.TheVariants.{BadLine};
 
 use crate::fault::TableFault;
-use crate::line::parse_table_words;
-use crate::words::split_table_line;
+use crate::line::parse_table_from_words;
+use crate::words::split_table_line_at_blanks;
 use domains::Span;
 use pipe_tokens::Name;
 use sequences::SharedSequence;
@@ -39,8 +39,8 @@ impl Table {
         ensures fault { IfErr result (λ fault. fault ≡ BadLine
             → (table : TableType) → ¬ IsTableLine line.now table) }
     {
-        let words = split_table_line(alloc, line)?;
-        parse_table_words(alloc, &words)
+        let words = split_table_line_at_blanks(alloc, line)?;
+        parse_table_from_words(alloc, &words)
     }
 
     /// The indices. None if there are no entries, more than 4,096, or an index farther than 16,384 from 0.

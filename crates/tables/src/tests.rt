@@ -20,10 +20,10 @@ fn a_line_is_a_table(rt: HostRuntime) -> Result<(), Fail> {
         table.values.as_slice(),
         [7, 0, i32::MAX, i32::MIN].as_slice()
     );
-    let entries = TableEntries::from_table(&table)?.ok_or("entries")?;
-    assert_eq!(rt; entries.look_up_entry(-5), 7);
-    assert_eq!(rt; entries.look_up_entry(0), 0);
-    assert_eq!(rt; entries.look_up_entry(5), i32::MIN);
+    let entries = TableEntries::from_table_if_within_limits(&table)?.ok_or("entries")?;
+    assert_eq!(rt; entries.look_up_entry_at_clamped_index(-5), 7);
+    assert_eq!(rt; entries.look_up_entry_at_clamped_index(0), 0);
+    assert_eq!(rt; entries.look_up_entry_at_clamped_index(5), i32::MIN);
     Ok(())
 }
 

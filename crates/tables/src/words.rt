@@ -6,7 +6,10 @@ ghost use Rattle.tables.specs.Lines.{parts};
 use std::alloc::{AllocError, Global};
 
 /// The words of a line, separated by one blank each.
-pub fn split_table_line<'a>(alloc: Global, line: &'a [u8]) -> Result<Vec<&'a [u8]>, AllocError>
+pub fn split_table_line_at_blanks<'a>(
+    alloc: Global,
+    line: &'a [u8],
+) -> Result<Vec<&'a [u8]>, AllocError>
     ensures { IfOk result (λ found. map (λ w. w.now) found.items ≡ parts 32 line.now) }
 {
     line.split(|byte| *byte == b' ').collect(alloc)

@@ -4,7 +4,7 @@ ghost use Rattle.job.specs.Kept.{pipeline_in};
 
 use crate::checks::assert_debug_text;
 use crate::jobs::{ONE_TO_NINE, REMAINDERS, bind_example_job, make_example_stored_schedule};
-use accumulators::{Answer, assemble_answer, evaluate_job, whole};
+use accumulators::{Answer, compute_answer_from_function_tiles, evaluate_job, whole};
 use job::Job;
 use std::alloc::Global;
 use std::test::Fail;
@@ -20,7 +20,7 @@ fn compute_both_example_answers(
 ) -> Result<(Answer, Answer), Fail> {
     let schedule = make_example_stored_schedule(alloc, job)?;
     let tiles = run_all(rt, alloc, job, &schedule)?;
-    let from_tiles = assemble_answer(rt, alloc, job, &schedule, &tiles)?;
+    let from_tiles = compute_answer_from_function_tiles(rt, alloc, job, &schedule, &tiles)?;
     let at_once = evaluate_job(rt, alloc, job, &schedule)?;
     Ok((at_once, from_tiles))
 }

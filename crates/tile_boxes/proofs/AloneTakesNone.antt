@@ -16,7 +16,7 @@ use Rattle.tile_boxes.specs.Order.{greatest_rank, order_stages_by_rank, backward
 use Rattle.tile_boxes.specs.Demands.{hull_of_all, areas_of}
 use Rattle.tile_boxes.specs.Targets.{Target, region_by, stage_demands, demands_by, cut_to, box_within, box}
 use Rattle.tile_boxes.specs.Costs.{scratch}
-use Rattle.tile_boxes.specs.Tallies.{count_inlined_points, has_only_stored_reads}
+use Rattle.tile_boxes.specs.Tallies.{count_points_of_inlined_stage_or_zero, has_only_stored_reads}
 use Rattle.tile_boxes.proofs.DemandsFall.{OfReads, none_of, of_stage}
 use Rattle.tile_boxes.proofs.BoxesFollowTheRule.{areas_of-append}
 use Rattle.tile_boxes.proofs.CostsAddUp.{scratch_is, sum_cons}
@@ -75,7 +75,7 @@ no_box : (t : Target) (g : ℕ) → IsAlone t → is_inlined t.inlining g ≡ tr
 unfolding box
 no_box t g alone inlined other = no_box_within t alone (suc (greatest_rank t.job.stages)) g inlined other
 
-no_points : (t : Target) → IsAlone t → (g : ℕ) → count_inlined_points t g ≡ 0
+no_points : (t : Target) → IsAlone t → (g : ℕ) → count_points_of_inlined_stage_or_zero t g ≡ 0
 no_points t alone g = by (is_inlined t.inlining g) refl (is_function_stage t.job g) (nat_eq g t.stage) refl
   where
     by : (a : Bool) → is_inlined t.inlining g ≡ a → (b c : Bool) → nat_eq g t.stage ≡ c
@@ -85,9 +85,9 @@ no_points t alone g = by (is_inlined t.inlining g) refl (is_function_stage t.job
     by true e true true f = refl
     by true e true false f = ap (λ o. option_map_or point_count o 0) (no_box t g alone e f)
 
-no_sum : (t : Target) → IsAlone t → (gs : List ℕ) → sum (map (count_inlined_points t) gs) ≡ 0
+no_sum : (t : Target) → IsAlone t → (gs : List ℕ) → sum (map (count_points_of_inlined_stage_or_zero t) gs) ≡ 0
 no_sum t alone [] = refl
-no_sum t alone (g ∷ gs) = sum_cons (count_inlined_points t) g gs ∙ (λ i. no_points t alone g i + no_sum t alone gs i)
+no_sum t alone (g ∷ gs) = sum_cons (count_points_of_inlined_stage_or_zero t) g gs ∙ (λ i. no_points t alone g i + no_sum t alone gs i)
 
 pub alone_takes_none : (t : Target) (s : Stage) → slice_get t.job.stages t.stage ≡ Some s → has_only_stored_reads t.inlining (reads_of s.body) ≡ true
     → scratch t ≡ 0

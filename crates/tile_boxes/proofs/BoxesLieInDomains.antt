@@ -14,7 +14,7 @@ use Rattle.tile_boxes.specs.Order.{order_stages_by_rank}
 use Rattle.tile_boxes.specs.Schedules.{is_inlined, is_function_body, is_function_stage, all_stored}
 use Rattle.tile_boxes.specs.Demands.{hull_of_all, areas_of}
 use Rattle.tile_boxes.specs.Targets.{Target, IsTarget, IsListed, all_demands_by}
-use Rattle.tile_boxes.specs.Targets.{cut_to, box, region, with_number, can_have_box, numbered_box, boxes}
+use Rattle.tile_boxes.specs.Targets.{cut_to, box, region, with_number, is_function_other_than_target, numbered_box, boxes}
 use Rattle.tile_boxes.specs.Costs.{scratch, points}
 use Rattle.tile_boxes.specs.Walks.{InDomainRanges}
 use Rattle.tile_boxes.proofs.AreasMeet.{near_meet}
@@ -74,7 +74,7 @@ there_is job g e = by (slice_get job.stages g) refl e
     by (Some s) is k = (s, is)
 
 listed_one : (t : Target) (g : ℕ) → IsJob t.job → All (IsListed t) (numbered_box t g)
-listed_one t g job = by (can_have_box t g) refl
+listed_one t g job = by (is_function_other_than_target t g) refl
   where
     with_box : (o : Option Area) → is_function_stage t.job g ≡ true → box t g ≡ o → All (IsListed t) (with_number g o)
     with_box None e is = All-nil (IsListed t)
@@ -84,7 +84,7 @@ listed_one t g job = by (can_have_box t g) refl
         All-cons (IsListed t) (g, a) []
         (record { owner = owner.0; there = owner.1; function = e; is = is; area = inside.0; inside = inside.1 }) (All-nil (IsListed t))
 
-    by : (b : Bool) → can_have_box t g ≡ b → All (IsListed t) (if b then with_number g (box t g) else [])
+    by : (b : Bool) → is_function_other_than_target t g ≡ b → All (IsListed t) (if b then with_number g (box t g) else [])
     by true e = with_box (box t g) (and_parts (is_function_stage t.job g) (not (nat_eq g t.stage)) e).0 refl
     by false e = All-nil (IsListed t)
 

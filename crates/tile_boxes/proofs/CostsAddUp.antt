@@ -13,7 +13,7 @@ use Rattle.tile_boxes.specs.Costs.{most_scratch, FitsScratch, has_scratch, stage
 use Rattle.tile_boxes.specs.Costs.{points_in, inner_steps, scratch, points}
 use Rattle.tile_boxes.specs.Costs.{AllFitScratch}
 use Rattle.tile_boxes.specs.Tallies.{all_have_scratch, all_stages_fit, over_domain, list_tile_areas, row_areas, over}
-use Rattle.tile_boxes.specs.Tallies.{count_inlined_points, points_over, list_tile_columns, area_of}
+use Rattle.tile_boxes.specs.Tallies.{count_points_of_inlined_stage_or_zero, points_over, list_tile_columns, area_of}
 use Rattle.tile_boxes.proofs.Lists.{range_more, flat_map_range_more}
 use Rattle.tile_boxes.proofs.TilesAreTargets.{gridded, tile_of_stage_is_target}
 use Rattle.std.proofs.lemmas.List.{map-append}
@@ -25,7 +25,7 @@ use Rattle.domains.proofs.PairLists.{All-pairs, Contains-from_range}
 use Rattle.job.specs.WellFormed.{IsJob}
 use Rattle.job.specs.Answers.{grid_of, has_tiles}
 use Rattle.job.specs.Readers.{grid_at}
-use Rattle.tile_boxes.specs.Targets.{IsTarget, Target, can_have_box, box, with_number, numbered_box, target_over}
+use Rattle.tile_boxes.specs.Targets.{IsTarget, Target, is_function_other_than_target, box, with_number, numbered_box, target_over}
 use Rattle.std.specs.Option.{option_map_or}
 use Rattle.domains.specs.Area.{point_count}
 use Rattle.domains.specs.Span.{Ends}
@@ -66,17 +66,17 @@ pub sum_cons : {X : Type 0} (f : X → ℕ) (x : X) (xs : List X) → sum (map f
 sum_cons f x xs = sum-map f (x ∷ xs) ∙ sum_by-cons f x xs ∙ sym (ap (λ n. f x + n) (sum-map f xs))
 
 sum_inner : (t : Target) (gs : List ℕ)
-    → points_in (filter (λ s. is_inlined t.inlining s.0) (flat_map (numbered_box t) gs)) ≡ sum (map (count_inlined_points t) gs)
+    → points_in (filter (λ s. is_inlined t.inlining s.0) (flat_map (numbered_box t) gs)) ≡ sum (map (count_points_of_inlined_stage_or_zero t) gs)
 sum_inner t [] = refl
 sum_inner t (g ∷ gs) =
     let p : ℕ × Area → Bool = λ s. is_inlined t.inlining s.0 in
     ap points_in (filter-append p (numbered_box t g) (flat_map (numbered_box t) gs))
     ∙ points_append (filter p (numbered_box t g)) (filter p (flat_map (numbered_box t) gs))
-    ∙ (λ i. inner_by (is_inlined t.inlining) g (can_have_box t g) (box t g) i + sum_inner t gs i)
-    ∙ sym (sum_cons (count_inlined_points t) g gs)
+    ∙ (λ i. inner_by (is_inlined t.inlining) g (is_function_other_than_target t g) (box t g) i + sum_inner t gs i)
+    ∙ sym (sum_cons (count_points_of_inlined_stage_or_zero t) g gs)
 
 -- the points in scratch memory, stage by stage
-pub scratch_is : (t : Target) → sum (map (count_inlined_points t) (order_stages_by_rank t.job.stages)) ≡ scratch t
+pub scratch_is : (t : Target) → sum (map (count_points_of_inlined_stage_or_zero t) (order_stages_by_rank t.job.stages)) ≡ scratch t
 scratch_is t = sym (sum_inner t (order_stages_by_rank t.job.stages))
 
 -- those of a target are those and its own

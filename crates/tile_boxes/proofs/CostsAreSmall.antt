@@ -30,8 +30,8 @@ use Rattle.tile_boxes.specs.Demands.{hull_of_all, areas_of}
 use Rattle.tile_boxes.specs.Costs.{scratch, points}
 use Rattle.tile_boxes.specs.Order.{order_stages_by_rank}
 use Rattle.tile_boxes.specs.Schedules.{is_inlined}
-use Rattle.tile_boxes.specs.Targets.{Target, IsTarget, all_demands_by, cut_to, can_have_box, box}
-use Rattle.tile_boxes.specs.Tallies.{list_tile_areas, over, count_inlined_points, points_over}
+use Rattle.tile_boxes.specs.Targets.{Target, IsTarget, all_demands_by, cut_to, is_function_other_than_target, box}
+use Rattle.tile_boxes.specs.Tallies.{list_tile_areas, over, count_points_of_inlined_stage_or_zero, points_over}
 use Rattle.tile_boxes.proofs.BoxesFollowTheRule.{box_follows}
 use Rattle.tile_boxes.proofs.BoxesLieInDomains.{box_inside}
 use Rattle.tile_boxes.proofs.CostsAddUp.{scratch_is, points_is, areas_are}
@@ -79,8 +79,8 @@ module _ (t : Target) (job : IsJob t.job) where
           ∙ ap (λ (p : Option Stage). cut_to p (hull_of_all (areas_of g (all_demands_by t (box t))))) there) ∙ is in
           absurd (cc)
 
-  inner_small : (g : ℕ) → count_inlined_points t g ≤ most_box
-  inner_small g = by (is_inlined t.inlining g && can_have_box t g)
+  inner_small : (g : ℕ) → count_points_of_inlined_stage_or_zero t g ≤ most_box
+  inner_small g = by (is_inlined t.inlining g && is_function_other_than_target t g)
     where
       by : (b : Bool) → (if b then option_map_or point_count (box t g) 0 else 0) ≤ most_box
       by true = box_small g
@@ -111,7 +111,7 @@ module _ (t : Target) (job : IsJob t.job) where
   scratch_small =
       let few = job.few_stages in
       let short : length (order_stages_by_rank t.job.stages) ≤ 65536 = omega (arith, order_short t.job.stages, few) in
-      omega (arith, scratch_is t, sum_small (count_inlined_points t) most_box 65536 (order_stages_by_rank t.job.stages) (λ g there. inner_small t job g) short)
+      omega (arith, scratch_is t, sum_small (count_points_of_inlined_stage_or_zero t) most_box 65536 (order_stages_by_rank t.job.stages) (λ g there. inner_small t job g) short)
 
   pub points_small : IsTarget t → points t ≤ 65537 * most_box
   points_small target =

@@ -11,7 +11,7 @@ use Rattle.domains.specs.declared.grid.Grid.{Grid}
 use Rattle.job.specs.Pipeline.{Pipeline, Stage}
 use Rattle.job.specs.Reads.{Read, stage_read}
 use Rattle.tile_boxes.specs.Schedules.{is_inlined}
-use Rattle.tile_boxes.specs.Targets.{Target, target_over, can_have_box, box}
+use Rattle.tile_boxes.specs.Targets.{Target, target_over, is_function_other_than_target, box}
 use Rattle.tile_boxes.specs.Costs.{points, has_scratch, stage_fits}
 
 -- the areas of the tiles in one row, of cols columns, and in all rows
@@ -33,8 +33,8 @@ abbrev pub over : Target → Area → Target
 over t a = target_over t.job t.inlining t.stage a
 
 -- the points of a stage's box that lie in scratch memory
-abbrev pub count_inlined_points : Target → ℕ → ℕ
-count_inlined_points t g = if is_inlined t.inlining g && can_have_box t g then option_map_or point_count (box t g) 0 else 0
+abbrev pub count_points_of_inlined_stage_or_zero : Target → ℕ → ℕ
+count_points_of_inlined_stage_or_zero t g = if is_inlined t.inlining g && is_function_other_than_target t g then option_map_or point_count (box t g) 0 else 0
 
 -- the points over several regions, and whether each of them fits in scratch memory
 abbrev pub points_over : Target → List Area → ℕ

@@ -76,11 +76,11 @@ with_number g None = []
 with_number g (Some a) = (g, a) ∷ []
 
 -- whether stage g is a function other than the target
-abbrev pub can_have_box : Target → ℕ → Bool
-can_have_box t g = is_function_stage t.job g && not (g == t.stage)
+abbrev pub is_function_other_than_target : Target → ℕ → Bool
+is_function_other_than_target t g = is_function_stage t.job g && not (g == t.stage)
 
 abbrev pub numbered_box : Target → ℕ → List (ℕ × Area)
-numbered_box t g = if can_have_box t g then with_number g (box t g) else []
+numbered_box t g = if is_function_other_than_target t g then with_number g (box t g) else []
 
 -- the functions that have a box, stored or inlined, with their boxes, in dependence order
 abbrev pub boxes : Target → List (ℕ × Area)

@@ -8,7 +8,7 @@ use Rattle.job.specs.WellFormed.{InDomainRange}
 use Rattle.job.specs.Kept.{pipeline_in}
 use Rattle.tile_boxes.specs.declared.target.BoxWalk.{BoxWalk}
 use Rattle.tile_boxes.specs.Demands.{Demand, grown_by}
-use Rattle.tile_boxes.specs.Targets.{Target, target_over, cut_to, demands_by, with_number, can_have_box}
+use Rattle.tile_boxes.specs.Targets.{Target, target_over, cut_to, demands_by, with_number, is_function_other_than_target}
 
 -- an area within 16,384 of 0
 pub record InDomainRanges (a : Area) : Type 0 where
@@ -43,4 +43,4 @@ walked t hulls gs = fold (walked_one t) hulls gs
 
 -- a function other than the target, with its bounding box, intersected with the domain
 abbrev pub numbered_hull : Target → List (Option Area) → ℕ → List (ℕ × Area)
-numbered_hull t hulls g = if can_have_box t g then with_number g (cut_hull t.job.stages hulls g) else []
+numbered_hull t hulls g = if is_function_other_than_target t g then with_number g (cut_hull t.job.stages hulls g) else []

@@ -14,7 +14,7 @@ ghost use Rattle.tile_boxes.specs.Walks.{target_of, cut_hull};
 ghost use Rattle.tile_boxes.specs.Costs.{scratch, most_scratch, cost};
 ghost use Rattle.tile_boxes.specs.Costs.{AllFitScratch, survey_stage_costs};
 ghost use Rattle.tile_boxes.specs.Costs.{stage_fits};
-ghost use Rattle.tile_boxes.specs.Tallies.{list_tile_columns, area_of, list_tile_areas, over, count_inlined_points, points_over, all_have_scratch, has_only_stored_reads};
+ghost use Rattle.tile_boxes.specs.Tallies.{list_tile_columns, area_of, list_tile_areas, over, count_points_of_inlined_stage_or_zero, points_over, all_have_scratch, has_only_stored_reads};
 
 use crate::inlining::InlinedStages;
 use crate::order::order_stages_by_rank;
@@ -100,7 +100,7 @@ impl TileTally {
 
 impl<'a> BoxWalk<'a> {
     // The same stage over another region.
-    fn with_region(&self, region: Area) -> BoxWalk<'a>
+    fn copy_box_walk_with_region(&self, region: Area) -> BoxWalk<'a>
         ensures { target_of result ≡ over (target_of self.now) region }
     {
         BoxWalk {
@@ -113,12 +113,12 @@ impl<'a> BoxWalk<'a> {
 }
 
 impl BoxWalk<'_> {
-    fn count_inlined_points(&self, hulls: &[Option<Area>], number: usize) -> u64
+    fn count_points_of_inlined_stage_or_zero(&self, hulls: &[Option<Area>], number: usize) -> u64
         requires boxes { (g : ℕ) → cut_hull (pipeline_in self.now.job.now).stages hulls.now g
             ≡ box (target_of self.now) g }
-        ensures { result ≡ count_inlined_points (target_of self.now) number }
+        ensures { result ≡ count_points_of_inlined_stage_or_zero (target_of self.now) number }
     {
-        if self.schedule.inlined(number) && self.can_have_box(number) {
+        if self.schedule.inlined(number) && self.is_function_other_than_target(number) {
             match self.find_stage_box(hulls, number) {
                 Some(area) => area.points(),
                 None => 0,
@@ -131,12 +131,12 @@ impl BoxWalk<'_> {
     fn sum_inlined_points(&self, hulls: &[Option<Area>], numbers: &[usize]) -> u64
         requires boxes { (g : ℕ) → cut_hull (pipeline_in self.now.job.now).stages hulls.now g
             ≡ box (target_of self.now) g }
-        requires few { sum (map (count_inlined_points (target_of self.now)) numbers.now) < 2 ^ 64 }
-        ensures { result ≡ sum (map (count_inlined_points (target_of self.now)) numbers.now) }
+        requires few { sum (map (count_points_of_inlined_stage_or_zero (target_of self.now)) numbers.now) < 2 ^ 64 }
+        ensures { result ≡ sum (map (count_points_of_inlined_stage_or_zero (target_of self.now)) numbers.now) }
     {
         let mut total = 0;
         for number in numbers {
-            total += self.count_inlined_points(hulls, *number);
+            total += self.count_points_of_inlined_stage_or_zero(hulls, *number);
         }
         total
     }
@@ -176,7 +176,7 @@ impl BoxWalk<'_> {
 
     // What the stage takes over each of these areas.
     #[tactic(auto, using(crate::proofs::CostsAddUp::points_is))]
-    fn tally_tiles(
+    fn tally_stage_over_tile_areas(
         &self,
         alloc: Global,
         order: &[usize],
@@ -195,7 +195,7 @@ impl BoxWalk<'_> {
             fits: true,
         };
         for area in areas {
-            let walk = self.with_region(*area);
+            let walk = self.copy_box_walk_with_region(*area);
             let scratch = walk.count_scratch_if_reading_inlined(alloc, order, is_alone)?;
             tally = tally.add_tile(scratch, area.points());
         }
@@ -247,7 +247,7 @@ pub(crate) fn tally_stage_tiles(
         stage: number,
         region: grid.area,
     };
-    Ok(Some(walk.tally_tiles(alloc, order, &areas, is_alone)?))
+    Ok(Some(walk.tally_stage_over_tile_areas(alloc, order, &areas, is_alone)?))
 }
 
 /// What the stages of a job cost, and whether each of their tiles fits in scratch memory.

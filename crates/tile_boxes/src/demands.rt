@@ -26,7 +26,7 @@ pub fn intersect_boxes(one: &Area, other: &Area) -> Option<Area>
 
 // The number that is less by `by`.
 #[tactic(auto, using(std::proofs::lemmas::Int::ints))]
-fn extend_box_start(v: i32, by: usize) -> i32
+fn subtract_margin_from_box_start(v: i32, by: usize) -> i32
     requires few { by ≤ 7 }
     requires least { negsuc 16383 ≤ℤ v }
     requires most { v ≤ℤ pos 16384 }
@@ -37,7 +37,7 @@ fn extend_box_start(v: i32, by: usize) -> i32
 
 // The number that is greater by `by`.
 #[tactic(auto, using(std::proofs::lemmas::Int::ints))]
-fn extend_box_end(v: i32, by: usize) -> i32
+fn add_margin_to_box_end(v: i32, by: usize) -> i32
     requires few { by ≤ 7 }
     requires least { negsuc 16383 ≤ℤ v }
     requires most { v ≤ℤ pos 16384 }
@@ -53,8 +53,8 @@ fn widen_span(span: &Span, by: usize) -> Span
     ensures { result ≡ widen_span by span.now }
 {
     match Span::new(
-        extend_box_start(span.lo(), by),
-        extend_box_end(span.hi(), by),
+        subtract_margin_from_box_start(span.lo(), by),
+        add_margin_to_box_end(span.hi(), by),
     ) {
         Some(wide) => wide,
         None => unreachable!(),
@@ -96,7 +96,7 @@ fn find_box_of_stencil_read(kernel: &Kernel, region: &Area) -> Area
 }
 
 // The bounding box of an area and of those before it.
-fn grow_bounding_box(hull: &Option<Area>, area: Area) -> Option<Area>
+fn compute_bounding_box_with_area(hull: &Option<Area>, area: Area) -> Option<Area>
     ensures { result ≡ grown_by hull.now area }
 {
     match hull {
@@ -109,7 +109,7 @@ fn demand_area_of_stage(hulls: &mut [Option<Area>], stage: usize, area: Area)
     ensures { hulls.new ≡ demanded hulls.old (record { stage = stage; area = area }) }
 {
     if stage < hulls.len() {
-        hulls[stage] = grow_bounding_box(&hulls[stage], area);
+        hulls[stage] = compute_bounding_box_with_area(&hulls[stage], area);
     }
 }
 

@@ -55,7 +55,7 @@ impl InlinedStages {
     {
         let mut inlining = Vec::new(alloc);
         for number in 0..job.stages().len() {
-            inlining.push(is_function_requested_inlined(job, asked, number))?;
+            inlining.push(is_function_and_requested_inlined(job, asked, number))?;
         }
         Ok(InlinedStages { inlining })
     }
@@ -86,7 +86,7 @@ impl InlinedStages {
     }
 
     /// Inlines the stage of this number, or stores it.
-    pub fn set_inlined(&mut self, stage: usize, is_inlined: bool)
+    pub fn set_stage_inlined_or_stored(&mut self, stage: usize, is_inlined: bool)
         ensures { self.new ≡ slice_set self.old stage is_inlined }
     {
         if stage < self.inlining.len() {
@@ -96,14 +96,14 @@ impl InlinedStages {
 }
 
 /// The least output that is requested. It allocates no memory.
-pub fn find_inlined_output(job: &Job, asked: &[bool]) -> Option<usize>
+pub fn find_output_requested_inlined(job: &Job, asked: &[bool]) -> Option<usize>
     ensures some { IfSome result
         (IsInlinedOutput (pipeline_in job.now) (inlining_for (pipeline_in job.now) asked.now)) }
     ensures none { IfNone result
         (StoresOutputs (pipeline_in job.now) (inlining_for (pipeline_in job.now) asked.now)) }
 {
     for number in 0..job.stages().len() {
-        if is_function_requested_inlined(job, asked, number) && job.is_output(number) {
+        if is_function_and_requested_inlined(job, asked, number) && job.is_output(number) {
             return Some(number);
         }
     }
@@ -119,7 +119,7 @@ fn is_among_inlined(inlining: &[bool], number: usize) -> bool
     }
 }
 
-fn is_function_requested_inlined(job: &Job, asked: &[bool], number: usize) -> bool
+fn is_function_and_requested_inlined(job: &Job, asked: &[bool], number: usize) -> bool
     ensures { result ≡ (is_inlined asked.now number && is_function_stage (pipeline_in job.now) number) }
 {
     is_among_inlined(asked, number) && is_function_stage(job, number)

@@ -24,7 +24,7 @@ pub struct BoxWalk<'a> {
 
 impl BoxWalk<'_> {
     ghost use Rattle.job.specs.Kept.{pipeline_in};
-    ghost use Rattle.tile_boxes.specs.Targets.{IsTarget, region_by, stage_demands, with_number, can_have_box, boxes};
+    ghost use Rattle.tile_boxes.specs.Targets.{IsTarget, region_by, stage_demands, with_number, is_function_other_than_target, boxes};
     ghost use Rattle.tile_boxes.specs.Walks.{InDomainRanges, target_of, demanded_all, new_empty_boxes, cut_hull, walked_one};
     ghost use Rattle.tile_boxes.specs.Walks.{walked, numbered_hull};
 
@@ -110,8 +110,8 @@ impl BoxWalk<'_> {
         Ok(hulls)
     }
 
-    pub(crate) fn can_have_box(&self, number: usize) -> bool
-        ensures { result ≡ can_have_box (target_of self.now) number }
+    pub(crate) fn is_function_other_than_target(&self, number: usize) -> bool
+        ensures { result ≡ is_function_other_than_target (target_of self.now) number }
     {
         self.job.kind(number) == Some(StageKind::Function) && number != self.stage
     }
@@ -120,7 +120,7 @@ impl BoxWalk<'_> {
     fn find_needed_box(&self, hulls: &[Option<Area>], number: usize) -> Option<Area>
         ensures { with_number number result ≡ numbered_hull (target_of self.now) hulls.now number }
     {
-        if self.can_have_box(number) {
+        if self.is_function_other_than_target(number) {
             self.find_stage_box(hulls, number)
         } else {
             None

@@ -17,7 +17,7 @@ use job::Function;
 
 impl<S: RowSource> SourceRow<'_, S> {
     /// The values of a function in this row and those below it, `rows` rows in all, row by row.
-    pub(crate) fn evaluate_function_rows(
+    pub(crate) fn evaluate_function_from_row_down(
         &self,
         function: &Function,
         rows: usize,
@@ -47,7 +47,7 @@ impl<S: RowSource> SourceRow<'_, S> {
         for i in 0..rows {
             let from = i * self.points.len;
             let line = &mut out[from..from + self.points.len];
-            let points = self.points.move_down(i);
+            let points = self.points.copy_moved_down_by_rows(i);
             let own = SourceRow {
                 source: self.source,
                 points,

@@ -58,7 +58,12 @@ fn are_masks_complementary_along_row(first: RowMask, second: RowMask) -> bool
 
 impl<S: RowSource> SourceRow<'_, S> {
     // A case over a row that lies in its box.
-    fn evaluate_boxed_case(&self, case: &JobCase, out: &mut [i32], temps: &mut [i32])
+    fn overwrite_row_in_box_where_tests_hold(
+        &self,
+        case: &JobCase,
+        out: &mut [i32],
+        temps: &mut [i32],
+    )
         requires some { 0 < length out.old }
         requires fits { length out.old ≡ self.now.points.len }
         requires inside { EachPlace (length out.old) (λ k. InBox (case_view case.now).box
@@ -105,7 +110,7 @@ impl<S: RowSource> SourceRow<'_, S> {
                 source: self.source,
                 points,
             };
-            inner.evaluate_boxed_case(case, &mut out[from..to], temps);
+            inner.overwrite_row_in_box_where_tests_hold(case, &mut out[from..to], temps);
         }
     }
 
@@ -153,7 +158,11 @@ impl<S: RowSource> SourceRow<'_, S> {
     }
 
     // The part of a row where a case's tests hold unless those of the case before it do, if known without testing each point.
-    fn find_alternating_interval(&self, before: &JobCase, case: &JobCase) -> Option<(usize, usize)>
+    fn find_case_interval_where_earlier_fails(
+        &self,
+        before: &JobCase,
+        case: &JobCase,
+    ) -> Option<(usize, usize)>
         requires some { 0 < self.now.points.len }
         requires before { EachPlace self.now.points.len (λ k. IsReady (S.has self.now.source.now)
             (case_view before.now) self.now.points.row (self.now.points.col +ℤ pos k)) }
@@ -190,7 +199,7 @@ impl<S: RowSource> SourceRow<'_, S> {
     }
 
     // The values of a formula at a part of the points.
-    fn evaluate_formula_part(
+    fn evaluate_formula_on_part_of_row(
         &self,
         formula: &Formula,
         from: usize,
@@ -224,7 +233,7 @@ impl<S: RowSource> SourceRow<'_, S> {
 
     // The values of a function at a part of the points.
     #[cycle(evaluate_cases)]
-    fn evaluate_cases_part(
+    fn evaluate_cases_on_part_of_row(
         &self,
         cases: &[JobCase],
         otherwise: &Option<Formula>,
@@ -279,10 +288,10 @@ impl<S: RowSource> SourceRow<'_, S> {
             (self.now.points.col +ℤ pos k)) }
     {
         if let [case, rest @ ..] = cases {
-            if let Some((from, to)) = self.find_alternating_interval(before, case) {
-                self.evaluate_cases_part(rest, otherwise, 0, from, out, temps);
-                self.evaluate_cases_part(rest, otherwise, to, out.len(), out, temps);
-                return self.evaluate_formula_part(case.formula(), from, to, out, temps);
+            if let Some((from, to)) = self.find_case_interval_where_earlier_fails(before, case) {
+                self.evaluate_cases_on_part_of_row(rest, otherwise, 0, from, out, temps);
+                self.evaluate_cases_on_part_of_row(rest, otherwise, to, out.len(), out, temps);
+                return self.evaluate_formula_on_part_of_row(case.formula(), from, to, out, temps);
             }
         }
         self.evaluate_cases(cases, otherwise, out, temps);
@@ -311,9 +320,9 @@ impl<S: RowSource> SourceRow<'_, S> {
         };
         match self.find_case_interval(case) {
             Some((from, to)) => {
-                self.evaluate_cases_part(behind, otherwise, 0, from, out, temps);
-                self.evaluate_cases_part(behind, otherwise, to, out.len(), out, temps);
-                self.evaluate_formula_part(case.formula(), from, to, out, temps);
+                self.evaluate_cases_on_part_of_row(behind, otherwise, 0, from, out, temps);
+                self.evaluate_cases_on_part_of_row(behind, otherwise, to, out.len(), out, temps);
+                self.evaluate_formula_on_part_of_row(case.formula(), from, to, out, temps);
             }
             None => {
                 self.evaluate_cases_where_earlier_fails(case, behind, otherwise, out, temps);

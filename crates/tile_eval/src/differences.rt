@@ -17,13 +17,13 @@ use crate::source_row::SourceRow;
 use job::Formula;
 use operators::{BinaryOp, TernaryOp};
 use row_kernels::{
-    ClampedDifference, Epilogue, add_clamped_difference, add_four_clamped_differences,
-    add_two_clamped_differences,
+    ClampedDifference, Epilogue, add_clamped_difference_to_operand,
+    add_four_clamped_differences_to_operand, add_two_clamped_differences_to_operand,
 };
 
 impl<'a, S: RowSource> SourceRow<'a, S> {
     // A clamped difference of two reads, times a factor, if nothing else is to be computed.
-    fn match_difference_with_factor(
+    fn match_clamped_difference_given_factor(
         &self,
         factor: i32,
         formula: &Formula,
@@ -46,8 +46,8 @@ impl<'a, S: RowSource> SourceRow<'a, S> {
         };
         Some(ClampedDifference {
             factor,
-            left: self.borrow_read_samples(left)?,
-            right: self.borrow_read_samples(right)?,
+            left: self.borrow_samples_of_read_formula(left)?,
+            right: self.borrow_samples_of_read_formula(right)?,
             low: find_constant_along_row(low, &self.points)?,
             high: find_constant_along_row(high, &self.points)?,
         })
@@ -67,19 +67,19 @@ impl<'a, S: RowSource> SourceRow<'a, S> {
     {
         match formula {
             Formula::Binary(BinaryOp::Mul, factor, of) => {
-                self.match_difference_with_factor(
+                self.match_clamped_difference_given_factor(
                     find_constant_along_row(factor, &self.points)?,
                     of,
                 )
             }
-            _ => self.match_difference_with_factor(1, formula),
+            _ => self.match_clamped_difference_given_factor(1, formula),
         }
     }
 
     /// Whether a formula is a sum that ends in clamped differences. If it is, writes what an epilogue makes of its values: the
     /// last four or two differences are added in one pass.
     #[cycle(evaluate_formula)]
-    pub(crate) fn try_sum_of_differences(
+    pub(crate) fn try_sum_ending_in_clamped_differences(
         &self,
         formula: &Formula,
         finish: Epilogue,
@@ -109,21 +109,21 @@ impl<'a, S: RowSource> SourceRow<'a, S> {
                             self.match_clamped_difference(second),
                             self.match_clamped_difference(third),
                         ) {
-                            let first = self.borrow_or_compute_operand(first, out, temps);
-                            add_four_clamped_differences(
+                            let first = self.borrow_operand_or_write_it_into_row(first, out, temps);
+                            add_four_clamped_differences_to_operand(
                                 out, first, second, third, fourth, fifth, finish,
                             );
                             return true;
                         }
                     }
                 }
-                let first = self.borrow_or_compute_operand(front, out, temps);
-                add_two_clamped_differences(out, first, fourth, fifth, finish);
+                let first = self.borrow_operand_or_write_it_into_row(front, out, temps);
+                add_two_clamped_differences_to_operand(out, first, fourth, fifth, finish);
                 return true;
             }
         }
-        let first = self.borrow_or_compute_operand(front, out, temps);
-        add_clamped_difference(out, first, fifth, finish);
+        let first = self.borrow_operand_or_write_it_into_row(front, out, temps);
+        add_clamped_difference_to_operand(out, first, fifth, finish);
         true
     }
 }

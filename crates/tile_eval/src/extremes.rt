@@ -13,7 +13,10 @@ use crate::source::RowSource;
 use crate::source_row::SourceRow;
 use job::Formula;
 use operators::BinaryOp;
-use row_kernels::{Epilogue, Extreme, LinePair, write_extremes_of_pairs, write_medians_to_row};
+use row_kernels::{
+    Epilogue, Extreme, LinePair, write_alternating_extremes_of_five_rows,
+    write_extremes_of_four_rows,
+};
 
 /// Which of its two operands an operator gives, if it is `min` or `max`.
 pub(crate) fn classify_extreme_operator(op: BinaryOp) -> Option<Extreme>
@@ -54,18 +57,18 @@ impl<'a, S: RowSource> SourceRow<'a, S> {
         match formula {
             Formula::Binary(op, a, b) if is_matching_extreme_operator(*op, extreme) => Some(
                 LinePair {
-                    left: self.borrow_read_samples(a)?,
-                    right: self.borrow_read_samples(b)?,
+                    left: self.borrow_samples_of_read_formula(a)?,
+                    right: self.borrow_samples_of_read_formula(b)?,
                 },
             ),
             _ => None,
         }
     }
 
-    // The operands of `max` for the least, or of `min` for the greatest, in either order: a formula with an `match_extreme_of_two_lines`, and
+    // The operands of `max` for the least, or of `min` for the greatest, in either order: a formula with a `match_extreme_of_two_lines`, and
     // a line that can be borrowed from the source.
     #[tactic(auto, using(crate::proofs::Exchanging::extreme_commutes))]
-    fn match_median_lines(
+    fn match_opposite_extreme_of_pair_and_line(
         &self,
         extreme: Extreme,
         formula: &Formula,
@@ -86,15 +89,15 @@ impl<'a, S: RowSource> SourceRow<'a, S> {
             return None;
         }
         match self.match_extreme_of_two_lines(extreme, a) {
-            Some(pair) => Some((pair, self.borrow_read_samples(b)?)),
+            Some(pair) => Some((pair, self.borrow_samples_of_read_formula(b)?)),
             None => Some((
                 self.match_extreme_of_two_lines(extreme, b)?,
-                self.borrow_read_samples(a)?,
+                self.borrow_samples_of_read_formula(a)?,
             )),
         }
     }
 
-    // Writes the lesser or the greater of two formulas, if each of them has an `match_extreme_of_two_lines`. Returns whether they have.
+    // Writes the lesser or the greater of two formulas, if each of them has a `match_extreme_of_two_lines`. Returns whether they have.
     fn try_extremes_of_pairs(
         &self,
         extreme: Extreme,
@@ -120,15 +123,15 @@ impl<'a, S: RowSource> SourceRow<'a, S> {
             self.match_extreme_of_two_lines(extreme, b),
         ) {
             (Some(pair), Some(other)) => {
-                write_extremes_of_pairs(extreme, out, pair, other, finish);
+                write_extremes_of_four_rows(extreme, out, pair, other, finish);
                 true
             }
             _ => false,
         }
     }
 
-    // The same if the first one has a pair of the opposite extreme, and the second one has a `match_median_lines`.
-    fn try_medians(
+    // The same if the first one has a pair of the opposite extreme, and the second one has a `match_opposite_extreme_of_pair_and_line`.
+    fn try_medians_of_pairs_and_fifth_line(
         &self,
         extreme: Extreme,
         a: &Formula,
@@ -149,9 +152,12 @@ impl<'a, S: RowSource> SourceRow<'a, S> {
             self.now.points.row (self.now.points.col +ℤ pos k)))) }
     {
         let pair = self.match_extreme_of_two_lines(extreme.opposite(), a);
-        match (pair, self.match_median_lines(extreme, b)) {
+        match (
+            pair,
+            self.match_opposite_extreme_of_pair_and_line(extreme, b),
+        ) {
             (Some(pair), Some((other, fifth))) => {
-                write_medians_to_row(extreme, out, pair, other, fifth, finish);
+                write_alternating_extremes_of_five_rows(extreme, out, pair, other, fifth, finish);
                 true
             }
             _ => false,
@@ -161,7 +167,12 @@ impl<'a, S: RowSource> SourceRow<'a, S> {
     /// Writes what an epilogue makes of the values of a formula, if it is the least or the greatest number of two pairs of lines,
     /// or their median with a fifth line, and all of them can be borrowed from the source. Returns whether it is.
     #[tactic(auto, using(crate::proofs::Exchanging::extreme_commutes))]
-    pub(crate) fn try_extremes(&self, formula: &Formula, finish: Epilogue, out: &mut [i32]) -> bool
+    pub(crate) fn try_extremes_or_medians_of_lines(
+        &self,
+        formula: &Formula,
+        finish: Epilogue,
+        out: &mut [i32],
+    ) -> bool
         requires fits { length out.old ≡ self.now.points.len }
         requires reads { ReadsWithin (S.has self.now.source.now) (formula_view formula.now)
             self.now.points.row self.now.points.col (length out.old) }
@@ -177,7 +188,7 @@ impl<'a, S: RowSource> SourceRow<'a, S> {
             return false;
         };
         self.try_extremes_of_pairs(extreme, a, b, finish, out)
-            || self.try_medians(extreme, a, b, finish, out)
-            || self.try_medians(extreme, b, a, finish, out)
+            || self.try_medians_of_pairs_and_fifth_line(extreme, a, b, finish, out)
+            || self.try_medians_of_pairs_and_fifth_line(extreme, b, a, finish, out)
     }
 }

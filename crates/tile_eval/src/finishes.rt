@@ -12,7 +12,7 @@ use operators::{BinaryOp, TernaryOp};
 use row_kernels::{Epilogue, RowSpan};
 
 /// The epilogue that first applies an operator with its right operand, if there is one.
-pub(crate) fn fuse_operator_into_epilogue(
+pub(crate) fn fuse_earlier_operator_into_epilogue(
     finish: Epilogue,
     op: BinaryOp,
     right: &Formula,
@@ -27,7 +27,7 @@ pub(crate) fn fuse_operator_into_epilogue(
 }
 
 /// The epilogue that does the work of an operator whose second and third operand are numbers along the row, if there is one.
-pub(crate) fn fuse_ternary_into_epilogue(
+pub(crate) fn turn_ternary_into_epilogue(
     op: TernaryOp,
     second: &Formula,
     third: &Formula,

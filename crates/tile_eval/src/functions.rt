@@ -37,5 +37,5 @@ pub fn evaluate_function_area<S: RowSource>(
     let points = RowSpan::from_area_top(area);
     let first = SourceRow { source, points };
     let rows = area.rows.len() as usize;
-    first.evaluate_function_rows(function, rows, out, temps);
+    first.evaluate_function_from_row_down(function, rows, out, temps);
 }

@@ -22,7 +22,13 @@ fn is_index_shifting_along_row(index: &Index) -> bool
 
 impl<'a, S: RowSource> SourceRow<'a, S> {
     /// The samples that a read takes.
-    pub(crate) fn write_read_samples(&self, stage: usize, row: &Index, col: &Index, out: &mut [i32])
+    pub(crate) fn write_samples_of_read_along_row(
+        &self,
+        stage: usize,
+        row: &Index,
+        col: &Index,
+        out: &mut [i32],
+    )
         requires fits { length out.old ≡ self.now.points.len }
         requires reads { EachPlace (length out.old) (λ k. S.has self.now.source.now stage
             (index_at row.now self.now.points.row)
@@ -58,7 +64,7 @@ impl<'a, S: RowSource> SourceRow<'a, S> {
     }
 
     /// The values of a formula, if it is a read whose samples can be borrowed from the source.
-    pub(crate) fn borrow_read_samples(&self, formula: &Formula) -> Option<&'a [i32]>
+    pub(crate) fn borrow_samples_of_read_formula(&self, formula: &Formula) -> Option<&'a [i32]>
         requires { ReadsWithin (S.has self.now.source.now) (formula_view formula.now)
             self.now.points.row self.now.points.col self.now.points.len }
         ensures { IfSome result (λ line. (length line.now ≡ self.now.points.len)

@@ -18,41 +18,47 @@ fn find_greater_capacity(first: Option<usize>, second: Option<usize>) -> Option<
 }
 
 // The capacity for `rows` rows of `n` numbers and for what else is needed.
-fn add_row_capacity(rows: usize, n: usize, rest: Option<usize>) -> Option<usize>
+fn add_capacity_of_rows(rows: usize, n: usize, rest: Option<usize>) -> Option<usize>
     ensures { (a : ℕ) → IsCounted rest a → IsCounted result (n * rows + a) }
 {
     n.checked_mul(rows)?.checked_add(rest?)
 }
 
 /// The least capacity for the operands of a formula at `n` points, if that many numbers can be counted.
-pub fn compute_formula_capacity(formula: &Formula, n: usize) -> Option<usize>
+pub fn compute_operand_capacity_of_formula(formula: &Formula, n: usize) -> Option<usize>
     ensures { IsLeast (HasRoom (formula_view formula.now) n) result }
 {
     match formula {
         Formula::Number(_) | Formula::Coordinate(_) | Formula::Read(_, _, _) => Some(0),
         Formula::Unary(_, a) | Formula::Literal(_, a, _) | Formula::Lookup(_, a) => {
-            compute_formula_capacity(a, n)
+            compute_operand_capacity_of_formula(a, n)
         }
         Formula::Binary(_, a, b) => {
-            let right = add_row_capacity(1, n, compute_formula_capacity(b, n));
-            find_greater_capacity(compute_formula_capacity(a, n), right)
+            let right = add_capacity_of_rows(1, n, compute_operand_capacity_of_formula(b, n));
+            find_greater_capacity(compute_operand_capacity_of_formula(a, n), right)
         }
         Formula::Ternary(_, a, b, c) => {
             let rest = find_greater_capacity(
-                compute_formula_capacity(b, n),
-                compute_formula_capacity(c, n),
+                compute_operand_capacity_of_formula(b, n),
+                compute_operand_capacity_of_formula(c, n),
             );
-            find_greater_capacity(compute_formula_capacity(a, n), add_row_capacity(2, n, rest))
+            find_greater_capacity(
+                compute_operand_capacity_of_formula(a, n),
+                add_capacity_of_rows(2, n, rest),
+            )
         }
         Formula::Select(a, _, b, first, second) => {
             let compared = find_greater_capacity(
-                compute_formula_capacity(a, n),
-                compute_formula_capacity(b, n),
+                compute_operand_capacity_of_formula(a, n),
+                compute_operand_capacity_of_formula(b, n),
             );
-            let others = find_greater_capacity(compared, compute_formula_capacity(second, n));
+            let others = find_greater_capacity(
+                compared,
+                compute_operand_capacity_of_formula(second, n),
+            );
             find_greater_capacity(
-                compute_formula_capacity(first, n),
-                add_row_capacity(3, n, others),
+                compute_operand_capacity_of_formula(first, n),
+                add_capacity_of_rows(3, n, others),
             )
         }
         Formula::Stencil(_, _, _) => n.checked_add(14),
@@ -60,34 +66,37 @@ pub fn compute_formula_capacity(formula: &Formula, n: usize) -> Option<usize>
 }
 
 // The least capacity for the operands of each of some cases.
-fn compute_cases_capacity(cases: &[JobCase], n: usize) -> Option<usize>
+fn compute_operand_capacity_of_cases(cases: &[JobCase], n: usize) -> Option<usize>
     ensures { IsLeast (λ room. All (λ p. HasRoom (formula_view p.formula) n room) cases.now)
         result }
 {
     let mut room = Some(0);
     for case in cases {
-        room = find_greater_capacity(room, compute_formula_capacity(case.formula(), n));
+        room = find_greater_capacity(room, compute_operand_capacity_of_formula(case.formula(), n));
     }
     room
 }
 
 // The least capacity for the formula where no case holds.
-fn compute_otherwise_capacity(otherwise: &Option<Formula>, n: usize) -> Option<usize>
+fn compute_operand_capacity_of_otherwise(otherwise: &Option<Formula>, n: usize) -> Option<usize>
     ensures { IsLeast
         (λ room. ForSome (option_map formula_view otherwise.now) (λ f. HasRoom f n room)) result }
 {
     match otherwise {
-        Some(formula) => compute_formula_capacity(formula, n),
+        Some(formula) => compute_operand_capacity_of_formula(formula, n),
         None => Some(0),
     }
 }
 
 /// The least capacity that a function needs at `n` points, if that many numbers can be counted. It is for one row beside the
 /// operands of each case, and for those of the formula where no case holds.
-pub fn compute_function_capacity(function: &Function, n: usize) -> Option<usize>
+pub fn compute_operand_capacity_of_function(function: &Function, n: usize) -> Option<usize>
     ensures { IsLeast (λ room. HasFunctionRoom n room (map case_view function.now.cases.items)
         (option_map formula_view function.now.otherwise)) result }
 {
-    let cases = add_row_capacity(1, n, compute_cases_capacity(function.cases(), n));
-    find_greater_capacity(cases, compute_otherwise_capacity(function.otherwise(), n))
+    let cases = add_capacity_of_rows(1, n, compute_operand_capacity_of_cases(function.cases(), n));
+    find_greater_capacity(
+        cases,
+        compute_operand_capacity_of_otherwise(function.otherwise(), n),
+    )
 }

@@ -13,17 +13,17 @@ ghost use Rattle.tile_eval.specs.Reading.{ReadsWithin, HasRoom};
 ghost use Rattle.tile_eval.specs.inside.Operators.{IsBinary};
 
 use crate::extremes::{classify_extreme_operator, is_matching_extreme_operator};
-use crate::finishes::{fuse_operator_into_epilogue, fuse_ternary_into_epilogue};
+use crate::finishes::{fuse_earlier_operator_into_epilogue, turn_ternary_into_epilogue};
 use crate::source::RowSource;
 use crate::source_row::SourceRow;
 use job::{Axis, Formula};
 use operators::BinaryOp;
 use row_kernels::{
-    Addend, Epilogue, Operand, RowSpan, apply_binary_to_row, apply_epilogue_to_row,
-    apply_literal_op_to_row, apply_scaled_binary_to_row, apply_ternary_to_row,
-    apply_unary_to_number, apply_unary_to_row, select_by_operand_relation,
-    write_clamped_difference, write_extremes_of_three, write_sum_of_addends_to_row,
-    write_table_lookups_to_row,
+    Addend, Epilogue, Operand, RowSpan, apply_unary_to_number, combine_with_scaled_operand,
+    keep_row_where_operand_relation_holds, write_binary_results_to_row, write_clamped_difference,
+    write_extremes_of_three_operands, write_literal_op_results_to_row, write_operand_with_epilogue,
+    write_sum_of_operand_and_two_addends, write_table_lookups_to_row, write_ternary_results_to_row,
+    write_unary_results_to_row,
 };
 use row_loops::{fill_row, fill_row_counting_up};
 
@@ -39,7 +39,9 @@ pub fn find_constant_along_row(formula: &Formula, points: &RowSpan) -> Option<i3
             *op,
             find_constant_along_row(a, points)?,
         )),
-        Formula::Lookup(table, a) => Some(table.look_up_entry(find_constant_along_row(a, points)?)),
+        Formula::Lookup(table, a) => Some(table.look_up_entry_at_clamped_index(
+            find_constant_along_row(a, points)?,
+        )),
         _ => None,
     }
 }
@@ -68,7 +70,7 @@ pub fn borrow_or_evaluate_row<'a, S: RowSource>(
         source,
         points: *points,
     };
-    match row.borrow_read_samples(formula) {
+    match row.borrow_samples_of_read_formula(formula) {
         Some(line) => line,
         None => {
             row.evaluate_formula(formula, own, temps);
@@ -105,7 +107,7 @@ fn borrow_or_evaluate_operand_along_row<'a, S: RowSource>(
 
 // A formula as the right operand, which is computed into the row itself unless the left one is there.
 #[cycle(evaluate_formula)]
-fn evaluate_right_operand_along_row<'a, S: RowSource>(
+fn borrow_or_evaluate_right_operand<'a, S: RowSource>(
     source: &'a S,
     points: &RowSpan,
     left: Operand,
@@ -136,7 +138,7 @@ fn evaluate_right_operand_along_row<'a, S: RowSource>(
                 source,
                 points: *points,
             };
-            row.borrow_or_compute_operand(formula, out, rest)
+            row.borrow_operand_or_write_it_into_row(formula, out, rest)
         }
     }
 }
@@ -155,7 +157,7 @@ impl<'a, S: RowSource> SourceRow<'a, S> {
     {
         match find_constant_along_row(formula, &self.points) {
             Some(number) => Some(Operand::Number(number)),
-            None => Some(Operand::Line(self.borrow_read_samples(formula)?)),
+            None => Some(Operand::Line(self.borrow_samples_of_read_formula(formula)?)),
         }
     }
 
@@ -186,7 +188,7 @@ impl<'a, S: RowSource> SourceRow<'a, S> {
 
     /// A formula as an operand, which is computed into the row itself if it is not available.
     #[cycle(evaluate_formula)]
-    pub(crate) fn borrow_or_compute_operand(
+    pub(crate) fn borrow_operand_or_write_it_into_row(
         &self,
         formula: &Formula,
         out: &mut [i32],
@@ -213,7 +215,7 @@ impl<'a, S: RowSource> SourceRow<'a, S> {
 
     // Joins an operand with the values of the right one, which may have a factor, and applies the epilogue.
     #[cycle(evaluate_formula)]
-    fn combine_with_right_operand(
+    fn combine_operand_with_right_formula(
         &self,
         op: BinaryOp,
         left: Operand,
@@ -238,7 +240,7 @@ impl<'a, S: RowSource> SourceRow<'a, S> {
         if let Formula::Binary(BinaryOp::Mul, a, b) = right {
             if let Some(factor) = find_constant_along_row(a, &self.points) {
                 let (_, temps) = temps.split_at_mut(out.len());
-                let right = evaluate_right_operand_along_row(
+                let right = borrow_or_evaluate_right_operand(
                     self.source,
                     &self.points,
                     left,
@@ -246,10 +248,10 @@ impl<'a, S: RowSource> SourceRow<'a, S> {
                     out,
                     temps,
                 );
-                return apply_scaled_binary_to_row(op, out, left, factor, right, finish);
+                return combine_with_scaled_operand(op, out, left, factor, right, finish);
             }
         }
-        let right = evaluate_right_operand_along_row(
+        let right = borrow_or_evaluate_right_operand(
             self.source,
             &self.points,
             left,
@@ -257,12 +259,12 @@ impl<'a, S: RowSource> SourceRow<'a, S> {
             out,
             temps,
         );
-        apply_binary_to_row(op, out, left, right, finish);
+        write_binary_results_to_row(op, out, left, right, finish);
     }
 
     // The right operand of a product as an operand. Its own operands use `temps` after the first row.
     #[cycle(evaluate_formula)]
-    fn compute_operand_leaving_first_row_free(
+    fn obtain_operand_sparing_first_buffer_row(
         &self,
         formula: &Formula,
         out: &mut [i32],
@@ -281,13 +283,13 @@ impl<'a, S: RowSource> SourceRow<'a, S> {
             self.now.points.row (self.now.points.col +ℤ pos k)) }
     {
         let (_, rest) = temps.split_at_mut(out.len());
-        self.borrow_or_compute_operand(formula, out, rest)
+        self.borrow_operand_or_write_it_into_row(formula, out, rest)
     }
 
     // Applies an operator and its epilogue. If the left operand of a sum is a product with a number, or a sum whose right
     // operand is available, that is done in the pass of the operator before it.
     #[cycle(evaluate_formula)]
-    fn evaluate_binary(
+    fn evaluate_binary_with_epilogue(
         &self,
         formula: &Formula,
         finish: Epilogue,
@@ -310,13 +312,13 @@ impl<'a, S: RowSource> SourceRow<'a, S> {
         if let Some(it) = self.match_clamped_difference(formula) {
             return write_clamped_difference(out, it, finish);
         }
-        if self.try_sum_of_differences(formula, finish, out, temps) {
+        if self.try_sum_ending_in_clamped_differences(formula, finish, out, temps) {
             return;
         }
         if let (BinaryOp::Add, Formula::Binary(BinaryOp::Mul, factor, of)) = (*op, &**a) {
             if let Some(factor) = find_constant_along_row(factor, &self.points) {
-                let left = self.compute_operand_leaving_first_row_free(of, out, temps);
-                let right = evaluate_right_operand_along_row(
+                let left = self.obtain_operand_sparing_first_buffer_row(of, out, temps);
+                let right = borrow_or_evaluate_right_operand(
                     self.source,
                     &self.points,
                     left,
@@ -324,7 +326,7 @@ impl<'a, S: RowSource> SourceRow<'a, S> {
                     out,
                     temps,
                 );
-                return apply_scaled_binary_to_row(BinaryOp::Add, out, right, factor, left, finish);
+                return combine_with_scaled_operand(BinaryOp::Add, out, right, factor, left, finish);
             }
         }
         if let (BinaryOp::Add, Formula::Binary(BinaryOp::Add, first, second)) = (*op, &**a) {
@@ -332,11 +334,11 @@ impl<'a, S: RowSource> SourceRow<'a, S> {
                 self.borrow_available_addend(second),
                 self.borrow_available_addend(b),
             ) {
-                let first = self.borrow_or_compute_operand(first, out, temps);
-                return write_sum_of_addends_to_row(out, first, second, third, finish);
+                let first = self.borrow_operand_or_write_it_into_row(first, out, temps);
+                return write_sum_of_operand_and_two_addends(out, first, second, third, finish);
             }
         }
-        if self.try_extremes(formula, finish, out) {
+        if self.try_extremes_or_medians_of_lines(formula, finish, out) {
             return;
         }
         if let (Some(extreme), Formula::Binary(inner, first, second)) = (
@@ -351,17 +353,17 @@ impl<'a, S: RowSource> SourceRow<'a, S> {
                 is_matching_extreme_operator(*inner, extreme),
                 others,
             ) {
-                let first = self.borrow_or_compute_operand(first, out, temps);
-                return write_extremes_of_three(extreme, out, first, second, third, finish);
+                let first = self.borrow_operand_or_write_it_into_row(first, out, temps);
+                return write_extremes_of_three_operands(extreme, out, first, second, third, finish);
             }
         }
-        let left = self.borrow_or_compute_operand(a, out, temps);
-        self.combine_with_right_operand(*op, left, b, finish, out, temps);
+        let left = self.borrow_operand_or_write_it_into_row(a, out, temps);
+        self.combine_operand_with_right_formula(*op, left, b, finish, out, temps);
     }
 
     // What an epilogue makes of the values of a formula, in the pass of its last operator if possible.
     #[cycle(evaluate_formula)]
-    fn evaluate_with_epilogue(
+    fn evaluate_formula_with_epilogue(
         &self,
         formula: &Formula,
         finish: Epilogue,
@@ -379,20 +381,20 @@ impl<'a, S: RowSource> SourceRow<'a, S> {
     {
         match formula {
             Formula::Literal(op, a, number) => {
-                if let Some(earlier) = finish.prepend_literal(*op, *number) {
-                    return self.evaluate_with_epilogue(a, earlier, out, temps);
+                if let Some(earlier) = finish.prepend_literal_op(*op, *number) {
+                    return self.evaluate_formula_with_epilogue(a, earlier, out, temps);
                 }
             }
             Formula::Binary(op, a, b) => {
-                if let Some(earlier) = fuse_operator_into_epilogue(finish, *op, b) {
-                    return self.evaluate_with_epilogue(a, earlier, out, temps);
+                if let Some(earlier) = fuse_earlier_operator_into_epilogue(finish, *op, b) {
+                    return self.evaluate_formula_with_epilogue(a, earlier, out, temps);
                 }
-                return self.evaluate_binary(formula, finish, out, temps);
+                return self.evaluate_binary_with_epilogue(formula, finish, out, temps);
             }
             _ => {}
         }
-        let of = self.borrow_or_compute_operand(formula, out, temps);
-        apply_epilogue_to_row(out, of, finish);
+        let of = self.borrow_operand_or_write_it_into_row(formula, out, temps);
+        write_operand_with_epilogue(out, of, finish);
     }
 
     /// The values of a formula, whose reads take what the source has.
@@ -411,25 +413,25 @@ impl<'a, S: RowSource> SourceRow<'a, S> {
             Formula::Number(number) => fill_row(out, *number),
             Formula::Coordinate(Axis::Row) => fill_row(out, self.points.row),
             Formula::Coordinate(Axis::Column) => fill_row_counting_up(out, self.points.col),
-            Formula::Read(stage, i, j) => self.write_read_samples(*stage, i, j, out),
+            Formula::Read(stage, i, j) => self.write_samples_of_read_along_row(*stage, i, j, out),
             Formula::Unary(op, a) => {
                 if let Some(finish) = Epilogue::Nothing.prepend_unary(*op) {
-                    return self.evaluate_with_epilogue(a, finish, out, temps);
+                    return self.evaluate_formula_with_epilogue(a, finish, out, temps);
                 }
-                let of = self.borrow_or_compute_operand(a, out, temps);
-                apply_unary_to_row(*op, out, of);
+                let of = self.borrow_operand_or_write_it_into_row(a, out, temps);
+                write_unary_results_to_row(*op, out, of);
             }
-            Formula::Binary(_, _, _) => self.evaluate_binary(
+            Formula::Binary(_, _, _) => self.evaluate_binary_with_epilogue(
                 formula,
                 Epilogue::Nothing,
                 out,
                 temps,
             ),
             Formula::Ternary(op, a, b, c) => {
-                if let Some(finish) = fuse_ternary_into_epilogue(*op, b, c, &self.points) {
-                    return self.evaluate_with_epilogue(a, finish, out, temps);
+                if let Some(finish) = turn_ternary_into_epilogue(*op, b, c, &self.points) {
+                    return self.evaluate_formula_with_epilogue(a, finish, out, temps);
                 }
-                let first = self.borrow_or_compute_operand(a, out, temps);
+                let first = self.borrow_operand_or_write_it_into_row(a, out, temps);
                 let n = out.len();
                 let (second, rest) = temps.split_at_mut(n);
                 let (third, rest) = rest.split_at_mut(n);
@@ -447,17 +449,17 @@ impl<'a, S: RowSource> SourceRow<'a, S> {
                     third,
                     rest,
                 );
-                apply_ternary_to_row(*op, out, first, second, third);
+                write_ternary_results_to_row(*op, out, first, second, third);
             }
             Formula::Literal(op, a, number) => {
-                if let Some(finish) = Epilogue::Nothing.prepend_literal(*op, *number) {
-                    return self.evaluate_with_epilogue(a, finish, out, temps);
+                if let Some(finish) = Epilogue::Nothing.prepend_literal_op(*op, *number) {
+                    return self.evaluate_formula_with_epilogue(a, finish, out, temps);
                 }
-                let left = self.borrow_or_compute_operand(a, out, temps);
-                apply_literal_op_to_row(*op, out, left, *number);
+                let left = self.borrow_operand_or_write_it_into_row(a, out, temps);
+                write_literal_op_results_to_row(*op, out, left, *number);
             }
             Formula::Lookup(table, a) => {
-                let of = self.borrow_or_compute_operand(a, out, temps);
+                let of = self.borrow_operand_or_write_it_into_row(a, out, temps);
                 write_table_lookups_to_row(out, of, table);
             }
             Formula::Select(a, relation, b, first, second) => {
@@ -487,7 +489,7 @@ impl<'a, S: RowSource> SourceRow<'a, S> {
                     other,
                     rest,
                 );
-                select_by_operand_relation(out, left, *relation, right, other);
+                keep_row_where_operand_relation_holds(out, left, *relation, right, other);
             }
             Formula::Stencil(stage, divisor, kernel) => {
                 self.evaluate_stencil(*stage, *divisor, kernel, out, temps)

@@ -13,18 +13,18 @@ ghost use Rattle.tile_eval.specs.inside.Stencil.{row_sum, column_sum, IsUnder};
 use crate::source::RowSource;
 use crate::source_row::SourceRow;
 use job::Kernel;
-use row_kernels::{Operand, write_quotients_to_row};
+use row_kernels::{Operand, write_quotients_by_literal_to_row};
 use row_loops::fill_row;
 use stencil_kernels::{
-    Kernel3x1, Kernel3x3, Kernel5x1, SeparableKernel, add_line_times_factor, add_tap_sums,
-    write_tap_sums,
+    FiveFactorColumnKernel, Kernel3x3, SeparableKernel, ThreeFactorColumnKernel,
+    add_line_times_factor, add_tap_sums, write_tap_sums,
 };
 
 // Along rows of fewer points, splitting a kernel costs more time than it saves.
 const WIDE: usize = 128;
 
 // Whether a kernel has at least three rows and columns, and more than three of one of them.
-fn is_separable_stencil_worthwhile(kernel: &Kernel) -> bool {
+fn is_kernel_over_3x3_for_separable_stencil(kernel: &Kernel) -> bool {
     match kernel.as_slice() {
         [first, _, _, _, ..] => first.as_slice().len() >= 3,
         [first, _, _, ..] => first.as_slice().len() > 3,
@@ -34,7 +34,7 @@ fn is_separable_stencil_worthwhile(kernel: &Kernel) -> bool {
 
 impl<'a, S: RowSource> SourceRow<'a, S> {
     // The samples under a row of a kernel.
-    fn read_kernel_line(&self, stage: usize, kernel: &Kernel, a: usize, line: &mut [i32])
+    fn read_line_under_kernel_row(&self, stage: usize, kernel: &Kernel, a: usize, line: &mut [i32])
         requires kernel { IsKernel kernel.now }
         requires a { a < length kernel.now }
         requires reads { EachPlace (length line.old) (λ j. S.has self.now.source.now stage
@@ -52,7 +52,7 @@ impl<'a, S: RowSource> SourceRow<'a, S> {
     }
 
     // The samples under a row of a kernel, if they can be borrowed from the source.
-    fn borrow_kernel_line(
+    fn borrow_line_under_kernel_row(
         &self,
         stage: usize,
         kernel: &Kernel,
@@ -77,7 +77,7 @@ impl<'a, S: RowSource> SourceRow<'a, S> {
     }
 
     // The samples under a row of a kernel: borrowed from the source, or else written to the buffer for them.
-    fn borrow_or_read_kernel_line<'b>(
+    fn borrow_or_read_line_under_kernel_row<'b>(
         &'b self,
         stage: usize,
         kernel: &Kernel,
@@ -93,10 +93,10 @@ impl<'a, S: RowSource> SourceRow<'a, S> {
         ensures line { IsUnder kernel.now (S.samples self.now.source.now stage) self.now.points.row
             self.now.points.col a result.now }
     {
-        if let Some(line) = self.borrow_kernel_line(stage, kernel, a, room.len()) {
+        if let Some(line) = self.borrow_line_under_kernel_row(stage, kernel, a, room.len()) {
             return line;
         }
-        self.read_kernel_line(stage, kernel, a, room);
+        self.read_line_under_kernel_row(stage, kernel, a, room);
         room
     }
 
@@ -118,7 +118,7 @@ impl<'a, S: RowSource> SourceRow<'a, S> {
     {
         let factors = kernel.as_slice()[0].as_slice();
         let count = out.len() + factors.len() - 1;
-        let line = self.borrow_or_read_kernel_line(stage, kernel, 0, &mut temps[..count]);
+        let line = self.borrow_or_read_line_under_kernel_row(stage, kernel, 0, &mut temps[..count]);
         write_tap_sums(out, line, factors);
     }
 
@@ -144,12 +144,12 @@ impl<'a, S: RowSource> SourceRow<'a, S> {
     {
         let factors = kernel.as_slice()[a].as_slice();
         let count = out.len() + factors.len() - 1;
-        let line = self.borrow_or_read_kernel_line(stage, kernel, a, &mut temps[..count]);
+        let line = self.borrow_or_read_line_under_kernel_row(stage, kernel, a, &mut temps[..count]);
         add_tap_sums(out, line, factors);
     }
 
     // The sums of a stencil, a row of the kernel at a time.
-    fn evaluate_stencil_by_rows(
+    fn evaluate_stencil_sums_by_kernel_rows(
         &self,
         stage: usize,
         kernel: &Kernel,
@@ -185,9 +185,9 @@ impl<'a, S: RowSource> SourceRow<'a, S> {
             return false;
         };
         let count = out.len() + 2;
-        let top = self.borrow_kernel_line(stage, kernel, 0, count);
-        let middle = self.borrow_kernel_line(stage, kernel, 1, count);
-        let bottom = self.borrow_kernel_line(stage, kernel, 2, count);
+        let top = self.borrow_line_under_kernel_row(stage, kernel, 0, count);
+        let middle = self.borrow_line_under_kernel_row(stage, kernel, 1, count);
+        let bottom = self.borrow_line_under_kernel_row(stage, kernel, 2, count);
         match (top, middle, bottom) {
             (Some(top), Some(middle), Some(bottom)) => {
                 square.write_sums(out, top, middle, bottom);
@@ -198,7 +198,12 @@ impl<'a, S: RowSource> SourceRow<'a, S> {
     }
 
     // The sums of a stencil whose kernel has three rows of one factor, likewise.
-    fn try_stencil_3x1(&self, stage: usize, kernel: &Kernel, out: &mut [i32]) -> bool
+    fn try_column_stencil_of_three_rows(
+        &self,
+        stage: usize,
+        kernel: &Kernel,
+        out: &mut [i32],
+    ) -> bool
         requires kernel { IsKernel kernel.now }
         requires reads { KernelWithin (S.has self.now.source.now stage) kernel.now
             self.now.points.row self.now.points.col (length out.old) }
@@ -207,13 +212,13 @@ impl<'a, S: RowSource> SourceRow<'a, S> {
             ≡ wrapped (weighted_sum kernel.now (S.samples self.now.source.now stage)
             self.now.points.row (self.now.points.col +ℤ pos k))) }
     {
-        let Some(column) = Kernel3x1::from_kernel(kernel) else {
+        let Some(column) = ThreeFactorColumnKernel::from_kernel(kernel) else {
             return false;
         };
         let count = out.len();
-        let top = self.borrow_kernel_line(stage, kernel, 0, count);
-        let middle = self.borrow_kernel_line(stage, kernel, 1, count);
-        let bottom = self.borrow_kernel_line(stage, kernel, 2, count);
+        let top = self.borrow_line_under_kernel_row(stage, kernel, 0, count);
+        let middle = self.borrow_line_under_kernel_row(stage, kernel, 1, count);
+        let bottom = self.borrow_line_under_kernel_row(stage, kernel, 2, count);
         match (top, middle, bottom) {
             (Some(top), Some(middle), Some(bottom)) => {
                 column.write_sums(out, top, middle, bottom);
@@ -224,7 +229,12 @@ impl<'a, S: RowSource> SourceRow<'a, S> {
     }
 
     // The sums of a stencil whose kernel has five rows of one factor, likewise.
-    fn try_stencil_5x1(&self, stage: usize, kernel: &Kernel, out: &mut [i32]) -> bool
+    fn try_column_stencil_of_five_rows(
+        &self,
+        stage: usize,
+        kernel: &Kernel,
+        out: &mut [i32],
+    ) -> bool
         requires kernel { IsKernel kernel.now }
         requires reads { KernelWithin (S.has self.now.source.now stage) kernel.now
             self.now.points.row self.now.points.col (length out.old) }
@@ -233,15 +243,15 @@ impl<'a, S: RowSource> SourceRow<'a, S> {
             ≡ wrapped (weighted_sum kernel.now (S.samples self.now.source.now stage)
             self.now.points.row (self.now.points.col +ℤ pos k))) }
     {
-        let Some(column) = Kernel5x1::from_kernel(kernel) else {
+        let Some(column) = FiveFactorColumnKernel::from_kernel(kernel) else {
             return false;
         };
         let count = out.len();
-        let a = self.borrow_kernel_line(stage, kernel, 0, count);
-        let b = self.borrow_kernel_line(stage, kernel, 1, count);
-        let c = self.borrow_kernel_line(stage, kernel, 2, count);
-        let d = self.borrow_kernel_line(stage, kernel, 3, count);
-        let e = self.borrow_kernel_line(stage, kernel, 4, count);
+        let a = self.borrow_line_under_kernel_row(stage, kernel, 0, count);
+        let b = self.borrow_line_under_kernel_row(stage, kernel, 1, count);
+        let c = self.borrow_line_under_kernel_row(stage, kernel, 2, count);
+        let d = self.borrow_line_under_kernel_row(stage, kernel, 3, count);
+        let e = self.borrow_line_under_kernel_row(stage, kernel, 4, count);
         match (a, b, c, d, e) {
             (Some(a), Some(b), Some(c), Some(d), Some(e)) => {
                 column.write_sums(out, a, b, c, d, e);
@@ -263,13 +273,19 @@ impl<'a, S: RowSource> SourceRow<'a, S> {
             self.now.points.row (self.now.points.col +ℤ pos k))) }
     {
         self.try_stencil_3x3(stage, kernel, out)
-            || self.try_stencil_3x1(stage, kernel, out)
-            || self.try_stencil_5x1(stage, kernel, out)
+            || self.try_column_stencil_of_three_rows(stage, kernel, out)
+            || self.try_column_stencil_of_five_rows(stage, kernel, out)
     }
 
     // Adds up the samples in each column under a kernel, each times the factor of its row. Returns false if not all of them can
     // be borrowed from the source.
-    fn try_column_sums(&self, stage: usize, kernel: &Kernel, down: &[i32], sums: &mut [i32]) -> bool
+    fn try_weighted_sums_down_columns(
+        &self,
+        stage: usize,
+        kernel: &Kernel,
+        down: &[i32],
+        sums: &mut [i32],
+    ) -> bool
         requires kernel { IsKernel kernel.now }
         requires down { length kernel.now ≡ length down.now }
         requires reads { EachPlace (length down.now) (λ a. EachPlace (length sums.old)
@@ -282,7 +298,7 @@ impl<'a, S: RowSource> SourceRow<'a, S> {
     {
         fill_row(sums, 0);
         for a in 0..down.len() {
-            let Some(line) = self.borrow_kernel_line(stage, kernel, a, sums.len()) else {
+            let Some(line) = self.borrow_line_under_kernel_row(stage, kernel, a, sums.len()) else {
                 return false;
             };
             add_line_times_factor(sums, line, down[a]);
@@ -311,9 +327,14 @@ impl<'a, S: RowSource> SourceRow<'a, S> {
             ≡ wrapped (weighted_sum kernel.now (S.samples self.now.source.now stage)
             self.now.points.row (self.now.points.col +ℤ pos k))) }
     {
-        let along = separable.row_factors();
+        let along = separable.borrow_factor_of_each_column();
         let sums = &mut temps[..out.len() + along.len() - 1];
-        if !self.try_column_sums(stage, kernel, separable.column_factors(), sums) {
+        if !self.try_weighted_sums_down_columns(
+            stage,
+            kernel,
+            separable.borrow_factor_of_each_row(),
+            sums,
+        ) {
             return false;
         }
         write_tap_sums(out, sums, along);
@@ -337,7 +358,7 @@ impl<'a, S: RowSource> SourceRow<'a, S> {
             ≡ wrapped (weighted_sum kernel.now (S.samples self.now.source.now stage)
             self.now.points.row (self.now.points.col +ℤ pos k))) }
     {
-        if out.len() < WIDE || !is_separable_stencil_worthwhile(kernel) {
+        if out.len() < WIDE || !is_kernel_over_3x3_for_separable_stencil(kernel) {
             return false;
         }
         match SeparableKernel::from_kernel(kernel) {
@@ -369,8 +390,8 @@ impl<'a, S: RowSource> SourceRow<'a, S> {
         if !self.try_small_stencil(stage, kernel, out)
             && !self.try_separable_stencil(stage, kernel, out, temps)
         {
-            self.evaluate_stencil_by_rows(stage, kernel, out, temps);
+            self.evaluate_stencil_sums_by_kernel_rows(stage, kernel, out, temps);
         }
-        write_quotients_to_row(out, Operand::Written, divisor);
+        write_quotients_by_literal_to_row(out, Operand::Written, divisor);
     }
 }

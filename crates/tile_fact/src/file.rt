@@ -14,7 +14,7 @@ ghost use Rattle.tile_fact.specs.Reading.{is_above, body_read, file_read};
 
 use crate::fact::Fact;
 use crate::fault::FactFault;
-use crate::head::read_fact_file_head;
+use crate::head::read_fact_file_up_to_records;
 use crate::record::{FactRecord, read_fact_record};
 use crate::retired::EncodedRetiredJobs;
 use identity::JobId;
@@ -48,7 +48,7 @@ pub fn decode(alloc: Global, bytes: &[u8]) -> Result<FactFile, FactFault>
     // A fault is the first one of the bytes, at its place; memory is refused only for a fact file.
     ensures fault { IfErr result (IsFault bytes.now) }
 {
-    let (retired, facts) = read_fact_file(alloc, bytes)?;
+    let (retired, facts) = read_retired_jobs_and_facts(alloc, bytes)?;
     Ok(FactFile {
         retired: JobIds::new(retired),
         facts: Facts::new(facts),
@@ -57,14 +57,23 @@ pub fn decode(alloc: Global, bytes: &[u8]) -> Result<FactFile, FactFault>
 
 // What is read from the left, or the fault.
 #[tactic(auto, unfolding(crate::specs::Reading::file_read))]
-fn read_fact_file(alloc: Global, bytes: &[u8]) -> Result<(Vec<JobId>, Vec<Fact>), FactFault>
+fn read_retired_jobs_and_facts(
+    alloc: Global,
+    bytes: &[u8],
+) -> Result<(Vec<JobId>, Vec<Fact>), FactFault>
     ensures { GivesInMemory (λ x. (x.0.items, x.1.items)) result (file_read bytes.now) }
 {
     let total = bytes.len();
-    let head = read_fact_file_head(bytes)?;
+    let head = read_fact_file_up_to_records(bytes)?;
     check_fact_records(total, &head.retired, head.count, head.records)?;
     let retired = head.retired.decode_jobs(alloc)?;
-    let facts = read_checked_fact_records(alloc, total, &head.retired, head.count, head.records)?;
+    let facts = decode_facts_of_checked_records(
+        alloc,
+        total,
+        &head.retired,
+        head.count,
+        head.records,
+    )?;
     Ok((retired, facts))
 }
 
@@ -116,7 +125,7 @@ fn is_above_last_fact_record(last: &Option<FactRecord<'_>>, next: &FactRecord<'_
 }
 
 // The facts of records in which there is no fault.
-fn read_checked_fact_records(
+fn decode_facts_of_checked_records(
     alloc: Global,
     total: usize,
     retired: &EncodedRetiredJobs<'_>,

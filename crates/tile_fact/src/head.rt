@@ -8,7 +8,7 @@ ghost use Rattle.tile_fact.specs.Reading.{magic_read, version_read, retired_read
 
 use crate::fault::FactFault;
 use crate::record::read_fact_file_u32;
-use crate::retired::{EncodedRetiredJobs, check_retired_jobs_of_fact_file};
+use crate::retired::{EncodedRetiredJobs, check_and_skip_encoded_retired_jobs};
 use crate::version::FactFileVersion;
 
 // What the magics of both versions begin with.
@@ -24,13 +24,13 @@ pub struct FactFileHead<'a> {
 
 /// The head of the file that the bytes are.
 #[tactic(auto, unfolding(crate::specs::Reading::head_read))]
-pub fn read_fact_file_head(bytes: &[u8]) -> Result<FactFileHead<'_>, FactFault>
+pub fn read_fact_file_up_to_records(bytes: &[u8]) -> Result<FactFileHead<'_>, FactFault>
     ensures read { Gives (λ head. (first_pairs head.retired.count head.retired.bytes.now, head.count, head.records.now))
         result (head_read bytes.now) }
     ensures listing { IfOk result (λ head. IsListing head.retired.count head.retired.bytes.now) }
     ensures behind { IfOk result (λ head. length head.records.now ≤ length bytes.now) }
 {
-    let front = read_fact_file_magic(bytes)?;
+    let front = check_and_skip_fact_file_magic(bytes)?;
     let (version, rest) = read_fact_file_version(front)?;
     let (retired, rest) = read_retired_jobs_of_fact_file(bytes.len(), version, rest)?;
     let (count, records) = read_fact_file_u32(bytes.len(), rest)?;
@@ -43,7 +43,7 @@ pub fn read_fact_file_head(bytes: &[u8]) -> Result<FactFileHead<'_>, FactFault>
 
 // The bytes after what both magics begin with.
 #[tactic(auto, unfolding(crate::specs::Reading::magic_read))]
-fn read_fact_file_magic(bytes: &[u8]) -> Result<&[u8], FactFault>
+fn check_and_skip_fact_file_magic(bytes: &[u8]) -> Result<&[u8], FactFault>
     ensures read { Gives (λ x. x.now) result (magic_read 0 (codes "PTF") bytes.now) }
     ensures behind { IfOk result (λ x. length x.now ≤ length bytes.now) }
 {
@@ -92,7 +92,7 @@ fn read_retired_jobs_of_fact_file(
             if count == 0 {
                 return Err(FactFault::NothingRetired(4));
             }
-            let behind = check_retired_jobs_of_fact_file(total, count, listed)?;
+            let behind = check_and_skip_encoded_retired_jobs(total, count, listed)?;
             let retired = EncodedRetiredJobs {
                 count,
                 bytes: listed,

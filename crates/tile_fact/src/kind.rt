@@ -16,7 +16,7 @@ impl FactBodyKind {
     ghost use Rattle.tile_fact.specs.Numbers.{bytes_each, most};
 
     /// How many bytes one of its numbers has.
-    pub fn count_number_bytes(self) -> usize
+    pub fn count_bytes_of_one_number(self) -> usize
         ensures { result ≡ bytes_each self }
     {
         match self {

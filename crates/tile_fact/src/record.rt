@@ -107,8 +107,12 @@ pub fn read_fact_record(total: usize, bytes: &[u8]) -> Result<(FactRecord<'_>, &
     let (part, rest) = split_fact_file_bytes(total, 74, bytes)?;
     let key = decode_fact_key(part);
     let (kind, rest) = read_fact_body_kind(total, rest)?;
-    let (len, rest) = read_fact_body_length(total, kind, rest)?;
-    let (numbers, behind) = split_fact_file_bytes(total, len * kind.count_number_bytes(), rest)?;
+    let (len, rest) = read_fact_body_number_count(total, kind, rest)?;
+    let (numbers, behind) = split_fact_file_bytes(
+        total,
+        len * kind.count_bytes_of_one_number(),
+        rest,
+    )?;
     let label = FactRecordLabel { key, kind };
     Ok((FactRecord { label, numbers }, behind))
 }
@@ -135,7 +139,7 @@ pub fn read_fact_file_u32(total: usize, bytes: &[u8]) -> Result<(u32, &[u8]), Fa
     ensures behind { IfOk result (λ x. length x.1.now ≤ length bytes.now) }
 {
     let (part, rest) = split_fact_file_bytes(total, 4, bytes)?;
-    Ok((decode_fact_file_u32(part, 0), rest))
+    Ok((decode_fact_file_u32_at_offset(part, 0), rest))
 }
 
 // The key that these bytes are.
@@ -144,16 +148,16 @@ fn decode_fact_key(bytes: &[u8]) -> Key
     ensures { result ≡ key_in bytes.now }
 {
     Key {
-        program: ProgramId::new(decode_fact_file_digest(bytes, 0)),
-        input: InputId::new(decode_fact_file_digest(bytes, 32)),
+        program: ProgramId::new(decode_fact_file_digest_at_offset(bytes, 0)),
+        input: InputId::new(decode_fact_file_digest_at_offset(bytes, 32)),
         stage: u16::from_be_bytes([bytes[64], bytes[65]]),
-        row: decode_fact_file_u32(bytes, 66),
-        col: decode_fact_file_u32(bytes, 70),
+        row: decode_fact_file_u32_at_offset(bytes, 66),
+        col: decode_fact_file_u32_at_offset(bytes, 70),
     }
 }
 
 /// The digest at this place.
-pub fn decode_fact_file_digest(bytes: &[u8], at: usize) -> [u8; 32]
+pub fn decode_fact_file_digest_at_offset(bytes: &[u8], at: usize) -> [u8; 32]
     requires { at + 32 ≤ length bytes.now }
     ensures { result ≡ take 32 (drop at bytes.now) }
 {
@@ -162,7 +166,7 @@ pub fn decode_fact_file_digest(bytes: &[u8], at: usize) -> [u8; 32]
     digest
 }
 
-fn decode_fact_file_u32(bytes: &[u8], at: usize) -> u32
+fn decode_fact_file_u32_at_offset(bytes: &[u8], at: usize) -> u32
     requires { at + 4 ≤ length bytes.now }
     ensures { result ≡ from_be_bytes w32 (take 4 (drop at bytes.now)) }
 {
@@ -183,7 +187,7 @@ fn read_fact_body_kind(total: usize, bytes: &[u8]) -> Result<(FactBodyKind, &[u8
 }
 
 #[tactic(auto, unfolding(crate::specs::Reading::length_read))]
-fn read_fact_body_length(
+fn read_fact_body_number_count(
     total: usize,
     kind: FactBodyKind,
     bytes: &[u8],

@@ -10,7 +10,7 @@ ghost use Rattle.tile_fact.specs.Numbers.{pair_in, first_pairs};
 ghost use Rattle.tile_fact.specs.Reading.{is_above, list_read, pair_read};
 
 use crate::fault::FactFault;
-use crate::record::decode_fact_file_digest;
+use crate::record::decode_fact_file_digest_at_offset;
 use identity::{InputId, JobId, ProgramId};
 use std::alloc::{AllocError, Global};
 use std::cmp::Ordering;
@@ -64,7 +64,7 @@ impl<'a> EncodedRetiredJobs<'a> {
 }
 
 /// Finds the first fault of `count` identities, if there is one; otherwise the bytes after them.
-pub fn check_retired_jobs_of_fact_file(
+pub fn check_and_skip_encoded_retired_jobs(
     total: usize,
     count: u32,
     bytes: &[u8],
@@ -118,8 +118,8 @@ fn decode_first_retired_job(bytes: &[u8]) -> (JobId, &[u8])
 {
     let (front, behind) = bytes.split_at(64);
     let pair = JobId {
-        program: ProgramId::new(decode_fact_file_digest(front, 0)),
-        input: InputId::new(decode_fact_file_digest(front, 32)),
+        program: ProgramId::new(decode_fact_file_digest_at_offset(front, 0)),
+        input: InputId::new(decode_fact_file_digest_at_offset(front, 32)),
     };
     (pair, behind)
 }

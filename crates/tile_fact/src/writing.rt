@@ -21,16 +21,16 @@ pub fn encode(alloc: Global, retired: &[JobId], facts: &[Fact]) -> Result<Vec<u8
     ensures { IfOk result (λ bytes. bytes.items ≡ fact_file retired.now facts.now) }
 {
     let mut bytes = Vec::new(alloc);
-    encode_fact_file_head(&mut bytes, retired)?;
+    append_magic_and_retired_jobs(&mut bytes, retired)?;
     bytes.extend_from_slice(&(facts.len() as u32).to_be_bytes())?;
     for fact in facts {
-        encode_fact(&mut bytes, fact)?;
+        append_encoded_fact(&mut bytes, fact)?;
     }
     Ok(bytes)
 }
 
 // The magic, and the retired jobs if there are any.
-fn encode_fact_file_head(bytes: &mut Vec<u8>, retired: &[JobId]) -> Result<(), AllocError>
+fn append_magic_and_retired_jobs(bytes: &mut Vec<u8>, retired: &[JobId]) -> Result<(), AllocError>
     requires { length retired.now < 2 ^ 32 }
     ensures { OnOk result (bytes.new.items ≡ bytes.old.items ++ head_of retired.now) }
 {
@@ -38,12 +38,12 @@ fn encode_fact_file_head(bytes: &mut Vec<u8>, retired: &[JobId]) -> Result<(), A
         bytes.extend_from_slice(b"PTF1")
     } else {
         bytes.extend_from_slice(b"PTF2")?;
-        encode_retired_jobs(bytes, retired)
+        append_encoded_retired_jobs(bytes, retired)
     }
 }
 
 // How many jobs there are, and their identities.
-fn encode_retired_jobs(bytes: &mut Vec<u8>, jobs: &[JobId]) -> Result<(), AllocError>
+fn append_encoded_retired_jobs(bytes: &mut Vec<u8>, jobs: &[JobId]) -> Result<(), AllocError>
     requires { length jobs.now < 2 ^ 32 }
     ensures { OnOk result (bytes.new.items
         ≡ bytes.old.items ++ (to_be_bytes w32 (length jobs.now) ++ flat_map ids_bytes jobs.now)) }
@@ -56,17 +56,17 @@ fn encode_retired_jobs(bytes: &mut Vec<u8>, jobs: &[JobId]) -> Result<(), AllocE
     Ok(())
 }
 
-fn encode_fact(bytes: &mut Vec<u8>, fact: &Fact) -> Result<(), AllocError>
+fn append_encoded_fact(bytes: &mut Vec<u8>, fact: &Fact) -> Result<(), AllocError>
     ensures { OnOk result (bytes.new.items ≡ bytes.old.items ++ fact_record fact.now) }
 {
-    encode_fact_key(bytes, fact.key())?;
+    append_encoded_fact_key(bytes, fact.key())?;
     match fact.body() {
-        Body::Tile(samples) => encode_fact_samples(bytes, samples.as_slice()),
-        Body::Partial(bins) => encode_fact_bins(bytes, bins.as_slice()),
+        Body::Tile(samples) => append_fact_body_of_samples(bytes, samples.as_slice()),
+        Body::Partial(bins) => append_fact_body_of_bins(bytes, bins.as_slice()),
     }
 }
 
-fn encode_fact_key(bytes: &mut Vec<u8>, key: &Key) -> Result<(), AllocError>
+fn append_encoded_fact_key(bytes: &mut Vec<u8>, key: &Key) -> Result<(), AllocError>
     ensures { OnOk result (bytes.new.items ≡ bytes.old.items ++ key_bytes key.now) }
 {
     bytes.extend_from_slice(key.program.as_bytes())?;
@@ -77,7 +77,7 @@ fn encode_fact_key(bytes: &mut Vec<u8>, key: &Key) -> Result<(), AllocError>
 }
 
 // The body of a tile.
-fn encode_fact_samples(bytes: &mut Vec<u8>, samples: &[i32]) -> Result<(), AllocError>
+fn append_fact_body_of_samples(bytes: &mut Vec<u8>, samples: &[i32]) -> Result<(), AllocError>
     requires { length samples.now < 2 ^ 32 }
     ensures { OnOk result
         (bytes.new.items ≡ bytes.old.items ++ body_bytes (Body.Tile samples.now)) }
@@ -92,7 +92,7 @@ fn encode_fact_samples(bytes: &mut Vec<u8>, samples: &[i32]) -> Result<(), Alloc
 }
 
 // The body of a partial.
-fn encode_fact_bins(bytes: &mut Vec<u8>, bins: &[i64]) -> Result<(), AllocError>
+fn append_fact_body_of_bins(bytes: &mut Vec<u8>, bins: &[i64]) -> Result<(), AllocError>
     requires { length bins.now < 2 ^ 32 }
     ensures { OnOk result
         (bytes.new.items ≡ bytes.old.items ++ body_bytes (Body.Partial bins.now)) }

@@ -15,7 +15,7 @@ use Rattle.job.specs.WellFormed.{IsJob}
 use Rattle.job.proofs.Solving.{ranked_is}
 use Rattle.job.proofs.Unrolling.{rank_is}
 use Rattle.tile_boxes.specs.Schedules.{is_inlined, is_function_stage, is_function_body}
-use Rattle.tile_boxes.specs.Targets.{Target, can_have_box, box, target_over}
+use Rattle.tile_boxes.specs.Targets.{Target, is_function_other_than_target, box, target_over}
 use Rattle.tile_boxes.proofs.TilesAreTargets.{gridded}
 use Rattle.overlap_tiles.specs.Needs.{IsNeeded}
 use Rattle.overlap_tiles.proofs.BoxesAreLower.{box_has, box_low}
@@ -75,7 +75,7 @@ module _ (job : Pipeline) (inlining : List Bool) (given : KnownTiles) (g : ℕ) 
       let t : Target = target_over job inlining g is.area in
       let needed : IsNeeded t n = from_needs t n good (subst (λ (ns : List Tile). Contains ns n) is.layout.layout.needs k) in
       let at = gridded job n.stage needed.grid needed.there in
-      let both = and_parts (can_have_box t n.stage) (not (is_inlined inlining n.stage)) needed.stored in
+      let both = and_parts (is_function_other_than_target t n.stage) (not (is_inlined inlining n.stage)) needed.stored in
       let boxed = and_parts (is_function_stage job n.stage) (not (eqb n.stage g)) both.0 in
       let stored : IsStoredFunction job inlining n.stage at.stage = record {
         there = at.there;

@@ -20,7 +20,7 @@ use Rattle.tile_sources.specs.KnownTiles.{KnownTiles, AreTrue, HasTrueTiles}
 use Rattle.tile_run.specs.Stored.{numbers_in, tile_numbers, stored_tiles, IsStoredFunction, GivesTilesOf, GivesAllTiles}
 use Rattle.tile_run.specs.StageRuns.{row_numbers, tile_values, row_values}
 use Rattle.tile_run.specs.Uses.{IsBy, IsKept, is_used, is_read, last_of, IsHeld, GivesHeld, GivesForAnswer}
-use Rattle.tile_run.specs.inside.Lasting.{is_over}
+use Rattle.tile_run.specs.inside.Lasting.{is_over_after_rank}
 use Rattle.tile_run.specs.inside.Running.{grid_values, AreTilesOf, AreStored}
 use Rattle.tile_run.proofs.NeedsAreHeld.{by_later}
 use Rattle.one_tile.specs.declared.tile_rows.TileRow.{TileRow}
@@ -222,10 +222,10 @@ module _ (job : Pipeline) (inlining : List Bool) (lasts : List Phase) where
   }
 
   -- what is over after the turn of a rank, and no output, is not kept in the next
-  pub not_kept : (rank g : ℕ) → is_over (last_of lasts g) rank ≡ true → is_output job g ≡ false → IsKept job lasts (Rank (rank + 1)) g → ⊥
+  pub not_kept : (rank g : ℕ) → is_over_after_rank (last_of lasts g) rank ≡ true → is_output job g ≡ false → IsKept job lasts (Rank (rank + 1)) g → ⊥
   not_kept rank g over inner (inl later) = by (last_of lasts g) over later
     where
-      by : (t : Phase) → is_over t rank ≡ true → IsBy (Rank (rank + 1)) t → ⊥
+      by : (t : Phase) → is_over_after_rank t rank ≡ true → IsBy (Rank (rank + 1)) t → ⊥
       by Never e a = a
       by (Rank r) e a = let low = leb-true r rank e in omega arith
       by Answer e a = true≢false (sym e)

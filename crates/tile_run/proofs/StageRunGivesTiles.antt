@@ -11,7 +11,7 @@ use Rattle.job.specs.Values.{value}
 use Rattle.job.specs.WellFormed.{IsJob}
 use Rattle.tile_boxes.specs.Schedules.{is_function_stage, is_function_body}
 use Rattle.tile_boxes.proofs.TilesAreTargets.{gridded}
-use Rattle.overlap_tiles.specs.Plans.{Layout, IsTileLayout}
+use Rattle.overlap_tiles.specs.Plans.{TileLayout, IsTileLayout}
 use Rattle.tile_eval.specs.Raster.{raster}
 use Rattle.tile_eval.proofs.Rasters.{raster_len}
 use Rattle.tile_sources.specs.KnownTiles.{KnownTiles, AreWhole}
@@ -30,7 +30,7 @@ module _ (job : Pipeline) (inlining : List Bool) (given : KnownTiles) (g : ℕ) 
   own : is_function_stage job g ≡ true
   own = ap (λ (o : Option Stage). option_map_or (λ s. is_function_body s.body) o false) ready.function.there ∙ ready.function.function
 
-  module _ (i j : ℕ) (l : Layout) (is : IsTileLayout job inlining g i j l) where
+  module _ (i j : ℕ) (l : TileLayout) (is : IsTileLayout job inlining g i j l) where
     pub of_function : IsFunctionLayout job l
     of_function = record { inlining = inlining; stage = g; row = i; col = j; layout = is; function = own }
 

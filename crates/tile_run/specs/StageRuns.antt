@@ -7,7 +7,7 @@ use Rattle.job.specs.Pipeline.{Stage, Pipeline}
 use Rattle.job.specs.Answers.{grid_of}
 use Rattle.job.specs.Values.{value}
 use Rattle.tile_boxes.specs.Costs.{scratch, most_scratch}
-use Rattle.overlap_tiles.specs.Plans.{Layout, IsTileLayout}
+use Rattle.overlap_tiles.specs.Plans.{TileLayout, IsTileLayout}
 use Rattle.tile_eval.specs.Raster.{raster}
 use Rattle.tile_sources.specs.KnownTiles.{KnownTiles, AreTrue}
 use Rattle.one_tile.specs.Runs.{NeedsGiven}
@@ -16,7 +16,7 @@ use Rattle.one_tile.specs.declared.tile_rows.TileRow.{TileRow}
 
 -- all that the tiles of stage g need is supplied
 abbrev pub GivesNeedsOf : Pipeline → List Bool → KnownTiles → ℕ → Type 0
-GivesNeedsOf job inlining given g = (i j : ℕ) (l : Layout) → IsTileLayout job inlining g i j l → NeedsGiven given l.needs
+GivesNeedsOf job inlining given g = (i j : ℕ) (l : TileLayout) → IsTileLayout job inlining g i j l → NeedsGiven given l.needs
 
 -- the tile fits in scratch memory
 abbrev pub FitsAt : Pipeline → List Bool → ℕ → Grid → ℕ → ℕ → Type 0

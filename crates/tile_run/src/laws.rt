@@ -34,7 +34,7 @@ pub fn true_tiles_give_true_local_values()
 {}
 
 /// Of the tiles that a target needs, the first that is not supplied has the least key of those that are not.
-pub fn first_missing_tile_of_run_is_least()
+pub fn first_missing_tile_has_least_key()
     ensures { (program : List ℕ) (t : Target) (given : KnownTiles) (key other : Key)
         → first_missing given (needed_keys program t) ≡ Some key
         → Contains (needed_keys program t) other → is_missing given other ≡ true

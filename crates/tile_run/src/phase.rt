@@ -15,7 +15,7 @@ pub enum Phase {
 
 impl Phase {
     ghost use Rattle.std.specs.Prelude.{◌≡◌};
-    ghost use Rattle.tile_run.specs.inside.Lasting.{later, is_over};
+    ghost use Rattle.tile_run.specs.inside.Lasting.{later, is_over_after_rank};
 
     /// The later of two phases.
     pub(crate) fn choose_later_phase(self, other: Phase) -> Phase
@@ -29,8 +29,8 @@ impl Phase {
     }
 
     /// Whether it is over once the tiles of a rank are made.
-    pub(crate) fn is_over(self, rank: usize) -> bool
-        ensures { result ≡ is_over self rank }
+    pub(crate) fn is_over_after_rank(self, rank: usize) -> bool
+        ensures { result ≡ is_over_after_rank self rank }
     {
         match self {
             Phase::Never => true,

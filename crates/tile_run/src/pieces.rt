@@ -17,7 +17,7 @@ pub const WORK_OF_TILE: u64 = 8_192;
 
 /// How many rows of tiles of a stage are worth a thread of their own. The work is estimated: the schedule specifies how many
 /// points its tiles have together, and each counts as one of the stage's own.
-pub fn estimate_tile_rows_per_thread(job: &Job, schedule: &Schedule, stage: usize) -> usize
+pub fn estimate_least_tile_rows_per_thread(job: &Job, schedule: &Schedule, stage: usize) -> usize
     ensures { 0 < result }
 {
     match (job.stage(stage), job.grid(stage), schedule.cost(stage)) {
@@ -25,14 +25,14 @@ pub fn estimate_tile_rows_per_thread(job: &Job, schedule: &Schedule, stage: usiz
             let work = points
                 .saturating_mul(count_point_run_work(found))
                 .saturating_add(grid.tiles().saturating_mul(WORK_OF_TILE));
-            compute_tile_rows_per_thread(grid.tile_rows(), work)
+            compute_least_tile_rows_per_thread(grid.tile_rows(), work)
         }
         _ => 1,
     }
 }
 
 // Of rows that are so much work together, how many are worth a thread of their own.
-fn compute_tile_rows_per_thread(rows: u32, work: u64) -> usize
+fn compute_least_tile_rows_per_thread(rows: u32, work: u64) -> usize
     requires { 0 < rows }
     ensures number { result ≡ rows_worth_a_thread rows work }
     ensures some { 0 < result }

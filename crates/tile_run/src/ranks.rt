@@ -17,7 +17,7 @@ ghost use Rattle.tile_sources.specs.KnownTiles.{AreTrue};
 ghost use Rattle.tile_run.specs.declared.phase.Phase.TheVariants.{Rank};
 
 use crate::fault::RunFault;
-use crate::room::{TiledStages, find_first_oversized_tile};
+use crate::room::{TiledStages, find_key_of_first_oversized_tile};
 use crate::stage_run::StageRun;
 use crate::stored::StoredTiles;
 use crate::uses::LastReads;
@@ -70,7 +70,12 @@ impl StoredTiles {
             run.now.uses.now.lasts.items (rank + 1) (Rank (rank + 1)) self.new.stages.items }
     {
         for number in 0..run.job.stages().len() {
-            if run.uses.find_last_read_phase(number).is_over(rank) && !run.job.is_output(number) {
+            if run
+                .uses
+                .find_last_read_phase(number)
+                .is_over_after_rank(rank)
+                && !run.job.is_output(number)
+            {
                 let none = StageTiles {
                     rows: Vec::new(alloc),
                 };
@@ -97,7 +102,7 @@ impl PhasedRun<'_> {
     }
 
     // The tiles of a stage, if it is a stored function that is used.
-    fn make_stage_tiles(
+    fn make_tiles_if_stage_is_used_and_stored(
         &self,
         rt: &(impl Threads + Sync),
         alloc: Global,
@@ -147,7 +152,9 @@ impl PhasedRun<'_> {
     {
         for number in 0..self.job.stages().len() {
             if self.job.rank(number) == Some(rank) {
-                stored.stages[number] = self.make_stage_tiles(rt, alloc, stored, number, scratch)?;
+                stored.stages[number] = self.make_tiles_if_stage_is_used_and_stored(
+                    rt, alloc, stored, number, scratch,
+                )?;
             }
         }
         stored.recycle_unread_stages(alloc, self, rank, scratch);
@@ -229,10 +236,15 @@ pub fn run_all(
     ensures fault { IfErr result (IsRunFault (program_id_in job.now) (pipeline_in job.now)
         schedule.now.inlining (is_stored_function (pipeline_in job.now) schedule.now.inlining)) }
 {
-    if let Some(key) = find_first_oversized_tile(alloc, job, schedule, TiledStages::Functions)? {
+    if let Some(key) = find_key_of_first_oversized_tile(
+        alloc,
+        job,
+        schedule,
+        TiledStages::Functions,
+    )? {
         return Err(RunFault::ScratchTooBig(key));
     }
-    let uses = LastReads::keep_all_stages_for_answer(alloc, job)?;
+    let uses = LastReads::from_all_stages_kept_for_answer(alloc, job)?;
     let stored = make_used_stored_tiles(rt, alloc, job, schedule, &uses)?;
     Ok(stored)
 }

@@ -30,7 +30,12 @@ pub enum TiledStages {
 }
 
 // Whether the tiles of a stage belong to the work.
-fn is_stage_tiled_in_run(job: &Job, schedule: &Schedule, work: TiledStages, stage: usize) -> bool
+fn is_stage_among_tiled_stages_of_run(
+    job: &Job,
+    schedule: &Schedule,
+    work: TiledStages,
+    stage: usize,
+) -> bool
     ensures { result ≡ wanted_by (pipeline_in job.now) schedule.now.inlining work stage }
 {
     match work {
@@ -119,7 +124,7 @@ fn build_oversized_tile_key(job: &Job, stage: usize, row: u32, col: u32) -> Key
 }
 
 // The key of the first tile of a stage that takes too much scratch memory.
-fn find_oversized_tile_in_stage(
+fn find_oversized_tile_key_in_stage(
     alloc: Global,
     job: &Job,
     schedule: &Schedule,
@@ -146,7 +151,7 @@ fn find_oversized_tile_in_stage(
 }
 
 // The same of several stages, in this order.
-fn find_oversized_tile_in_stages(
+fn find_oversized_tile_key_in_stages(
     alloc: Global,
     job: &Job,
     schedule: &Schedule,
@@ -160,8 +165,8 @@ fn find_oversized_tile_in_stages(
         (wanted_by (pipeline_in job.now) schedule.now.inlining work) order.now)))) }
 {
     for number in order {
-        if is_stage_tiled_in_run(job, schedule, work, *number) {
-            let found = find_oversized_tile_in_stage(alloc, job, schedule, *number)?;
+        if is_stage_among_tiled_stages_of_run(job, schedule, work, *number) {
+            let found = find_oversized_tile_key_in_stage(alloc, job, schedule, *number)?;
             if found.is_some() {
                 return Ok(found);
             }
@@ -176,7 +181,7 @@ fn find_oversized_tile_in_stages(
 /// # Errors
 ///
 /// Fails only where memory is refused.
-pub fn find_first_oversized_tile(
+pub fn find_key_of_first_oversized_tile(
     alloc: Global,
     job: &Job,
     schedule: &Schedule,
@@ -191,7 +196,7 @@ pub fn find_first_oversized_tile(
     if schedule.fits() {
         return Ok(None);
     }
-    find_oversized_tile_in_stages(
+    find_oversized_tile_key_in_stages(
         alloc,
         job,
         schedule,

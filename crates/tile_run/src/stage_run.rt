@@ -11,13 +11,13 @@ ghost use Rattle.tile_run.specs.Stored.{stored_tiles};
 ghost use Rattle.tile_run.specs.inside.Running.{grid_values};
 ghost use Rattle.tile_run.specs.inside.RowWorks.{row_of};
 
-use crate::pieces::estimate_tile_rows_per_thread;
+use crate::pieces::estimate_least_tile_rows_per_thread;
 use crate::stored::StoredTiles;
 use domains::Grid;
 use grouping::Schedule;
 use job::Job;
 use one_tile::{StageTiles, TileJob, TileRow, TileScratch};
-use overlap_tiles::{Layout, PlanFault};
+use overlap_tiles::{PlanFault, TileLayout};
 use rayon::prelude::*;
 use std::alloc::{AllocError, Global};
 use std::thread::Threads;
@@ -42,14 +42,19 @@ struct TileRowTask {
 
 impl StageRun<'_> {
     // The layout of a tile.
-    fn build_tile_layout(&self, alloc: Global, row: u32, col: u32) -> Result<Layout<'_>, AllocError>
+    fn build_tile_layout(
+        &self,
+        alloc: Global,
+        row: u32,
+        col: u32,
+    ) -> Result<TileLayout<'_>, AllocError>
         requires ready { IsStageReady (pipeline_in self.now.job.now) self.now.schedule.now.inlining
             (stored_tiles self.now.stored.now.stages.items) self.now.stage self.now.grid }
         requires tile { HasTile self.now.grid row col }
         ensures { IfOk result (IsTileLayout (pipeline_in self.now.job.now)
             self.now.schedule.now.inlining self.now.stage row col) }
     {
-        match Layout::new(alloc, self.job, self.schedule, self.stage, row, col) {
+        match TileLayout::new(alloc, self.job, self.schedule, self.stage, row, col) {
             Ok(layout) => Ok(layout),
             Err(PlanFault::NoSuchTile | PlanFault::ScratchTooBig) => unreachable!(),
             Err(PlanFault::Memory) => Err(AllocError),
@@ -76,7 +81,7 @@ impl StageRun<'_> {
             layout: &layout,
             known: self.stored,
         };
-        tile.compute_values(alloc, scratch)
+        tile.compute_values_if_stage_is_function(alloc, scratch)
     }
 
     /// The values of a row of tiles, tile by tile.
@@ -121,7 +126,7 @@ impl StageRun<'_> {
             ≡ grid_values (pipeline_in self.now.job.now) self.now.stage self.now.grid
             (tile_rows self.now.grid)) }
     {
-        let least = estimate_tile_rows_per_thread(self.job, self.schedule, self.stage);
+        let least = estimate_least_tile_rows_per_thread(self.job, self.schedule, self.stage);
         if self.grid.tile_rows() as usize / 2 < least {
             self.compute_tile_rows_in_turn(alloc, scratch)
         } else {
@@ -149,7 +154,7 @@ impl StageRun<'_> {
     }
 
     // The rows that are to be made, with the vectors of earlier tiles.
-    fn list_tile_row_tasks(
+    fn list_one_task_for_each_tile_row(
         &self,
         alloc: Global,
         scratch: &mut TileScratch,
@@ -179,7 +184,7 @@ impl StageRun<'_> {
             ≡ grid_values (pipeline_in self.now.job.now) self.now.stage self.now.grid
             (tile_rows self.now.grid)) }
     {
-        let works = self.list_tile_row_tasks(alloc, scratch)?;
+        let works = self.list_one_task_for_each_tile_row(alloc, scratch)?;
         let rows = works
             .into_par_iter()
             .with_min_len(least)
@@ -193,7 +198,7 @@ impl StageRun<'_> {
                         ≡ row_values (pipeline_in self.entry.now.job.now) self.entry.now.stage
                         self.entry.now.grid work.row (tile_cols self.entry.now.grid)) }
                 {
-                    scratch.replace_recycled_vectors(work.room);
+                    scratch.set_recycled_vectors_to_tile_row(work.room);
                     self.compute_tile_row(alloc, work.row, scratch)
                 },
             )

@@ -44,7 +44,7 @@ impl LastReads {
     /// # Errors
     ///
     /// Fails only where memory is refused.
-    pub(crate) fn keep_all_stages_for_answer(
+    pub(crate) fn from_all_stages_kept_for_answer(
         alloc: Global,
         job: &Job,
     ) -> Result<LastReads, AllocError>
@@ -77,9 +77,9 @@ impl LastReads {
             lasts: vec![in alloc; Phase::Never; job.stages().len()]?,
         };
         for back in 0..last {
-            uses.record_rank_reads(job, schedule, last - back);
+            uses.record_reads_made_by_stages_of_rank(job, schedule, last - back);
         }
-        uses.record_rank_reads(job, schedule, 0);
+        uses.record_reads_made_by_stages_of_rank(job, schedule, 0);
         Ok(uses)
     }
 
@@ -101,7 +101,7 @@ impl LastReads {
     }
 
     // The phase in which a stage reads for the last time.
-    fn find_phase_of_own_reads(
+    fn find_last_phase_of_own_reads(
         &self,
         job: &Job,
         schedule: &Schedule,
@@ -123,25 +123,25 @@ impl LastReads {
     }
 
     // Records the reads of a stage.
-    fn record_stage_reads(&mut self, job: &Job, schedule: &Schedule, number: usize)
+    fn record_reads_made_by_stage(&mut self, job: &Job, schedule: &Schedule, number: usize)
         ensures { self.new.lasts.items
             ≡ with_reads (pipeline_in job.now) schedule.now.inlining self.old.lasts.items number }
     {
         if let Some(stage) = job.stage(number) {
-            let turn = self.find_phase_of_own_reads(job, schedule, number, stage);
+            let turn = self.find_last_phase_of_own_reads(job, schedule, number, stage);
             record_last_reads_of_phase(&mut self.lasts, stage.reads(), turn);
         }
     }
 
     // Records the reads of all stages of a rank, after those of greater ranks.
-    fn record_rank_reads(&mut self, job: &Job, schedule: &Schedule, rank: usize)
+    fn record_reads_made_by_stages_of_rank(&mut self, job: &Job, schedule: &Schedule, rank: usize)
         requires { HasLastsFrom (pipeline_in job.now) schedule.now.inlining (rank + 1)
             self.old.lasts.items }
         ensures { HasLastsFrom (pipeline_in job.now) schedule.now.inlining rank self.new.lasts.items }
     {
         for number in 0..job.stages().len() {
             if job.rank(number) == Some(rank) {
-                self.record_stage_reads(job, schedule, number);
+                self.record_reads_made_by_stage(job, schedule, number);
             }
         }
     }

@@ -9,7 +9,7 @@ use Rattle.domains.specs.declared.area.Area.{Area}
 use Rattle.netpbm.specs.Image.{Image}
 use Rattle.tile_eval.proofs.Rasters.{nth_held}
 use Rattle.tile_sources.specs.declared.plane_buffer.PlaneBuffer.{PlaneBuffer}
-use Rattle.tile_sources.specs.declared.plane_buffers.PlaneBuffers.{PlaneBuffers}
+use Rattle.tile_sources.specs.declared.plane_buffers.ThreePlaneBuffers.{ThreePlaneBuffers}
 use Rattle.tile_sources.specs.Wide.{IsWide, AreWide, wide_plane}
 
 -- the points of an area, by the numbers of their rows and columns, lie in one that holds it
@@ -23,7 +23,7 @@ pub row_there : (a : Area) (r first : ℤ) (reach count : ℕ) → HoldsPoint a 
 row_there a r first reach count holds ends most k h = let low = holds.1.0 in (holds.0, (omega (arith, ints), omega (arith, ints)))
 
 -- what there is of a plane has its samples
-pub wide_at : (p : Image) (planes : PlaneBuffers) → AreWide p planes → (n : ℕ) (wide : PlaneBuffer) → wide_plane planes n ≡ Some wide
+pub wide_at : (p : Image) (planes : ThreePlaneBuffers) → AreWide p planes → (n : ℕ) (wide : PlaneBuffer) → wide_plane planes n ≡ Some wide
     → IsWide p n wide
 wide_at p planes all zero wide is = subst (IsWide p 0) (same_Some planes.first wide is) all.first
 wide_at p planes all (suc zero) wide is = subst (IsWide p 1) (same_Some planes.second wide is) all.second

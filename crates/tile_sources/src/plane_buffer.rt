@@ -11,11 +11,11 @@ ghost use Rattle.tile_eval.specs.Raster.{place_of};
 ghost use Rattle.tile_eval.specs.Rows.{EachPlace, at};
 ghost use Rattle.tile_sources.specs.Wide.{IsWide};
 
-use crate::ranges::borrow_tile_source_range;
+use crate::ranges::borrow_number_range;
 use crate::samples::read_plane_row_for_tile;
 use domains::{Area, Span};
 use netpbm::Picture;
-use row_kernels::find_coordinate_at_place;
+use row_kernels::compute_coordinate_at_place;
 use std::alloc::{AllocError, Global};
 use tile_eval::BufferView;
 
@@ -56,7 +56,12 @@ fn is_plane_area_in_picture(picture: &Picture, plane: usize, area: &Area) -> boo
 }
 
 // Converts the samples of a plane over an area of the picture, row by row, from the first number on.
-fn convert_plane_area(picture: &Picture, plane: usize, area: &Area, out: &mut [i32])
+fn write_converted_samples_of_plane_area(
+    picture: &Picture,
+    plane: usize,
+    area: &Area,
+    out: &mut [i32],
+)
     requires plane { plane < length picture.now.planes }
     requires area { IsSubarea area.now (picture_area picture.now) }
     requires len { point_count area.now ≤ length out.old }
@@ -66,7 +71,7 @@ fn convert_plane_area(picture: &Picture, plane: usize, area: &Area, out: &mut [i
     let count = area.cols.len() as usize;
     for i in 0..area.rows.len() as usize {
         let from = i * count;
-        let row = find_coordinate_at_place(area.rows.lo(), i);
+        let row = compute_coordinate_at_place(area.rows.lo(), i);
         let line = &mut out[from..from + count];
         read_plane_row_for_tile(picture, plane, row, area.cols.lo(), line);
     }
@@ -104,7 +109,7 @@ impl PlaneBuffer {
         if let Some(area) = area {
             let size = area.points() as usize;
             if size <= self.samples.len() && is_plane_area_in_picture(picture, plane, area) {
-                convert_plane_area(picture, plane, area, &mut self.samples);
+                write_converted_samples_of_plane_area(picture, plane, area, &mut self.samples);
                 self.area = Some(*area);
             }
         }
@@ -121,7 +126,7 @@ impl PlaneBuffer {
         if !area.holds(row, first) || count_plane_buffer_columns_from(&area.cols, first) < count {
             return None;
         }
-        let samples = borrow_tile_source_range(&self.samples, 0, area.points() as usize)?;
+        let samples = borrow_number_range(&self.samples, 0, area.points() as usize)?;
         let view = BufferView::new(area, samples);
         Some(view.slice_row(row, first, count))
     }

@@ -15,16 +15,16 @@ use std::alloc::{AllocError, Global};
 
 /// The samples of each plane of a picture over its area as int32.
 #[derive(Drop)]
-pub struct PlaneBuffers {
+pub struct ThreePlaneBuffers {
     first: PlaneBuffer,
     second: PlaneBuffer,
     third: PlaneBuffer,
 }
 
-impl PlaneBuffers {
+impl ThreePlaneBuffers {
     /// No samples, and no memory yet.
-    pub fn new(alloc: Global) -> PlaneBuffers {
-        PlaneBuffers {
+    pub fn new(alloc: Global) -> ThreePlaneBuffers {
+        ThreePlaneBuffers {
             first: PlaneBuffer::new(alloc),
             second: PlaneBuffer::new(alloc),
             third: PlaneBuffer::new(alloc),

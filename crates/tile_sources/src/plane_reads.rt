@@ -83,7 +83,7 @@ fn find_plane_read_area_by_kernel(kernel: &Kernel, region: &Area) -> Option<Area
 }
 
 // Adds reads of a stage, if it is a plane: of `samples` samples, over this area of its domain.
-fn record_plane_reads_over_area(
+fn record_plane_reads_if_stage_is_plane(
     job: &Job,
     reads: &mut [PlaneReads],
     stage: usize,
@@ -113,7 +113,7 @@ fn record_plane_reads_of_formula(
         Formula::Read(stage, row, col) => {
             if col.mul() == 1 && col.div() == 1 {
                 let area = find_plane_read_area(row, col, region);
-                record_plane_reads_over_area(job, reads, *stage, region.points(), area);
+                record_plane_reads_if_stage_is_plane(job, reads, *stage, region.points(), area);
             }
         }
         Formula::Unary(_, a) | Formula::Lookup(_, a) | Formula::Literal(_, a, _) => {
@@ -138,7 +138,7 @@ fn record_plane_reads_of_formula(
             let samples = region
                 .points()
                 .saturating_mul(kernel.as_slice().len() as u64);
-            record_plane_reads_over_area(
+            record_plane_reads_if_stage_is_plane(
                 job,
                 reads,
                 *stage,

@@ -15,7 +15,7 @@ use row_kernels::{RowSpan, convert_samples_to_row, gather_samples};
 
 // The place of a sample among those of a plane.
 #[tactic(auto, using(crate::proofs::PlaneSamples::sample_below))]
-fn locate_sample_for_tile(picture: &Picture, row: i32, col: i32) -> usize
+fn locate_plane_sample_for_tile(picture: &Picture, row: i32, col: i32) -> usize
     requires { HoldsPoint (picture_area picture.now) row col }
     ensures place { result ≡ unsigned_abs row * picture.now.cols + unsigned_abs col }
     ensures below { result < picture.now.rows * picture.now.cols }
@@ -24,7 +24,7 @@ fn locate_sample_for_tile(picture: &Picture, row: i32, col: i32) -> usize
 }
 
 // The samples of a plane, row by row.
-fn borrow_plane_for_tile(picture: &Picture, plane: usize) -> PlaneSamples<'_>
+fn borrow_plane_samples_for_tile(picture: &Picture, plane: usize) -> PlaneSamples<'_>
     requires { plane < length picture.now.planes }
     ensures samples { IsSamples result (slice_index_or picture.now.planes plane []) }
     ensures count { count_in result ≡ picture.now.rows * picture.now.cols }
@@ -47,8 +47,8 @@ pub fn read_plane_row_for_tile(
         (λ k. at out.new k ≡ sample_at picture.now plane row (first +ℤ pos k)) }
 {
     if !out.is_empty() {
-        let place = locate_sample_for_tile(picture, row, first);
-        convert_samples_to_row(&borrow_plane_for_tile(picture, plane), place, out);
+        let place = locate_plane_sample_for_tile(picture, row, first);
+        convert_samples_to_row(&borrow_plane_samples_for_tile(picture, plane), place, out);
     }
 }
 
@@ -71,9 +71,9 @@ pub fn gather_plane_row_for_tile(
     if out.is_empty() {
         return;
     }
-    let place = locate_sample_for_tile(picture, row, col.at(points.col));
+    let place = locate_plane_sample_for_tile(picture, row, col.at(points.col));
     gather_samples(
-        &borrow_plane_for_tile(picture, plane),
+        &borrow_plane_samples_for_tile(picture, plane),
         place,
         col,
         points,
@@ -82,7 +82,7 @@ pub fn gather_plane_row_for_tile(
 }
 
 /// A sample of a plane.
-pub fn read_sample_for_tile(picture: &Picture, plane: usize, row: i32, col: i32) -> i32
+pub fn read_plane_sample_for_tile(picture: &Picture, plane: usize, row: i32, col: i32) -> i32
     requires plane { plane < length picture.now.planes }
     requires there { HoldsPoint (picture_area picture.now) row col }
     ensures { result ≡ sample_at picture.now plane row col }

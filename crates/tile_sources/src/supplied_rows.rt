@@ -13,7 +13,7 @@ use job::Job;
 
 /// The numbers that are supplied of a stage along a row of its domain, from a column on, whatever they are. They end with the
 /// tile in which the first point lies, and are at most `most`.
-pub fn borrow_supplied_row_part<'a, K: TileSource>(
+pub fn borrow_supplied_row_up_to_tile_end<'a, K: TileSource>(
     known: &'a K,
     job: &Job,
     stage: usize,
@@ -36,5 +36,5 @@ pub fn borrow_supplied_row_part<'a, K: TileSource>(
         stage,
         grid: Grid::new(domain, job.sides()),
     };
-    tiles.borrow_row_part(row, first, most)
+    tiles.borrow_row_up_to_tile_end(row, first, most)
 }

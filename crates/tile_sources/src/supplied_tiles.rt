@@ -12,7 +12,7 @@ ghost use Rattle.tile_sources.specs.inside.Tiles.{IsTileAbout};
 
 use crate::tile_source::TileSource;
 use domains::{Grid, Index, Span};
-use row_kernels::{BufferView, RowSpan, find_coordinate_at_place};
+use row_kernels::{BufferView, RowSpan, compute_coordinate_at_place};
 
 /// The supplied tiles of one stage.
 #[derive(Drop)]
@@ -94,7 +94,7 @@ impl<'a, K: TileSource> SuppliedTiles<'a, K> {
     }
 
     /// The numbers along a row, from a column on, to the end of the tile of the first of them, but at most `most`.
-    pub fn borrow_row_part(&self, row: i32, first: i32, most: usize) -> &'a [i32]
+    pub fn borrow_row_up_to_tile_end(&self, row: i32, first: i32, most: usize) -> &'a [i32]
         requires some { 0 < most }
         requires there { EachPlace most (λ k. IsGivenAt (K.given self.now.known.now) self.now.stage
             self.now.grid row (first +ℤ pos k)) }
@@ -115,7 +115,7 @@ impl<'a, K: TileSource> SuppliedTiles<'a, K> {
     }
 
     // Writes the numbers along a row to the end of the tile of its first point, and returns how many these are.
-    fn read_row_part(&self, row: i32, first: i32, out: &mut [i32]) -> usize
+    fn read_row_up_to_tile_end(&self, row: i32, first: i32, out: &mut [i32]) -> usize
         requires some { 0 < length out.old }
         requires there { EachPlace (length out.old) (λ k. IsGivenAt (K.given self.now.known.now)
             self.now.stage self.now.grid row (first +ℤ pos k)) }
@@ -125,7 +125,7 @@ impl<'a, K: TileSource> SuppliedTiles<'a, K> {
             ≡ number_at (K.given self.now.known.now) self.now.stage self.now.grid row
             (first +ℤ pos k)) }
     {
-        let line = self.borrow_row_part(row, first, out.len());
+        let line = self.borrow_row_up_to_tile_end(row, first, out.len());
         out[..line.len()].copy_from_slice(line);
         line.len()
     }
@@ -140,9 +140,9 @@ impl<'a, K: TileSource> SuppliedTiles<'a, K> {
     {
         let mut done = 0;
         while done < out.len() {
-            done += self.read_row_part(
+            done += self.read_row_up_to_tile_end(
                 row,
-                find_coordinate_at_place(first, done),
+                compute_coordinate_at_place(first, done),
                 &mut out[done..],
             );
         }
@@ -150,7 +150,13 @@ impl<'a, K: TileSource> SuppliedTiles<'a, K> {
 
     // Writes the numbers along a row, at the columns that an index takes, to the end of the tile of the first of them. Returns
     // how many these are.
-    fn gather_row_part(&self, row: i32, col: &Index, points: &RowSpan, out: &mut [i32]) -> usize
+    fn gather_row_up_to_tile_end(
+        &self,
+        row: i32,
+        col: &Index,
+        points: &RowSpan,
+        out: &mut [i32],
+    ) -> usize
         requires some { 0 < length out.old }
         requires fits { length out.old ≡ points.now.len }
         requires there { EachPlace (length out.old) (λ k. IsGivenAt (K.given self.now.known.now)
@@ -182,7 +188,7 @@ impl<'a, K: TileSource> SuppliedTiles<'a, K> {
     {
         let mut done = 0;
         while done < out.len() {
-            done += self.gather_row_part(
+            done += self.gather_row_up_to_tile_end(
                 row,
                 col,
                 &points.slice_points(done, out.len()),

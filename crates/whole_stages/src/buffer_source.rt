@@ -20,7 +20,7 @@ impl StageBuffer {
 
 impl StageBuffers {
     /// The values of a stage, if they are known.
-    pub(crate) fn find_buffer(&self, stage: usize) -> Option<&StageBuffer>
+    pub(crate) fn borrow_buffer_of_stage(&self, stage: usize) -> Option<&StageBuffer>
         ensures some { IfSome result
             (λ whole. slice_get self.now.buffers.items stage ≡ Some (Some whole.now)) }
         ensures none { IfNone result
@@ -36,23 +36,27 @@ impl RowSource for StageBuffers {
     ghost samples = { λ known g r c. sample_in (slice_get known.buffers.items g) r c };
 
     fn read_row(&self, stage: usize, row: i32, first: i32, out: &mut [i32]) {
-        if let Some(whole) = self.find_buffer(stage) {
+        if let Some(whole) = self.borrow_buffer_of_stage(stage) {
             whole.view().read_row(row, first, out);
         }
     }
 
     fn borrow_row(&self, stage: usize, row: i32, first: i32, count: usize) -> Option<&[i32]> {
-        Some(self.find_buffer(stage)?.view().slice_row(row, first, count))
+        Some(
+            self.borrow_buffer_of_stage(stage)?
+                .view()
+                .slice_row(row, first, count),
+        )
     }
 
     fn gather_row(&self, stage: usize, row: i32, col: &Index, points: &RowSpan, out: &mut [i32]) {
-        if let Some(whole) = self.find_buffer(stage) {
+        if let Some(whole) = self.borrow_buffer_of_stage(stage) {
             whole.view().gather_row(row, col, points, out);
         }
     }
 
     fn read_sample(&self, stage: usize, row: i32, col: i32) -> i32 {
-        match self.find_buffer(stage) {
+        match self.borrow_buffer_of_stage(stage) {
             Some(whole) => whole.view().read_sample(row, col),
             None => 0,
         }

@@ -48,7 +48,7 @@ impl StageBuffers {
     }
 
     /// Takes the values of a stage out, if they are known.
-    pub fn take_buffer_of_stage(&mut self, stage: usize) -> Option<StageBuffer>
+    pub fn take_out_buffer_of_stage_if_known(&mut self, stage: usize) -> Option<StageBuffer>
         ensures some { IfSome result
             (λ whole. slice_get self.old.buffers.items stage ≡ Some (Some whole)) }
         ensures none { IfNone result

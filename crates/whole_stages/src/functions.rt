@@ -10,7 +10,7 @@ ghost use Rattle.tile_eval.specs.Raster.{raster};
 use domains::Area;
 use job::Function;
 use std::alloc::{AllocError, Global};
-use tile_eval::{RowSource, compute_function_capacity, evaluate_function_area};
+use tile_eval::{RowSource, compute_operand_capacity_of_function, evaluate_function_area};
 
 /// The values of a function on its domain, row by row.
 pub fn evaluate_whole_function<S: RowSource>(
@@ -26,7 +26,9 @@ pub fn evaluate_whole_function<S: RowSource>(
         (map case_view function.now.cases.items)
         (option_map formula_view function.now.otherwise))) }
 {
-    let room = compute_function_capacity(function, domain.cols.len() as usize).ok_or(AllocError)?;
+    let room = compute_operand_capacity_of_function(function, domain.cols.len() as usize).ok_or(
+        AllocError,
+    )?;
     let mut temps = vec![in alloc; 0; room]?;
     let mut values = vec![in alloc; 0; domain.points() as usize]?;
     evaluate_function_area(source, function, domain, &mut values, &mut temps);

@@ -12,4 +12,6 @@ mod stages;
 mod true_stages;
 
 pub use buffers::{StageBuffer, StageBuffers};
-pub use true_stages::{WholeStages, compute_whole_stages, find_tile_area_in_whole_function, plain};
+pub use true_stages::{
+    ComputedWholeStages, compute_values_of_whole_stages, find_tile_area_in_whole_function, plain,
+};

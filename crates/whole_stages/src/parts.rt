@@ -10,7 +10,7 @@ ghost use Rattle.whole_stages.specs.Known.{buffer_value};
 use crate::buffers::StageBuffer;
 use domains::Area;
 use std::alloc::{AllocError, Global};
-use tile_eval::find_span_number;
+use tile_eval::find_span_number_at_position;
 
 impl StageBuffer {
     // The values of a row of an area that lies in the buffer's own, counted from 0.
@@ -21,7 +21,7 @@ impl StageBuffer {
             ≡ map (buffer_value self.now (area.now.rows.lo +ℤ pos place))
             (numbers_of area.now.cols) }
     {
-        let row = find_span_number(&area.rows, place);
+        let row = find_span_number_at_position(&area.rows, place);
         self.view()
             .slice_row(row, area.cols.lo(), area.cols.len() as usize)
     }

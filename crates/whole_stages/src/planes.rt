@@ -27,7 +27,7 @@ fn convert_samples_of_whole_plane(
 }
 
 /// The samples of a plane, row by row.
-pub fn convert_whole_plane(
+pub fn convert_whole_plane_of_picture(
     alloc: Global,
     picture: &Picture,
     plane: usize,

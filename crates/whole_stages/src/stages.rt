@@ -9,7 +9,7 @@ ghost use Rattle.whole_stages.specs.inside.Kept.{IsKept, HasInputs, KnowsMore};
 
 use crate::buffers::{StageBuffer, StageBuffers};
 use crate::functions::evaluate_whole_function;
-use crate::planes::convert_whole_plane;
+use crate::planes::convert_whole_plane_of_picture;
 use job::{Body, Job, StageKind};
 use std::alloc::{AllocError, Global};
 
@@ -26,8 +26,8 @@ impl StageBuffers {
     }
 
     /// Computes a whole stage, if it is not known, after what it reads; for an accumulator only what it reads.
-    #[cycle(compute_stage)]
-    pub(crate) fn compute_stage(
+    #[cycle(compute_stage_after_its_reads)]
+    pub(crate) fn compute_stage_after_its_reads(
         &mut self,
         alloc: Global,
         job: &Job,
@@ -41,10 +41,10 @@ impl StageBuffers {
         ensures more { OnOk result (KnowsMore self.old.buffers.items self.new.buffers.items) }
         ensures served { OnOk result (IsServed (pipeline_in job.now) self.new.buffers.items stage) }
     {
-        if self.find_buffer(stage).is_some() {
+        if self.borrow_buffer_of_stage(stage).is_some() {
             return Ok(());
         }
-        self.compute_read_stages(alloc, job, stage)?;
+        self.compute_stages_that_stage_reads(alloc, job, stage)?;
         if let Some(whole) = self.compute_stage_buffer(alloc, job, stage)? {
             self.insert_buffer(stage, whole);
         }
@@ -52,8 +52,8 @@ impl StageBuffers {
     }
 
     // All that a stage reads.
-    #[cycle(compute_stage)]
-    fn compute_read_stages(
+    #[cycle(compute_stage_after_its_reads)]
+    fn compute_stages_that_stage_reads(
         &mut self,
         alloc: Global,
         job: &Job,
@@ -72,7 +72,7 @@ impl StageBuffers {
             return Ok(());
         };
         for read in reads {
-            self.compute_stage(alloc, job, read.stage())?;
+            self.compute_stage_after_its_reads(alloc, job, read.stage())?;
         }
         Ok(())
     }
@@ -112,7 +112,7 @@ impl StageBuffers {
             return Ok(Vec::new(alloc));
         };
         match stage.body() {
-            Body::Plane(plane) => convert_whole_plane(alloc, job.picture(), *plane),
+            Body::Plane(plane) => convert_whole_plane_of_picture(alloc, job.picture(), *plane),
             Body::Function(function) => evaluate_whole_function(
                 alloc,
                 self,

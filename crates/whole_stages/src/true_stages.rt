@@ -14,14 +14,14 @@ use std::alloc::{AllocError, Global};
 
 /// Some stages of a job and all that they read, whole, each computed once.
 #[derive(Drop)]
-pub struct WholeStages<'a> {
+pub struct ComputedWholeStages<'a> {
     job: &'a Job,
     known: StageBuffers,
     ghost places: { length known.buffers.items ≡ length (pipeline_in job.now).stages },
     ghost right: { AreTrue (pipeline_in job.now) known.buffers.items },
 }
 
-impl<'a> WholeStages<'a> {
+impl<'a> ComputedWholeStages<'a> {
     /// The planes and functions among some stages, and what all of these stages read. Unknown numbers do not count.
     ///
     /// # Errors
@@ -31,16 +31,16 @@ impl<'a> WholeStages<'a> {
         alloc: Global,
         job: &'a Job,
         stages: &[usize],
-    ) -> Result<WholeStages<'a>, AllocError>
+    ) -> Result<ComputedWholeStages<'a>, AllocError>
         ensures job { IfOk result (λ found. found.job.now ≡ job.now) }
         ensures served { IfOk result
             (λ found. All (IsServed (pipeline_in job.now) found.known.buffers.items) stages.now) }
     {
         let mut known = StageBuffers::new(alloc, job.stages().len())?;
         for stage in stages {
-            known.compute_stage(alloc, job, *stage)?;
+            known.compute_stage_after_its_reads(alloc, job, *stage)?;
         }
-        Ok(WholeStages { job, known })
+        Ok(ComputedWholeStages { job, known })
     }
 
     /// The job whose stages these are.
@@ -69,7 +69,7 @@ impl<'a> WholeStages<'a> {
         ensures { IfOk result
             (λ values. values.items ≡ stage_values (pipeline_in self.now.job.now) stage) }
     {
-        match self.known.find_buffer(stage) {
+        match self.known.borrow_buffer_of_stage(stage) {
             Some(whole) => whole.values.to_vec(alloc),
             None => Ok(Vec::new(alloc)),
         }
@@ -81,7 +81,7 @@ impl<'a> WholeStages<'a> {
         ensures { result.items ≡ stage_values (pipeline_in self.entry.job.now) stage }
     {
         let mut known = self.known;
-        match known.take_buffer_of_stage(stage) {
+        match known.take_out_buffer_of_stage_if_known(stage) {
             Some(whole) => whole.into_stage_values(),
             None => Vec::new(alloc),
         }
@@ -109,7 +109,7 @@ impl<'a> WholeStages<'a> {
         let Some(area) = find_tile_area_in_whole_function(self.job, stage, row, col) else {
             return Ok(None);
         };
-        match self.known.find_buffer(stage) {
+        match self.known.borrow_buffer_of_stage(stage) {
             Some(whole) => Ok(Some(whole.copy_area_values(alloc, &area)?)),
             None => unreachable!(),
         }
@@ -138,7 +138,7 @@ pub fn find_tile_area_in_whole_function(job: &Job, stage: usize, row: u32, col: 
 pub fn plain(alloc: Global, job: &Job, stage: usize) -> Result<Vec<i32>, AllocError>
     ensures { IfOk result (λ values. values.items ≡ stage_values (pipeline_in job.now) stage) }
 {
-    Ok(WholeStages::from_job(alloc, job, &[stage])?.into_stage_values(alloc, stage))
+    Ok(ComputedWholeStages::from_job(alloc, job, &[stage])?.into_stage_values(alloc, stage))
 }
 
 /// The values of several stages; what they read is computed once.
@@ -146,7 +146,7 @@ pub fn plain(alloc: Global, job: &Job, stage: usize) -> Result<Vec<i32>, AllocEr
 /// # Errors
 ///
 /// Fails only where memory is refused.
-pub fn compute_whole_stages(
+pub fn compute_values_of_whole_stages(
     alloc: Global,
     job: &Job,
     stages: &[usize],
@@ -154,7 +154,7 @@ pub fn compute_whole_stages(
     ensures { IfOk result (λ all. map (λ values. values.items) all.items
         ≡ map (stage_values (pipeline_in job.now)) stages.now) }
 {
-    let known = WholeStages::from_job(alloc, job, stages)?;
+    let known = ComputedWholeStages::from_job(alloc, job, stages)?;
     let mut all = Vec::with_capacity(alloc, stages.len())?;
     for stage in stages {
         all.push(known.copy_stage_values(alloc, *stage)?)?;

@@ -4,7 +4,7 @@ ghost use Rattle.fact_lines.specs.Written.{AreCounts};
 ghost use Rattle.node_state.specs.States.{facts_in, retired_in};
 ghost use Rattle.std.specs.Prelude.{◌≡◌, IfOk};
 
-use fact_lines::{FactFileCounts, count_fact_file_line_contents};
+use fact_lines::{FactFileCounts, count_facts_and_jobs_for_fact_file_line};
 use identity::JobId;
 use node_state::NodeState;
 use std::alloc::{AllocError, Global};
@@ -33,7 +33,7 @@ impl WorldNodeReport {
     {
         let retired = state.retired().to_vec(alloc)?;
         let facts = state.held().list_facts()?;
-        match count_fact_file_line_contents(&retired, &facts) {
+        match count_facts_and_jobs_for_fact_file_line(&retired, &facts) {
             Some(counts) => Ok(WorldNodeReport {
                 node,
                 retired,

@@ -12,4 +12,4 @@ mod stream;
 mod world_input;
 
 pub use stream::world_stream;
-pub use world_input::read_world_input;
+pub use world_input::read_catalog_and_events_of_world_input;

@@ -9,7 +9,7 @@ ghost use Rattle.world_commands.specs.inside.Outcomes.{outcome_lines};
 use crate::contents::WorldNodeReport;
 use crate::holding::collect_world_node_reports;
 use crate::start::make_requested_world;
-use crate::world_input::read_world_input;
+use crate::world_input::read_catalog_and_events_of_world_input;
 use command_faults::StreamFault;
 use command_line::{NodesArgument, Options};
 use gossip_events::Event;
@@ -25,7 +25,7 @@ pub struct WorldOutcome {
 }
 
 /// What becomes of so many nodes by the script of an input. The input is freed.
-pub fn compute_outcome_of_world_input(
+pub fn compute_node_reports_of_world_input(
     alloc: Global,
     nodes: NodesArgument,
     options: &Options,
@@ -36,13 +36,13 @@ pub fn compute_outcome_of_world_input(
         (outcome_lines outcome)) }
     ensures fault { IfErr result (IsWorldFault input.items given.now options.now.sides) }
 {
-    let (catalog, events) = read_world_input(alloc, options, given, input)?;
+    let (catalog, events) = read_catalog_and_events_of_world_input(alloc, options, given, input)?;
     let world = make_requested_world(alloc, nodes, options, catalog)?;
-    Ok(run_events_to_world_outcome(alloc, nodes, world, &events)?)
+    Ok(run_events_to_world_node_reports(alloc, nodes, world, &events)?)
 }
 
 /// What becomes by the events of a world of so many nodes that hold nothing.
-fn run_events_to_world_outcome(
+fn run_events_to_world_node_reports(
     alloc: Global,
     nodes: NodesArgument,
     world: World,

@@ -15,7 +15,7 @@ use write_buffer::WriteBuffer;
 
 /// Writes how many events there were and how many were refused, and a line for each node. It allocates no memory: the lines go
 /// through a buffer of fixed size.
-pub fn write_world_outcome<W: Sink>(
+pub fn write_event_counts_and_world_node_lines<W: Sink>(
     outcome: &WorldOutcome,
     writer: &mut W,
 ) -> Result<(), WriteFailed>

@@ -4,8 +4,8 @@ ghost use Rattle.command_outcomes.specs.Outcomes.{CountsRead, CountsWritten, Wri
 ghost use Rattle.world_commands.specs.WorldFaults.{refusing_world};
 ghost use Rattle.world_commands.specs.WorldSayings.{saying_of_world};
 
-use crate::outcome::compute_outcome_of_world_input;
-use crate::outcome_lines::write_world_outcome;
+use crate::outcome::compute_node_reports_of_world_input;
+use crate::outcome_lines::write_event_counts_and_world_node_lines;
 use command_faults::StreamFault;
 use command_line::{NodesArgument, Options};
 use command_outcomes::read_command_input_bytes;
@@ -36,6 +36,12 @@ pub fn world_stream<H: AllocGlobal, R: Source, W: Sink>(
     ensures write { CountsWritten result (W.failures writer.old) (W.failures writer.new) }
 {
     let input = read_command_input_bytes(rt.alloc(), reader)?;
-    let outcome = compute_outcome_of_world_input(rt.alloc(), nodes, options, parameters, input)?;
-    Ok(write_world_outcome(&outcome, writer)?)
+    let outcome = compute_node_reports_of_world_input(
+        rt.alloc(),
+        nodes,
+        options,
+        parameters,
+        input,
+    )?;
+    Ok(write_event_counts_and_world_node_lines(&outcome, writer)?)
 }

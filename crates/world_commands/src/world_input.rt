@@ -13,7 +13,7 @@ use std::alloc::Global;
 
 /// The job of the program and the picture that the input spells, as a catalog that has it alone, and the events of the script
 /// between them. A faulty line is reported only if the program and the picture have a job. The input is freed.
-pub fn read_world_input(
+pub fn read_catalog_and_events_of_world_input(
     alloc: Global,
     options: &Options,
     given: &[(String, i32)],

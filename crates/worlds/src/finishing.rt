@@ -36,8 +36,8 @@ impl<S: FactStore> World<S> {
         ensures finishes { IfOk result (λ events. Finishes self.now n job events.items) }
         ensures fault { IfErr result (IsFinishFault self.now n job) }
     {
-        let planned = self.find_job_to_finish(n, job)?;
-        let keys = list_and_check_keys_to_finish(self.alloc, &planned)?;
+        let planned = self.find_job_and_schedule_to_finish_at_node(n, job)?;
+        let keys = list_keys_to_finish_if_all_fit_scratch(self.alloc, &planned)?;
         Ok(list_make_and_deliver_events_to_finish(
             self.alloc,
             n,
@@ -47,7 +47,11 @@ impl<S: FactStore> World<S> {
     }
 
     // The job, which node n has not retired, and what the node holds and how it makes its tiles.
-    fn find_job_to_finish(&self, n: u8, job: usize) -> Result<WorldNodeJob<'_, S>, FinishFault>
+    fn find_job_and_schedule_to_finish_at_node(
+        &self,
+        n: u8,
+        job: usize,
+    ) -> Result<WorldNodeJob<'_, S>, FinishFault>
         ensures planned { IfOk result (λ p. IsPlanned self.now.work n job
             (entry_of p.job.now) p.schedule.now.inlining) }
         ensures held { IfOk result (λ p. p.held.now ≡ (held self.now.network n).facts) }
@@ -85,7 +89,7 @@ struct WorldNodeJob<'a, S: FactStore> {
 }
 
 // The keys of the work tiles of which nothing is held, if each of these fits in scratch memory.
-fn list_and_check_keys_to_finish<S: FactStore>(
+fn list_keys_to_finish_if_all_fit_scratch<S: FactStore>(
     alloc: Global,
     planned: &WorldNodeJob<'_, S>,
 ) -> Result<Vec<Key>, FinishFault>
@@ -96,7 +100,7 @@ fn list_and_check_keys_to_finish<S: FactStore>(
     ensures fault { let p = planned.now in IfErr result
         (IsRoomFault p.held.now (entry_of p.job.now) p.schedule.now.inlining) }
 {
-    let keys = list_keys_to_finish(alloc, planned.held, planned.job, planned.schedule)?;
+    let keys = list_missing_keys_to_finish(alloc, planned.held, planned.job, planned.schedule)?;
     match find_key_over_scratch_limit(alloc, planned.job, planned.schedule, &keys)? {
         None => Ok(keys),
         Some(key) => Err(FinishFault::ScratchTooBig(key)),
@@ -104,7 +108,7 @@ fn list_and_check_keys_to_finish<S: FactStore>(
 }
 
 // The keys of the work tiles of which nothing is held.
-fn list_keys_to_finish<S: FactStore>(
+fn list_missing_keys_to_finish<S: FactStore>(
     alloc: Global,
     held: &HeldFacts<S>,
     job: &Job,

@@ -86,7 +86,10 @@ impl<S: FactStore> WorldNetwork<S> {
     {
         match event {
             Event::Make { node, key } => self.make_fact_as_message(jobs, usize::from(*node), key),
-            Event::Retire { node, ids } => self.retire_job_by_message(usize::from(*node), ids),
+            Event::Retire { node, ids } => self.append_retirement_message_to_own_node(
+                usize::from(*node),
+                ids,
+            ),
             Event::Send { node, to, keys } => {
                 self.send_facts(usize::from(*node), usize::from(*to), keys.as_slice())
             }
@@ -123,7 +126,11 @@ impl<S: FactStore> WorldNetwork<S> {
         self.append_message(n, state)
     }
 
-    fn retire_job_by_message(&mut self, n: usize, ids: &JobId) -> Result<Done, StepFault>
+    fn append_retirement_message_to_own_node(
+        &mut self,
+        n: usize,
+        ids: &JobId,
+    ) -> Result<Done, StepFault>
         ensures done { (u : WorldWork) → OnOk result (Accepts u self.old (Retire n ids.now) self.new) }
         ensures answer { IfOk result (IsDone self.old (Retire n ids.now) self.new) }
         ensures refused { (u : WorldWork)

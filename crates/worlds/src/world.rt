@@ -76,7 +76,7 @@ impl<S: FactStore> World<S> {
         ensures fault { IfErr result (λ back. IsRefusedWorld
             (record { jobs = catalog; schedules = schedules.items }) back.2) }
     {
-        if !has_valid_world_counts(&catalog, &schedules) {
+        if !has_valid_world_node_and_schedule_counts(&catalog, &schedules) {
             return Err((catalog, schedules, WorldFault::BadCount));
         }
         match WorldNetwork::new(alloc, schedules.len()) {
@@ -195,7 +195,7 @@ impl<S: FactStore> World<S> {
 }
 
 /// Whether there are 1 to 16 nodes, each with a schedule for each job.
-fn has_valid_world_counts(catalog: &Catalog, schedules: &[NodeSchedules]) -> bool
+fn has_valid_world_node_and_schedule_counts(catalog: &Catalog, schedules: &[NodeSchedules]) -> bool
     ensures { IsTrue result
         ↔ IsCounted (record { jobs = catalog.now; schedules = schedules.now }) }
 {

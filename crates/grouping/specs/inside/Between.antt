@@ -68,15 +68,15 @@ AreWhole job c k wholes =
 -- ---- rows and columns of tiles
 
 -- the tile in row i and column j
-abbrev pub find_grid_tile : Grid → ℕ → ℕ → NumberedTile
-find_grid_tile g i j = record { place = i * tile_cols g + j; tile = tile_area g i j }
+abbrev pub find_group_tile_by_row_and_column : Grid → ℕ → ℕ → NumberedTile
+find_group_tile_by_row_and_column g i j = record { place = i * tile_cols g + j; tile = tile_area g i j }
 
 -- the region of stage r is separable. In each tile its rows are those of its region in the first tile of the row, and its columns
 -- those in the first tile of the column
 abbrev pub LiesAcross : List StageStatus → ℕ → Grid → ℕ → Type 0
 LiesAcross standings h g r =
-    (i j : ℕ) → HasTile g i j → IsBetween (find_kept_region standings h (find_grid_tile g i j) r) (find_kept_region standings h (find_grid_tile g i 0) r)
-    (find_kept_region standings h (find_grid_tile g 0 j) r)
+    (i j : ℕ) → HasTile g i j → IsBetween (find_kept_region standings h (find_group_tile_by_row_and_column g i j) r) (find_kept_region standings h (find_group_tile_by_row_and_column g i 0) r)
+    (find_kept_region standings h (find_group_tile_by_row_and_column g 0 j) r)
 
 -- in each of these n tiles the function has a box and all of its readers are whole; sides are the rows, or the columns, of the
 -- boxes

@@ -32,10 +32,10 @@ abbrev pub count_box_points : Option Area → ℕ
 count_box_points o = option_map_or point_count o 0
 
 -- the cost that is kept for a stored stage
-abbrev pub find_kept_cost : Option StageStatus → ℕ
-find_kept_cost None = 0
-find_kept_cost (Some (Stored points tiles)) = points
-find_kept_cost (Some (Inlined tiles)) = 0
+abbrev pub find_kept_cost_of_stored_stage : Option StageStatus → ℕ
+find_kept_cost_of_stored_stage None = 0
+find_kept_cost_of_stored_stage (Some (Stored points tiles)) = points
+find_kept_cost_of_stored_stage (Some (Inlined tiles)) = 0
 
 -- the box that is kept for an inlined function in a tile of its group
 abbrev pub find_kept_box : Option StageStatus → ℕ → Option Area

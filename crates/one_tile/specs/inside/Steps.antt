@@ -6,7 +6,7 @@ use Rattle.domains.specs.declared.area.Area.{Area}
 use Rattle.job.specs.Formula.{Formula}
 use Rattle.job.specs.Pipeline.{JobCase, function, Stage, Pipeline}
 use Rattle.overlap_tiles.specs.Lives.{IsReadAt}
-use Rattle.overlap_tiles.specs.Plans.{Layout}
+use Rattle.overlap_tiles.specs.Plans.{TileLayout}
 use Rattle.tile_eval.specs.Raster.{place_of}
 use Rattle.tile_eval.specs.Reading.{HasFunctionRoom}
 use Rattle.tile_eval.specs.Rows.{at}
@@ -34,13 +34,13 @@ FindsEarlier job steps k Inner =
     → Inner h r c
 
 -- the range of the step at place p has its local values
-abbrev pub IsComputed : Pipeline → Layout → KnownTiles → List ℤ → ℕ → Type 0
+abbrev pub IsComputed : Pipeline → TileLayout → KnownTiles → List ℤ → ℕ → Type 0
 IsComputed job l given memory p =
     (g : ℕ) (area : Area) (range : ℕ × ℕ) → slice_get l.steps p ≡ Some (g, area) → slice_get l.ranges p ≡ Some range
     → (r c : ℤ) → HoldsPoint area r c → at memory (range.0 + place_of area r c) ≡ local_value job l.inlining given g r c
 
 -- this holds of each step before place m that a step from there on reads
-abbrev pub AreComputed : Pipeline → Layout → KnownTiles → List ℤ → ℕ → Type 0
+abbrev pub AreComputed : Pipeline → TileLayout → KnownTiles → List ℤ → ℕ → Type 0
 AreComputed job l given memory m = (p n : ℕ) → p < m → m ≤ n → IsReadAt job l.steps p n → IsComputed job l given memory p
 
 -- this capacity suffices for the operands of a step
@@ -63,6 +63,6 @@ pub record AreLent (memory : List ℤ) (boxes : TileScratchView) (start : ℕ) :
   pub behind : (n : ℕ) → boxes.end ≤ n → n < length memory → at boxes.behind.now (n - boxes.end) ≡ at memory n
 
 -- all that stage g reads over an area is available once the memory on either side of the area's range is borrowed
-abbrev pub IsPreparedBeside : Pipeline → Layout → KnownTiles → List ℤ → ℕ → ℕ → Area → Type 0
+abbrev pub IsPreparedBeside : Pipeline → TileLayout → KnownTiles → List ℤ → ℕ → ℕ → Area → Type 0
 IsPreparedBeside job l given memory start g area =
     (boxes : TileScratchView) → AreLent memory boxes start → boxes.end ≡ start + point_count area → IsPrepared job l given boxes g area

@@ -17,12 +17,12 @@ use Rattle.overlap_tiles.specs.Needs.{tiles_over}
 use Rattle.overlap_tiles.specs.declared.ranges.HeldRange.{HeldRange}
 
 -- the area of stage g in a list
-abbrev pub find_stage_area : List (ℕ × Area) → ℕ → Option Area
-find_stage_area boxes g = option_map (λ b. b.1) (find (λ b. b.0 == g) boxes)
+abbrev pub find_stage_area_in_boxes : List (ℕ × Area) → ℕ → Option Area
+find_stage_area_in_boxes boxes g = option_map (λ b. b.1) (find (λ b. b.0 == g) boxes)
 
 -- the tiles that are needed of stage g
 abbrev pub stage_needs : Pipeline → List Bool → List (ℕ × Area) → ℕ → List Tile
-stage_needs job inlining boxes g = if is_inlined inlining g then [] else tiles_over g (grid_at job g) (find_stage_area boxes g)
+stage_needs job inlining boxes g = if is_inlined inlining g then [] else tiles_over g (grid_at job g) (find_stage_area_in_boxes boxes g)
 
 -- ---- the last reader of each stage, in a table by their numbers
 
@@ -41,8 +41,8 @@ abbrev pub unread : Pipeline → List ℕ
 unread job = replicate (length job.stages) 0
 
 -- for each stage the last place at which it is read; 0 where it is not
-abbrev pub find_last_readers : Pipeline → List (ℕ × Area) → List ℕ
-find_last_readers job steps = marked_by job 0 (unread job) steps
+abbrev pub list_last_reader_places_by_stage : Pipeline → List (ℕ × Area) → List ℕ
+list_last_reader_places_by_stage job steps = marked_by job 0 (unread job) steps
 
 -- ---- ranges, the held ones in the order of their starts
 
@@ -90,4 +90,4 @@ size_of ranges = greatest (map (λ r. r.0 + r.1) ranges)
 
 -- the ranges of a target
 abbrev pub ranges_for : Target → List (ℕ × ℕ)
-ranges_for t = ranges_by (find_last_readers t.job (steps t)) (inner_steps t)
+ranges_for t = ranges_by (list_last_reader_places_by_stage t.job (steps t)) (inner_steps t)

@@ -15,9 +15,9 @@ abbrev pub earlier : Option ℕ → ℕ → ℕ
 earlier None n = n
 earlier (Some m) n = min m n
 
-abbrev pub is_redeclaring_item : Option ℕ → ℕ → Bool
-is_redeclaring_item None n = false
-is_redeclaring_item (Some m) n = m == n
+abbrev pub is_first_redeclaring_item : Option ℕ → ℕ → Bool
+is_first_redeclaring_item None n = false
+is_first_redeclaring_item (Some m) n = m == n
 
 -- the first item that declares a name that was declared before, or none does
 abbrev pub IsFirstAgain : List Symbol → Option ℕ → Type 0

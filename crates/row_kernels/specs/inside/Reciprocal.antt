@@ -11,6 +11,6 @@ complement_negative_dividend (pos n) = n
 complement_negative_dividend (negsuc n) = n
 
 -- the number that lies so far from 0 or from -1, on the side of z
-abbrev pub restore_sign : ℤ → ℕ → ℤ
-restore_sign (pos n) m = pos m
-restore_sign (negsuc n) m = negsuc m
+abbrev pub undo_complement_of_dividend : ℤ → ℕ → ℤ
+undo_complement_of_dividend (pos n) m = pos m
+undo_complement_of_dividend (negsuc n) m = negsuc m

@@ -16,10 +16,10 @@ later (Rank r) Answer = Answer
 later Answer u = Answer
 
 -- whether it is over once the tiles of a rank are made
-abbrev pub is_over : Phase → ℕ → Bool
-is_over Never rank = true
-is_over (Rank r) rank = nat_le r rank
-is_over Answer rank = false
+abbrev pub is_over_after_rank : Phase → ℕ → Bool
+is_over_after_rank Never rank = true
+is_over_after_rank (Rank r) rank = nat_le r rank
+is_over_after_rank Answer rank = false
 
 -- stage g is read in this phase
 abbrev pub read_in : Phase → List Phase → ℕ → List Phase

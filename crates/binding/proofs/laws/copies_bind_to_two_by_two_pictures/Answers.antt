@@ -7,12 +7,12 @@ use Rattle.pipe_checks.specs.declared.symbol.Symbol.{Symbol}
 use Rattle.pipe_checks.specs.Graph.{links_at}
 use Rattle.pipe_checks.specs.inside.Search.{rank_over}
 use Rattle.pipe_checks.proofs.Numbering.{ranking-from_recurrence}
-use Rattle.pipe_checks.specs.Names.{declared_names, number_of}
+use Rattle.pipe_checks.specs.Names.{symbols_declared_by_items, number_of}
 use Rattle.pipe_checks.specs.Accesses.{graph_of}
 use Rattle.pipe_bounds.specs.Within.{AllSet}
 use Rattle.pipe_checks.specs.Uses.{index_places}
 use Rattle.pipe_checks.specs.Checking.{DeclaresAgain, IsTwice, IsNamed, is_good}
-use Rattle.pipe_checks.specs.Twice.{item_variables, has_reused_variable}
+use Rattle.pipe_checks.specs.Twice.{item_variables, has_variable_with_name_used_twice}
 use Rattle.binding.specs.Binding.{settings_for}
 use Rattle.binding.specs.Texts.{planes, copying, unset, two_by_two}
 use Rattle.binding.proofs.laws.copies_bind_to_two_by_two_pictures.Goals as goal
@@ -39,23 +39,23 @@ each_at P (y ∷ ys) each (suc k) x is = each_at P ys each.1 k x is
 at_some : {X : Type 0} (P : X → Type 0) (x y : X) → Some x ≡ Some y → P x → P y
 at_some P x y is p = let same : x ≡ y = cc in subst P same p
 
-new_at : (place : ℕ) (d : Symbol) → slice_get (declared_names copying) place ≡ Some d
-    → number_of (take place (declared_names copying)) d.name ≡ None
+new_at : (place : ℕ) (d : Symbol) → slice_get (symbols_declared_by_items copying) place ≡ Some d
+    → number_of (take place (symbols_declared_by_items copying)) d.name ≡ None
 new_at zero = λ d is. refl
-new_at (suc zero) = λ d is. at_some (λ (e : Symbol). number_of (take 1 (declared_names copying)) e.name ≡ None) _ d is refl
-new_at (suc (suc zero)) = λ d is. at_some (λ (e : Symbol). number_of (take 2 (declared_names copying)) e.name ≡ None) _ d is refl
-new_at (suc (suc (suc zero))) = λ d is. at_some (λ (e : Symbol). number_of (take 3 (declared_names copying)) e.name ≡ None) _ d is refl
+new_at (suc zero) = λ d is. at_some (λ (e : Symbol). number_of (take 1 (symbols_declared_by_items copying)) e.name ≡ None) _ d is refl
+new_at (suc (suc zero)) = λ d is. at_some (λ (e : Symbol). number_of (take 2 (symbols_declared_by_items copying)) e.name ≡ None) _ d is refl
+new_at (suc (suc (suc zero))) = λ d is. at_some (λ (e : Symbol). number_of (take 3 (symbols_declared_by_items copying)) e.name ≡ None) _ d is refl
 new_at (suc (suc (suc (suc place)))) = λ d is. absurd (cc)
 
-declared_once : (k : ℕ) → DeclaresAgain (declared_names copying) k → ⊥
+declared_once : (k : ℕ) → DeclaresAgain (symbols_declared_by_items copying) k → ⊥
 declared_once k x = false≢true (subst (λ (o : Option ℕ). IsTrue (is_some o)) (new_at x.place x.again x.there) x.before)
 
-variables_are_new : (k : ℕ) (d : Declaration) → slice_get copying k ≡ Some d → has_reused_variable (declared_names copying) (item_variables d) ≡ false
+variables_are_new : (k : ℕ) (d : Declaration) → slice_get copying k ≡ Some d → has_variable_with_name_used_twice (symbols_declared_by_items copying) (item_variables d) ≡ false
 variables_are_new =
-    each_at (λ d. has_reused_variable (declared_names copying) (item_variables d) ≡ false) copying (refl, (refl, (refl, (refl, (refl, tt)))))
+    each_at (λ d. has_variable_with_name_used_twice (symbols_declared_by_items copying) (item_variables d) ≡ false) copying (refl, (refl, (refl, (refl, (refl, tt)))))
 
-twice_is_none : (k : ℕ) (d : Declaration) → has_reused_variable (declared_names copying) (item_variables d) ≡ false
-    → IsTwice (declared_names copying) k d → ⊥
+twice_is_none : (k : ℕ) (d : Declaration) → has_variable_with_name_used_twice (symbols_declared_by_items copying) (item_variables d) ≡ false
+    → IsTwice (symbols_declared_by_items copying) k d → ⊥
 twice_is_none k d new (inl again) = declared_once k again
 twice_is_none k d new (inr varies) = false≢true (subst IsTrue new varies)
 
@@ -63,7 +63,7 @@ named : IsNamed copying
 unfolding index_places
 named = record {
   once = λ k d is. twice_is_none k d (variables_are_new k d is);
-  good = each_at (λ d. is_good (declared_names copying) d ≡ true) copying (refl, (refl, (refl, (refl, (refl, tt)))));
+  good = each_at (λ d. is_good (symbols_declared_by_items copying) d ≡ true) copying (refl, (refl, (refl, (refl, (refl, tt)))));
 }
 
 all_set : AllSet (settings_for planes two_by_two unset)

@@ -14,13 +14,13 @@ loop-setting-preserved c =
     let x = c.setting-item.result in
     let there =
     here_is c.settings-setting-items.result.now given n _ c.settings-setting-items.ensures c.loop-setting-test.true c.setting-item.is in
-    let value = ap (λ (v : Option ℤ). let s : Setting = record { name = x.name; value = v } in s) c.infer_parameter_if_unset.ensures.value in
+    let value = ap (λ (v : Option ℤ). let s : Setting = record { name = x.name; value = v } in s) c.keep_value_or_infer_parameter.ensures.value in
     let next : suc n ≡ n + 1 = omega arith in (
       c.in_ok-push.ensures.items
-          ∙ (ap (λ (ss : List Setting). ss ++ record { name = x.name; value = c.infer_parameter_if_unset.result } ∷ []) c.loop-setting.invariant.0
+          ∙ (ap (λ (ss : List Setting). ss ++ record { name = x.name; value = c.keep_value_or_infer_parameter.result } ∷ []) c.loop-setting.invariant.0
           ∙ (ap (λ (s : Setting). settings_for image picture (take n given) ++ s ∷ []) value
           ∙ (sym (settings_more image picture given n x there)
           ∙ ap (λ (k : ℕ). settings_for image picture (take k given)) next))),
       subst AreSmall (sym c.in_ok-push.ensures.items)
-          (small_more c.loop-setting.settings.items _ c.loop-setting.invariant.1 c.infer_parameter_if_unset.ensures.small),
+          (small_more c.loop-setting.settings.items _ c.loop-setting.invariant.1 c.keep_value_or_infer_parameter.ensures.small),
     )

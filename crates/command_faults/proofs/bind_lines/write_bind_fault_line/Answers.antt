@@ -10,16 +10,16 @@ returns-in_err-write_bind_fault_head g c =
     (part_front (bind_head line.fault ++ blamed_text line.blamed) (read_text line.fault) _ _ _ _
     (part_front (bind_head line.fault) (blamed_text line.blamed) _ _ _ _ c.in_err-write_bind_fault_head.ensures))
 
-pub returns-in_err-write_fault_blamed_name : goal.returns-in_err-write_fault_blamed_name
-returns-in_err-write_fault_blamed_name g c =
+pub returns-in_err-write_fault_blamed_name_if_any : goal.returns-in_err-write_fault_blamed_name_if_any
+returns-in_err-write_fault_blamed_name_if_any g c =
     let line = c.args.line.now in
-    takes_err c.from_residual-in_err-write_fault_blamed_name.result _ _ _ _ _ c.from_residual-in_err-write_fault_blamed_name.ensures.0
+    takes_err c.from_residual-in_err-write_fault_blamed_name_if_any.result _ _ _ _ _ c.from_residual-in_err-write_fault_blamed_name_if_any.ensures.0
     (part_front (bind_head line.fault ++ blamed_text line.blamed) (read_text line.fault) _ _ _ _
-    (part_then (bind_head line.fault) (blamed_text line.blamed) _ _ _ _ _ _ c.in_ok-write_bind_fault_head.ensures c.in_err-write_fault_blamed_name.ensures))
+    (part_then (bind_head line.fault) (blamed_text line.blamed) _ _ _ _ _ _ c.in_ok-write_bind_fault_head.ensures c.in_err-write_fault_blamed_name_if_any.ensures))
 
 pub returns : goal.returns
 returns g c =
     let line = c.args.line.now in
-    takes_then c.write_bounds_detail_of_fault_line.result (bind_head line.fault ++ blamed_text line.blamed) (read_text line.fault) _ _ _ _ _ _
-    (all_then (bind_head line.fault) (blamed_text line.blamed) _ _ _ _ _ _ c.in_ok-write_bind_fault_head.ensures c.in_ok-write_fault_blamed_name.ensures)
-    c.write_bounds_detail_of_fault_line.ensures
+    takes_then c.write_bounds_detail_of_fault_line_if_any.result (bind_head line.fault ++ blamed_text line.blamed) (read_text line.fault) _ _ _ _ _ _
+    (all_then (bind_head line.fault) (blamed_text line.blamed) _ _ _ _ _ _ c.in_ok-write_bind_fault_head.ensures c.in_ok-write_fault_blamed_name_if_any.ensures)
+    c.write_bounds_detail_of_fault_line_if_any.ensures

@@ -24,8 +24,8 @@ pub returns : goal.returns
 returns g c =
     let number = 32 ∷ decimal (number_of c.args.fault) in
     let name = c.as_bytes.ensures.value ∙ c.name.ensures in
-    simp append_assoc (takes_then c.write_fault_texts.result (line_head c.args.line) (number ++ 32 ∷ name_of c.args.fault) _ _ _ _ _ _
+    simp append_assoc (takes_then c.write_texts_in_fault_line.result (line_head c.args.line) (number ++ 32 ∷ name_of c.args.fault) _ _ _ _ _ _
     c.in_ok-write_fault_words_and_count.ensures
-    (takes_then c.write_fault_texts.result number (32 ∷ name_of c.args.fault) _ _ _ _ _ _
+    (takes_then c.write_texts_in_fault_line.result number (32 ∷ name_of c.args.fault) _ _ _ _ _ _
     (rw (c.from.ensures ∙ c.number.ensures) at c.in_ok-write_fault_words_and_count-2.ensures)
-    (simp append-nil at (rw name at c.write_fault_texts.ensures))))
+    (simp append-nil at (rw name at c.write_texts_in_fault_line.ensures))))

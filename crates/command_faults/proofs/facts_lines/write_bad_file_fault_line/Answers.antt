@@ -10,5 +10,5 @@ returns-in_err-write_bad_file_fault_head g c =
 
 pub returns : goal.returns
 returns g c =
-    takes_then c.write_offset_in_fault_line.result (file_fault_text c.args.line c.args.fault) (offset_text (offset_of c.args.fault)) _ _ _ _ _ _
-    c.in_ok-write_bad_file_fault_head.ensures (rw c.offset.ensures at c.write_offset_in_fault_line.ensures)
+    takes_then c.write_offset_or_zero_in_fault_line.result (file_fault_text c.args.line c.args.fault) (offset_text (offset_of c.args.fault)) _ _ _ _ _ _
+    c.in_ok-write_bad_file_fault_head.ensures (rw c.offset.ensures at c.write_offset_or_zero_in_fault_line.ensures)

@@ -10,4 +10,4 @@ returns-in_err-write_fault_words_and_count g c =
 
 pub returns : goal.returns
 returns g c =
-    takes_then c.write_fault_text.result (line_head c.args.line) (codes " bad hex") _ _ _ _ _ _ c.in_ok-write_fault_words_and_count.ensures c.write_fault_text.ensures
+    takes_then c.write_text_in_fault_line.result (line_head c.args.line) (codes " bad hex") _ _ _ _ _ _ c.in_ok-write_fault_words_and_count.ensures c.write_text_in_fault_line.ensures

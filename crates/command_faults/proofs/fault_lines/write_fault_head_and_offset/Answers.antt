@@ -9,5 +9,5 @@ returns-in_err-write_fault_head g c =
 
 pub returns : goal.returns
 returns g c =
-    takes_then c.write_offset_in_fault_line.result (head c.args.kind.now c.args.number c.args.name.now) (offset_text c.args.offset) _ _ _ _ _ _
-    c.in_ok-write_fault_head.ensures c.write_offset_in_fault_line.ensures
+    takes_then c.write_offset_or_zero_in_fault_line.result (head c.args.kind.now c.args.number c.args.name.now) (offset_text c.args.offset) _ _ _ _ _ _
+    c.in_ok-write_fault_head.ensures c.write_offset_or_zero_in_fault_line.ensures

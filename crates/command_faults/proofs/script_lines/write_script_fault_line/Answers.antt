@@ -9,5 +9,5 @@ returns-in_err-write_script_fault_head g c =
 
 pub returns : goal.returns
 returns g c =
-    takes_then c.write_script_fault_line_number.result (script_head c.args.fault) (at_line_text c.args.fault) _ _ _ _ _ _
-    c.in_ok-write_script_fault_head.ensures c.write_script_fault_line_number.ensures
+    takes_then c.write_script_fault_line_number_if_any.result (script_head c.args.fault) (at_line_text c.args.fault) _ _ _ _ _ _
+    c.in_ok-write_script_fault_head.ensures c.write_script_fault_line_number_if_any.ensures

@@ -12,7 +12,7 @@ returns-in_err-tree-clause-fault c =
 
 pub returns-clause-of_input : goal.returns-clause-of_input
 returns-clause-of_input c =
-    both_then c.bind_input_job.result
+    both_then c.check_and_bind_input_job.result
     (λ job made text. record {
       tree = content c.in_ok-tree.tree;
       of_input =
@@ -24,21 +24,21 @@ returns-clause-of_input c =
           };
       text = text;
     })
-    c.bind_input_job.ensures.made
-    c.bind_input_job.ensures.text
+    c.check_and_bind_input_job.ensures.made
+    c.check_and_bind_input_job.ensures.text
 
 pub returns-clause-small : goal.returns-clause-small
 returns-clause-small c =
     let read = c.in_ok-tree.ensures.ok in
-    IfOk-weaker c.bind_input_job.result _ _
+    IfOk-weaker c.check_and_bind_input_job.result _ _
     (λ job made. job_small read.text read.last c.args.given.now c.args.sides (content c.in_ok-tree.tree) c.in_ok-tree.tables.items
     c.in_ok-tree.picture (pipeline_in job) read.spelled made)
-    c.bind_input_job.ensures.made
+    c.check_and_bind_input_job.ensures.made
 
 pub returns-clause-fault : goal.returns-clause-fault
 returns-clause-fault c =
-    IfErr-weaker c.bind_input_job.result _ _
+    IfErr-weaker c.check_and_bind_input_job.result _ _
     (λ f is. job_fault c.args.input.items c.args.given.now c.args.sides (content c.in_ok-tree.tree) c.in_ok-tree.tables.items
     c.in_ok-tree.picture f
     c.in_ok-tree.ensures.ok is)
-    c.bind_input_job.ensures.fault
+    c.check_and_bind_input_job.ensures.fault

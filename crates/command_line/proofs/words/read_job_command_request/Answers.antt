@@ -32,12 +32,12 @@ returns-in_default-read_task_with_its_options-clause-usage c = λ usage request 
     (subst (λ (found : List Row). HasOwn found request.task)
     (same_rows c.args.words.now request asked (rows_of (found_of c.in-Some-subcommand.given.now)) rows) asked.own)
 
-pub returns-in_default-read_schedule_options-clause-usage : goal.returns-in_default-read_schedule_options-clause-usage
-returns-in_default-read_schedule_options-clause-usage c = λ usage request asked.
+pub returns-in_default-read_tile_and_schedule_options-clause-usage : goal.returns-in_default-read_tile_and_schedule_options-clause-usage
+returns-in_default-read_tile_and_schedule_options-clause-usage c = λ usage request asked.
     let rows =
     entered c.args.words.now (app_of c.in_ok-define_command_line.field-0) c.in_ok-matches.matches c.subcommand.result _ c.in_ok-define_command_line.ensures
     c.in_ok-matches.ensures.matches c.subcommand.ensures.rows c.in-Some-subcommand.is in
-    c.in_default-read_schedule_options.ensures.none request.options
+    c.in_default-read_tile_and_schedule_options.ensures.none request.options
     (subst (λ (found : List Row). AreOptions found request.options)
     (same_rows c.args.words.now request asked (rows_of (found_of c.in-Some-subcommand.given.now)) rows) asked.options)
 
@@ -66,7 +66,7 @@ returns-clause-asked c =
       rows = rows_of (found_of c.in-Some-subcommand.given.now);
       given = rows;
       own = c.in-Some-read_task_with_its_options.ensures.own;
-      options = c.in-Some-read_schedule_options.ensures.some;
+      options = c.in-Some-read_tile_and_schedule_options.ensures.some;
       parameters = c.in_ok-read_parameter_arguments.ensures.some;
     }
 

@@ -7,4 +7,4 @@ use Rattle.commands.proofs.plan_lines.make_plan_lines.Goals as goal
 pub loop-number-preserved : goal.loop-number-preserved
 loop-number-preserved c =
     put_more (plan_line_at (pipeline_in c.args.job.now) c.args.schedule.now.inlining) c.loop-number.number [] c.loop-number.lines.items
-    c.put_plan_line.new.lines.items c.loop-number.invariant c.in_ok-put_plan_line.ensures
+    c.put_plan_line_of_stage_unless_plane.new.lines.items c.loop-number.invariant c.in_ok-put_plan_line_of_stage_unless_plane.ensures

@@ -1,6 +1,6 @@
 use Rattle.std.proofs.Common.{◌+◌, List, length, subst, sym, refl}
 use Rattle.std.proofs.lemmas.Option.{slice_get_read}
-use Rattle.whole_stages.specs.declared.true_stages.WholeStages.{WholeStages}
+use Rattle.whole_stages.specs.declared.true_stages.ComputedWholeStages.{ComputedWholeStages}
 use Rattle.fact_audit.specs.declared.verdict.Verdict.{Verdict}
 use Rattle.fact_audit.specs.Verdicts.{IsVerdict}
 use Rattle.fact_audit.specs.inside.Ready.{IsReady}
@@ -13,7 +13,7 @@ judge_fact_among_jobs-requires c =
     let i = c.loop-fact.fact-index in
     let fact = c.fact-item.result in
     let there = slice_get_read facts (length facts) i fact refl c.loop-fact-test.true c.fact-item.is in
-    subst (λ (known : List WholeStages). IsReady c.args.catalog.now known fact) (sym c.deref.ensures.value)
+    subst (λ (known : List ComputedWholeStages). IsReady c.args.catalog.now known fact) (sym c.deref.ensures.value)
     (c.in_ok-known.ensures i fact there)
 
 pub loop-fact-preserved : goal.loop-fact-preserved

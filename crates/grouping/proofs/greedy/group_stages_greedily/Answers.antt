@@ -55,26 +55,26 @@ loop-number-preserved c =
     let before = c.loop-number.grouping in (
       c.loop-number.invariant.0,
       done job c.args.percent (grouping_of before)
-          (grouping_of c.inline_if_allowed.new.self) before.standings.items c.inline_if_allowed.new.self.standings.items c.deref-number-items.result.now
-          c.loop-number.number-index c.loop-number-test.true c.loop-number.invariant.1 c.in_ok-inline_if_allowed.ensures.grouping
-          c.in_ok-inline_if_allowed.ensures.stand,
+          (grouping_of c.inline_function_if_rule_allows.new.self) before.standings.items c.inline_function_if_rule_allows.new.self.standings.items c.deref-number-items.result.now
+          c.loop-number.number-index c.loop-number-test.true c.loop-number.invariant.1 c.in_ok-inline_function_if_rule_allows.ensures.grouping
+          c.in_ok-inline_function_if_rule_allows.ensures.stand,
     )
 
-pub inline_if_allowed-requires-clause-stand : goal.inline_if_allowed-requires-clause-stand
-inline_if_allowed-requires-clause-stand c = c.loop-number.invariant.1.stand
+pub inline_function_if_rule_allows-requires-clause-stand : goal.inline_function_if_rule_allows-requires-clause-stand
+inline_function_if_rule_allows-requires-clause-stand c = c.loop-number.invariant.1.stand
 
-pub inline_if_allowed-requires-clause-there : goal.inline_if_allowed-requires-clause-there
-inline_if_allowed-requires-clause-there c =
+pub inline_function_if_rule_allows-requires-clause-there : goal.inline_function_if_rule_allows-requires-clause-there
+inline_function_if_rule_allows-requires-clause-there c =
     (next_is (pipeline_in c.args.job.now) c.args.percent (grouping_of c.loop-number.grouping) c.loop-number.grouping.standings.items
     c.deref-number-items.result.now c.loop-number.number-index c.loop-number-test.true c.loop-number.invariant.1).0
 
-pub inline_if_allowed-requires-clause-stored : goal.inline_if_allowed-requires-clause-stored
-inline_if_allowed-requires-clause-stored c =
+pub inline_function_if_rule_allows-requires-clause-stored : goal.inline_function_if_rule_allows-requires-clause-stored
+inline_function_if_rule_allows-requires-clause-stored c =
     (next_is (pipeline_in c.args.job.now) c.args.percent (grouping_of c.loop-number.grouping) c.loop-number.grouping.standings.items
     c.deref-number-items.result.now c.loop-number.number-index c.loop-number-test.true c.loop-number.invariant.1).1.0
 
-pub inline_if_allowed-requires-clause-behind : goal.inline_if_allowed-requires-clause-behind
-inline_if_allowed-requires-clause-behind c =
+pub inline_function_if_rule_allows-requires-clause-behind : goal.inline_function_if_rule_allows-requires-clause-behind
+inline_function_if_rule_allows-requires-clause-behind c =
     (next_is (pipeline_in c.args.job.now) c.args.percent (grouping_of c.loop-number.grouping) c.loop-number.grouping.standings.items
     c.deref-number-items.result.now c.loop-number.number-index c.loop-number-test.true c.loop-number.invariant.1).1.1
 

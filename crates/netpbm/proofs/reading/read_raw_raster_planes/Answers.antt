@@ -6,8 +6,8 @@ use Rattle.netpbm.proofs.RawReads.{whole_number}
 use Rattle.netpbm.proofs.ReadLaws.{raw_planes_are}
 use Rattle.netpbm.proofs.reading.read_raw_raster_planes.Goals as goal
 
-pub decode_raw_planes-requires-clause-whole : goal.decode_raw_planes-requires-clause-whole
-decode_raw_planes-requires-clause-whole c =
+pub decode_raw_planes_if_bounded-requires-clause-whole : goal.decode_raw_planes_if_bounded-requires-clause-whole
+decode_raw_planes_if_bounded-requires-clause-whole c =
     let h = c.args.header.now in
     let bytes = c.args.bytes.now in
     let raster = take (length bytes - h.end) (drop h.end bytes) in

@@ -14,15 +14,15 @@ loop-step-preserved c =
     let job = pipeline_in c.args.job.now in
     let steps = c.args.steps.now in
     let step = c.step-item.result in
-    let own : HasStepRoom job (step_view step) c.in_ok-find_tile_operand_capacity_of_step.field-0 = search rules in
-    let first : c.in_ok-find_tile_operand_capacity_of_step.field-0 ≤ c.max-room.result = omega (arith, c.max-room.ensures) in
+    let own : HasStepRoom job (step_view step) c.in_ok-compute_operand_capacity_of_tile_step.field-0 = search rules in
+    let first : c.in_ok-compute_operand_capacity_of_tile_step.field-0 ≤ c.max-room.result = omega (arith, c.max-room.ensures) in
     let second : c.loop-step.room ≤ c.max-room.result = omega (arith, c.max-room.ensures) in
     All-more (λ (s : TileStep). HasStepRoom job (step_view s) c.max-room.result) steps c.loop-step.step-index step (search rules)
     (All-weaker (λ (s : TileStep). HasStepRoom job (step_view s) c.loop-step.room) (λ (s : TileStep). HasStepRoom job (step_view s) c.max-room.result)
     (λ s h. step_more job (step_view s) c.loop-step.room c.max-room.result second h) (take c.loop-step.step-index steps)
     c.loop-step.invariant)
     (subst (λ (s : TileStep). HasStepRoom job (step_view s) c.max-room.result) c.step-item.is
-    (step_more job (step_view step) c.in_ok-find_tile_operand_capacity_of_step.field-0 c.max-room.result first own))
+    (step_more job (step_view step) c.in_ok-compute_operand_capacity_of_tile_step.field-0 c.max-room.result first own))
 
 pub returns : goal.returns
 returns c =

@@ -1,13 +1,13 @@
 use Rattle.std.proofs.Common.{rules, ◌≡◌, None, sym, subst}
 use Rattle.job.specs.Kept.{pipeline_in, program_id_in}
-use Rattle.overlap_tiles.specs.Plans.{Layout}
+use Rattle.overlap_tiles.specs.Plans.{TileLayout}
 use Rattle.one_tile.specs.Runs.{first_missing, NeedsGiven}
 use Rattle.one_tile.proofs.LayoutsPrepare.{keys_given}
 use Rattle.one_tile.proofs.TrueTilesGiveValues.{layout_true}
 use Rattle.one_tile.proofs.run.run_tile.Goals as goal
 
-pub compute_values-requires-clause-layout : goal.compute_values-requires-clause-layout
-compute_values-requires-clause-layout g c =
+pub compute_values_if_stage_is_function-requires-clause-layout : goal.compute_values_if_stage_is_function-requires-clause-layout
+compute_values_if_stage_is_function-requires-clause-layout g c =
     let own = c.requires.plan in
     record {
       inlining = own.inlining;
@@ -19,11 +19,11 @@ compute_values-requires-clause-layout g c =
       function = own.function;
     }
 
-pub compute_values-requires-clause-needs : goal.compute_values-requires-clause-needs
-compute_values-requires-clause-needs g c =
+pub compute_values_if_stage_is_function-requires-clause-needs : goal.compute_values_if_stage_is_function-requires-clause-needs
+compute_values_if_stage_is_function-requires-clause-needs g c =
     let given = g.K.TileSource.given c.args.known.now in
     let none : first_missing given c.args.plan.now.needs ≡ None = search rules in
-    subst (λ (l : Layout). NeedsGiven given l.needs) (sym c.layout.ensures.same) (keys_given given c.args.plan.now.needs none)
+    subst (λ (l : TileLayout). NeedsGiven given l.needs) (sym c.layout.ensures.same) (keys_given given c.args.plan.now.needs none)
 
 pub returns-clause-values : goal.returns-clause-values
 returns-clause-values g c = λ inlining k i j is.
@@ -36,7 +36,7 @@ returns-clause-right g c = λ right inlining k i j is.
     let given = g.K.TileSource.given c.args.known.now in
     let layout = c.layout.ensures.tile (program_id_in c.args.job.now) job inlining k i j is in
     let none : first_missing given c.args.plan.now.needs ≡ None = search rules in
-    let are_given = subst (λ (l : Layout). NeedsGiven given l.needs) (sym c.layout.ensures.same)
+    let are_given = subst (λ (l : TileLayout). NeedsGiven given l.needs) (sym c.layout.ensures.same)
     (keys_given given c.args.plan.now.needs none) in
     layout_true job inlining given c.layout.result.now k i j layout c.args.job.now.well are_given right c.in_ok-values.values.items
     (c.in_ok-values.ensures inlining k i j layout)

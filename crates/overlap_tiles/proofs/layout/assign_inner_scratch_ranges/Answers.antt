@@ -4,7 +4,7 @@ use Rattle.std.proofs.lemmas.Result.{IfOk-weaker}
 use Rattle.domains.specs.declared.area.Area.{Area}
 use Rattle.job.specs.Kept.{pipeline_in}
 use Rattle.grouping.specs.Greedy.{reads_at}
-use Rattle.overlap_tiles.specs.inside.Made.{marked, find_last_readers, ranges_by}
+use Rattle.overlap_tiles.specs.inside.Made.{marked, list_last_reader_places_by_stage, ranges_by}
 use Rattle.overlap_tiles.specs.Views.{step_view}
 use Rattle.overlap_tiles.proofs.LastReaders.{last_readers_push}
 use Rattle.overlap_tiles.proofs.layout.assign_inner_scratch_ranges.Goals as goal
@@ -13,7 +13,7 @@ pub returns-clause-ranges : goal.returns-clause-ranges
 returns-clause-ranges c =
     let job = pipeline_in c.args.job.now in
     let inner : List (ℕ × Area) = map step_view c.args.inner.now in
-    let table : c.deref.result.now ≡ find_last_readers job (inner ++ step_view c.args.target ∷ []) =
+    let table : c.deref.result.now ≡ list_last_reader_places_by_stage job (inner ++ step_view c.args.target ∷ []) =
     c.deref.ensures.value ∙ c.record_stage_as_last_reader.ensures
     ∙ ap (λ (ls : List ℕ). marked (length c.args.inner.now) ls (reads_at job c.args.target.stage)) c.in_ok-lasts.ensures
     ∙ last_readers_push job inner (step_view c.args.target) (length c.args.inner.now) (sym (length-map c.args.inner.now step_view)) in

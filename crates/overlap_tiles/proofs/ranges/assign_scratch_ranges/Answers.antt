@@ -19,13 +19,13 @@ loop-place-preserved c =
     let held : List HeldRange = c.loop-place.held.items in
     let lasts : List ℕ = c.args.lasts.now in
     let s : ℕ × ℕ = laid_of lasts (step_view step) in
-    let number = c.count_area_points_of_tile_plan-len.ensures.number in
-    let last = c.find_last_reader-last.ensures in
-    let pair : (c.count_area_points_of_tile_plan-len.result, c.find_last_reader-last.result) ≡ s = λ i. (number i, last i) in
+    let number = c.count_points_of_stage_area-len.ensures.number in
+    let last = c.look_up_last_reader_of_stage-last.ensures in
+    let pair : (c.count_points_of_stage_area-len.result, c.look_up_last_reader_of_stage-last.result) ≡ s = λ i. (number i, last i) in
     let after : c.assign_scratch_range.new.held.items ≡ held_after place held s =
     c.in_ok-start.ensures.held ∙ ap (held_after place held) pair in
     let from = c.in_ok-start.ensures.start ∙ ap (λ (p : ℕ × ℕ). (held_by place held p).start) pair in
-    let range : (c.in_ok-start.start, c.count_area_points_of_tile_plan-len.result) ≡ range_of (held_by place held s) = λ i. (from i, number i) in
+    let range : (c.in_ok-start.start, c.count_points_of_stage_area-len.result) ≡ range_of (held_by place held s) = λ i. (from i, number i) in
     let made : c.push.new.self.items ≡ c.loop-place.ranges.items ++ range_of (held_by place held s) ∷ [] =
     c.in_ok-push.ensures.items ∙ ap (λ (r : ℕ × ℕ). c.loop-place.ranges.items ++ r ∷ []) range in
     let few = c.loop-place.invariant.few in

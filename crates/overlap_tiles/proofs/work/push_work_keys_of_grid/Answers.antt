@@ -11,7 +11,7 @@ use Rattle.overlap_tiles.proofs.work.push_work_keys_of_grid.Goals as goal
 pub loop-row-preserved : goal.loop-row-preserved
 loop-row-preserved c =
     let rows = row_keys c.args.first.now c.tile_cols-cols.result in
-    c.in_ok-push_work_keys_of_row.ensures
+    c.in_ok-push_work_keys_of_tile_row.ensures
     ∙ ap (λ (ks : List Key). ks ++ rows c.loop-row.row) c.loop-row.invariant
     ∙ append_assoc c.args.keys.now.items (flat_map rows (range_with_len 0 c.loop-row.row)) (rows c.loop-row.row)
     ∙ ap (λ (ks : List Key). c.args.keys.now.items ++ ks) (sym (flat_map_range_more rows c.loop-row.row))

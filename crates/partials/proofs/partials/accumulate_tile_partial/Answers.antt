@@ -11,8 +11,8 @@ use Rattle.partials.specs.Partials.{TookLocalTotals}
 use Rattle.partials.proofs.LastStepIsTile.{last_is, only_area}
 use Rattle.partials.proofs.partials.accumulate_tile_partial.Goals as goal
 
-pub accumulate_step_partial-requires-clause-accumulator : goal.accumulate_step_partial-requires-clause-accumulator
-accumulate_step_partial-requires-clause-accumulator g c =
+pub accumulate_last_step_partial-requires-clause-accumulator : goal.accumulate_last_step_partial-requires-clause-accumulator
+accumulate_last_step_partial-requires-clause-accumulator g c =
     let job = pipeline_in c.args.tile.now.job.now in
     let some = c.requires.layout in
     subst (λ (x : ℕ × Area). IsAccumulatorOf job x.0 c.args.accumulator.now)
@@ -27,8 +27,8 @@ returns-clause-ok g c =
     let given = g.K.TileSource.given c.args.tile.now.known.now in
     let way = c.args.accumulator.now.fold in
     let old = c.args.bins.now in
-    let new = c.accumulate_step_partial.new.bins in
-    on_ok c.accumulate_step_partial.result c.accumulate_step_partial.ensures.ok (λ joined inlining k i j is.
+    let new = c.accumulate_last_step_partial.new.bins in
+    on_ok c.accumulate_last_step_partial.result c.accumulate_last_step_partial.ensures.ok (λ joined inlining k i j is.
     let own = own_layout job inlining given l k i j is in
     by_own job inlining given l k i j is (λ (flags : List Bool). TookLocalTotals job flags given k i j way old new) (λ area at.
     joined

@@ -8,8 +8,8 @@ use Rattle.partials.specs.Partials.{local_totals, AreLocalTotals}
 use Rattle.partials.proofs.LastStepIsTile.{last_step, last_is, has_last, only_area}
 use Rattle.partials.proofs.partials.compute_tile_partial.Goals as goal
 
-pub compute_step_partial-requires-clause-last : goal.compute_step_partial-requires-clause-last
-compute_step_partial-requires-clause-last g c = λ inner last is.
+pub compute_last_step_partial_if_any-requires-clause-last : goal.compute_last_step_partial_if_any-requires-clause-last
+compute_last_step_partial_if_any-requires-clause-last g c = λ inner last is.
     last_step step_view c.steps.result.now inner last (c.steps.ensures ∙ is) c.in-Some.step.now c.in-Some.ensures.value
 
 pub returns : goal.returns
@@ -17,7 +17,7 @@ returns g c =
     let job = pipeline_in c.args.tile.now.job.now in
     let l = c.args.tile.now.layout.now in
     let given = g.K.TileSource.given c.args.tile.now.known.now in
-    ok_then c.compute_step_partial.result c.compute_step_partial.ensures (λ bins are inlining k i j is.
+    ok_then c.compute_last_step_partial_if_any.result c.compute_last_step_partial_if_any.ensures (λ bins are inlining k i j is.
     let own = own_layout job inlining given l k i j is in
     by_own job inlining given l k i j is (λ (flags : List Bool). AreLocalTotals job flags given k i j bins.items) (λ area at.
     are

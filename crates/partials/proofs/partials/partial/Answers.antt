@@ -1,6 +1,6 @@
 use Rattle.std.proofs.Common.{rules, ◌≡◌, None, sym, subst}
 use Rattle.job.specs.Kept.{pipeline_in, program_id_in}
-use Rattle.overlap_tiles.specs.Plans.{Layout}
+use Rattle.overlap_tiles.specs.Plans.{TileLayout}
 use Rattle.one_tile.specs.Runs.{first_missing, NeedsGiven}
 use Rattle.one_tile.proofs.LayoutsPrepare.{keys_given}
 use Rattle.partials.proofs.TrueTilesGiveTotals.{layout_totals_true}
@@ -22,7 +22,7 @@ pub compute_tile_partial-requires-clause-needs : goal.compute_tile_partial-requi
 compute_tile_partial-requires-clause-needs g c =
     let given = g.K.TileSource.given c.args.known.now in
     let none : first_missing given c.args.plan.now.needs ≡ None = search rules in
-    subst (λ (l : Layout). NeedsGiven given l.needs) (sym c.layout.ensures.same) (keys_given given c.args.plan.now.needs none)
+    subst (λ (l : TileLayout). NeedsGiven given l.needs) (sym c.layout.ensures.same) (keys_given given c.args.plan.now.needs none)
 
 pub returns-clause-totals : goal.returns-clause-totals
 returns-clause-totals g c = λ inlining k i j is.
@@ -35,7 +35,7 @@ returns-clause-right g c = λ right inlining k i j is.
     let given = g.K.TileSource.given c.args.known.now in
     let layout = c.layout.ensures.tile (program_id_in c.args.job.now) job inlining k i j is in
     let none : first_missing given c.args.plan.now.needs ≡ None = search rules in
-    let are_given = subst (λ (l : Layout). NeedsGiven given l.needs) (sym c.layout.ensures.same)
+    let are_given = subst (λ (l : TileLayout). NeedsGiven given l.needs) (sym c.layout.ensures.same)
     (keys_given given c.args.plan.now.needs none) in
     layout_totals_true job inlining given c.layout.result.now k i j layout c.args.job.now.well are_given right c.in_ok-bins.bins.items
     (c.in_ok-bins.ensures inlining k i j layout)

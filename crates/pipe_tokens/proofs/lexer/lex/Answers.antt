@@ -25,19 +25,19 @@ lengths (Err e) h = tt
 
 pub returns-clause-longest : goal.returns-clause-longest
 returns-clause-longest c =
-    found (CutsInto 0 c.args.text.now) c.args.text.now c.cut_into_tokens.result (cuts_into c.args.text.now) c.cut_into_tokens.ensures.tokens c.cut_into_tokens.ensures.starts
+    found (CutsInto 0 c.args.text.now) c.args.text.now c.lex_text_piece_by_piece.result (cuts_into c.args.text.now) c.lex_text_piece_by_piece.ensures.tokens c.lex_text_piece_by_piece.ensures.starts
 
 pub returns-clause-as_many : goal.returns-clause-as_many
 returns-clause-as_many c =
-    lengths c.cut_into_tokens.result (found (λ (ts : List Token) (ss : List ℕ). length ss ≡ length ts) c.args.text.now c.cut_into_tokens.result
-    (as_many_starts c.args.text.now) c.cut_into_tokens.ensures.tokens c.cut_into_tokens.ensures.starts)
+    lengths c.lex_text_piece_by_piece.result (found (λ (ts : List Token) (ss : List ℕ). length ss ≡ length ts) c.args.text.now c.lex_text_piece_by_piece.result
+    (as_many_starts c.args.text.now) c.lex_text_piece_by_piece.ensures.tokens c.lex_text_piece_by_piece.ensures.starts)
 
 pub returns-clause-rising : goal.returns-clause-rising
 returns-clause-rising c =
-    found (λ (ts : List Token) (ss : List ℕ). IsStrictlyIncreasing ss) c.args.text.now c.cut_into_tokens.result (starts_increase c.args.text.now)
-    c.cut_into_tokens.ensures.tokens c.cut_into_tokens.ensures.starts
+    found (λ (ts : List Token) (ss : List ℕ). IsStrictlyIncreasing ss) c.args.text.now c.lex_text_piece_by_piece.result (starts_increase c.args.text.now)
+    c.lex_text_piece_by_piece.ensures.tokens c.lex_text_piece_by_piece.ensures.starts
 
 pub returns-clause-within : goal.returns-clause-within
 returns-clause-within c =
-    found (λ (ts : List Token) (ss : List ℕ). All (λ start. start < length c.args.text.now) ss) c.args.text.now c.cut_into_tokens.result
-    (starts_within c.args.text.now) c.cut_into_tokens.ensures.tokens c.cut_into_tokens.ensures.starts
+    found (λ (ts : List Token) (ss : List ℕ). All (λ start. start < length c.args.text.now) ss) c.args.text.now c.lex_text_piece_by_piece.result
+    (starts_within c.args.text.now) c.lex_text_piece_by_piece.ensures.tokens c.lex_text_piece_by_piece.ensures.starts

@@ -7,8 +7,8 @@ use Rattle.reductions.proofs.GatherOnto.{first_bins, from_starts}
 use Rattle.reductions.proofs.TilesJoinInTurn.{written}
 use Rattle.reductions.proofs.gather.compute_area_totals.Goals as goal
 
-pub accumulate_area-requires-clause-bins : goal.accumulate_area-requires-clause-bins
-accumulate_area-requires-clause-bins g c =
+pub accumulate_area_into_bins-requires-clause-bins : goal.accumulate_area_into_bins-requires-clause-bins
+accumulate_area_into_bins-requires-clause-bins g c =
     first_bins c.args.accumulator.now c.deref_mut.result.now
     (c.deref_mut.ensures.value ∙ c.in_ok-bins.ensures ∙ (λ i. starts (c.fold.ensures i) (c.bins.ensures i)))
 
@@ -18,8 +18,8 @@ returns g c =
     let env : Valuation = g.S.RowSource.samples c.args.source.now in
     let first : c.deref_mut.result.now ≡ starts a.fold a.bins = c.deref_mut.ensures.value ∙ c.in_ok-bins.ensures
     ∙ (λ i. starts (c.fold.ensures i) (c.bins.ensures i)) in
-    written c.in_ok-bins.bins.len c.accumulate_area.new.bins c.in_ok-bins.bins.items (c.accumulate_area.auto.bins ∙ ap length c.deref_mut.ensures.value)
-    (sym (c.accumulate_area.auto.bins ∙ c.deref_mut.ensures.len))
-    ∙ c.accumulate_area.ensures
+    written c.in_ok-bins.bins.len c.accumulate_area_into_bins.new.bins c.in_ok-bins.bins.items (c.accumulate_area_into_bins.auto.bins ∙ ap length c.deref_mut.ensures.value)
+    (sym (c.accumulate_area_into_bins.auto.bins ∙ c.deref_mut.ensures.len))
+    ∙ c.accumulate_area_into_bins.ensures
     ∙ from_starts a (formula_value env (formula_view a.value)) (formula_value env (formula_view a.bin)) (points_of c.args.area.now)
     c.deref_mut.result.now first

@@ -9,7 +9,7 @@ use Rattle.reductions.proofs.join.join_each_bin.Goals as goal
 pub loop-k-preserved : goal.loop-k-preserved
 loop-k-preserved c =
     let k : ℕ = c.loop-k.k in
-    let fits : FitsSigned w64 c.join_bin_numbers.result = search rules in
+    let fits : FitsSigned w64 c.join_two_numbers_of_bin.result = search rules in
     let first_fits : FitsSigned w64 (at c.loop-k.bins k) = search rules in
     let second_fits : FitsSigned w64 (at c.args.others.now k) = search rules in
     let here : k ≤ k = omega arith in
@@ -20,7 +20,7 @@ loop-k-preserved c =
     ≡ at c.args.others.now k = to_z-of_z w64 (at c.args.others.now k) second_fits in
     record {
       done = EachPlace-more (λ j. joined c.args.op (at c.args.bins.now j) (at c.args.others.now j)) c.loop-k.bins k _ within
-          (to_z-of_z w64 c.join_bin_numbers.result fits ∙ c.join_bin_numbers.ensures ∙ (λ i. joined c.args.op (first i) (second i))) c.loop-k.invariant.done;
+          (to_z-of_z w64 c.join_two_numbers_of_bin.result fits ∙ c.join_two_numbers_of_bin.ensures ∙ (λ i. joined c.args.op (first i) (second i))) c.loop-k.invariant.done;
       ahead = λ j h.
           let other : j ≢ k = omega arith in
           let from : k ≤ j = omega arith in

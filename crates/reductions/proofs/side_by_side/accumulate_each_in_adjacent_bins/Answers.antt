@@ -17,12 +17,12 @@ loop-k-preserved c = λ lo j h.
     let cs : List ℤ = numbers_from first (length vs) in
     let b : ℤ = lo +ℤ pos j in
     let below : k < length vs = omega arith in
-    let inside : j < length c.loop-k.bins = omega (arith, c.accumulate_at_bin_place.auto.bins) in
+    let inside : j < length c.loop-k.bins = omega (arith, c.accumulate_value_at_bin_place.auto.bins) in
     let value_fits : FitsSigned w32 (at vs k) = search rules in
     let there : lo +ℤ pos (c.args.place + k) ≡ first +ℤ pos k = omega (arith, ints) in
     let bin : lo +ℤ pos (c.args.place + k) ≡ at cs k = there ∙ sym (at_counted first (length vs) k below) in
-    let came : at c.accumulate_at_bin_place.new.bins j ≡ once_came c.args.op (int_eq (at cs k) b) (at c.loop-k.bins j) (at vs k) =
-    c.accumulate_at_bin_place.ensures lo j inside
+    let came : at c.accumulate_value_at_bin_place.new.bins j ≡ once_came c.args.op (int_eq (at cs k) b) (at c.loop-k.bins j) (at vs k) =
+    c.accumulate_value_at_bin_place.ensures lo j inside
     ∙ (λ i. once_came c.args.op (int_eq (bin i) b) (at c.loop-k.bins j) (to_z-of_z w32 (at vs k) value_fits i)) in
-    rw add-one (one_more c.args.op vs cs b k (at c.loop-k.bins j) (at c.accumulate_at_bin_place.new.bins j) _ below
+    rw add-one (one_more c.args.op vs cs b k (at c.loop-k.bins j) (at c.accumulate_value_at_bin_place.new.bins j) _ below
     (length-numbers_from first (length vs)) came (c.loop-k.invariant lo j inside))

@@ -10,10 +10,10 @@ loop-b-preserved c = record {
   within = omega arith;
   sums = λ k h s e.
       let lt : k < length c.loop-b.out = omega arith in
-      let few : c.loop-b.b + c.add_first_tap_sums-b.result ≤ length c.args.factors.now = omega arith in
+      let few : c.loop-b.b + c.add_first_tap_sums_and_count_taps-b.result ≤ length c.args.factors.now = omega arith in
       let enough : k + length c.args.factors.now ≤ length c.args.line.now = omega arith in
-      piece_more s _ c.args.line.now c.args.factors.now k c.loop-b.b c.add_first_tap_sums-b.result few enough
-      (c.add_first_tap_sums-b.ensures.sums k lt _ (c.loop-b.invariant.sums k lt s e));
+      piece_more s _ c.args.line.now c.args.factors.now k c.loop-b.b c.add_first_tap_sums_and_count_taps-b.result few enough
+      (c.add_first_tap_sums_and_count_taps-b.ensures.sums k lt _ (c.loop-b.invariant.sums k lt s e));
 }
 
 pub returns : goal.returns

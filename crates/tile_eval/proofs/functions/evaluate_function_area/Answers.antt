@@ -6,8 +6,8 @@ use Rattle.tile_eval.specs.Cases.{function_value}
 use Rattle.tile_eval.proofs.Domains.{IsLaid, IsReadyOver, cases_ready, other_ready, raster_from}
 use Rattle.tile_eval.proofs.functions.evaluate_function_area.Goals as goal
 
-pub evaluate_function_rows-requires-clause-cases : goal.evaluate_function_rows-requires-clause-cases
-evaluate_function_rows-requires-clause-cases g c =
+pub evaluate_function_from_row_down-requires-clause-cases : goal.evaluate_function_from_row_down-requires-clause-cases
+evaluate_function_from_row_down-requires-clause-cases g c =
     let laid : IsLaid c.args.area.now c.from_area_top-points.result.row c.from_area_top-points.result.col c.len-rows.result c.from_area_top-points.result.len =
     record {
       top =
@@ -27,8 +27,8 @@ evaluate_function_rows-requires-clause-cases g c =
     c.requires.function.formulas
     c.requires.function.boxes c.requires.function.reads c.requires.room)
 
-pub evaluate_function_rows-requires-clause-other : goal.evaluate_function_rows-requires-clause-other
-evaluate_function_rows-requires-clause-other g c =
+pub evaluate_function_from_row_down-requires-clause-other : goal.evaluate_function_from_row_down-requires-clause-other
+evaluate_function_from_row_down-requires-clause-other g c =
     let laid : IsLaid c.args.area.now c.from_area_top-points.result.row c.from_area_top-points.result.col c.len-rows.result c.from_area_top-points.result.len =
     record {
       top =
@@ -61,5 +61,5 @@ returns g c =
       near_cols = c.requires.function.cols;
     } in
     raster_from c.args.area.now (function_value (g.S.RowSource.samples c.args.source.now) (map case_view c.args.function.now.cases.items)
-    (option_map formula_view c.args.function.now.otherwise)) _ _ _ _ c.evaluate_function_rows.new.out laid
-    (c.evaluate_function_rows.auto.out ∙ c.requires.len) c.evaluate_function_rows.ensures
+    (option_map formula_view c.args.function.now.otherwise)) _ _ _ _ c.evaluate_function_from_row_down.new.out laid
+    (c.evaluate_function_from_row_down.auto.out ∙ c.requires.len) c.evaluate_function_from_row_down.ensures

@@ -9,8 +9,8 @@ decode_fact_key-key-requires c = (part_takes c.args.total 74 c.args.bytes.now _ 
 pub read_fact_body_kind-requires : goal.read_fact_body_kind-requires
 read_fact_body_kind-requires c = omega (arith, part_shorter _ _ _ _ (part_takes c.args.total 74 c.args.bytes.now _ _ c.in_ok-part.ensures))
 
-pub read_fact_body_length-requires : goal.read_fact_body_length-requires
-read_fact_body_length-requires c =
+pub read_fact_body_number_count-requires : goal.read_fact_body_number_count-requires
+read_fact_body_number_count-requires c =
     omega (
       arith,
       part_shorter _ _ _ _ (part_takes c.args.total 74 c.args.bytes.now _ _ c.in_ok-part.ensures),
@@ -20,13 +20,13 @@ read_fact_body_length-requires c =
 pub overflow_mul-len : goal.overflow_mul-len
 overflow_mul-len c =
     let fits = (length_takes c.args.total c.in_ok-kind.kind _ c.in_ok-len.len _ c.in_ok-len.ensures).1 in
-    rw c.count_number_bytes.ensures (record { fits = most_bytes c.in_ok-kind.kind c.in_ok-len.len fits })
+    rw c.count_bytes_of_one_number.ensures (record { fits = most_bytes c.in_ok-kind.kind c.in_ok-len.len fits })
 
 pub returns-clause-within : goal.returns-clause-within
 returns-clause-within c =
     let fits = (length_takes c.args.total c.in_ok-kind.kind _ c.in_ok-len.len _ c.in_ok-len.ensures).1 in
     let part = part_takes c.args.total _ _ _ _ c.in_ok-numbers.ensures in
-    body_within c.in_ok-kind.kind c.in_ok-numbers.numbers.now c.in_ok-len.len (rw (← c.count_number_bytes.ensures) part.len_is) fits
+    body_within c.in_ok-kind.kind c.in_ok-numbers.numbers.now c.in_ok-len.len (rw (← c.count_bytes_of_one_number.ensures) part.len_is) fits
 
 pub returns-clause-behind : goal.returns-clause-behind
 returns-clause-behind c =

@@ -12,8 +12,8 @@ use Rattle.reductions.proofs.TilesJoinInTurn.{written}
 use Rattle.accumulators.proofs.TotalsOfAnswer.{all_joined, gathers}
 use Rattle.accumulators.proofs.totals.TiledAccumulation.compute_accumulator_total.Goals as goal
 
-pub accumulate_tiles-requires-clause-bins : goal.accumulate_tiles-requires-clause-bins
-accumulate_tiles-requires-clause-bins g c κs within =
+pub accumulate_all_tiles_into_bins-requires-clause-bins : goal.accumulate_all_tiles_into_bins-requires-clause-bins
+accumulate_all_tiles_into_bins-requires-clause-bins g c κs within =
     first_bins c.args.self.now.accumulator.now c.deref_mut.result.now
     (c.deref_mut.ensures.value ∙ c.in_ok-bins.ensures ∙ (λ i. starts (c.fold.ensures i) (c.bins.ensures i)))
 
@@ -24,11 +24,11 @@ returns g c =
     let job = pipeline_in self.of.job.now in
     let first : c.deref_mut.result.now ≡ starts a.fold a.bins = c.deref_mut.ensures.value ∙ c.in_ok-bins.ensures
     ∙ (λ i. starts (c.fold.ensures i) (c.bins.ensures i)) in
-    let all : c.accumulate_tiles.new.bins ≡ totals job self.stage = c.in_ok-accumulate_tiles.ensures
+    let all : c.accumulate_all_tiles_into_bins.new.bins ≡ totals job self.stage = c.in_ok-accumulate_all_tiles_into_bins.ensures
     ∙ ap (λ (xs : List ℤ). fold (with_tile job self.stage a.fold self.grid) xs (tiles_of self.grid)) first
     ∙ all_joined job self.stage a.fold a.bins self.grid c.requires.gathered self.of.job.now.well in
-    let kept = written c.in_ok-bins.bins.len c.accumulate_tiles.new.bins c.in_ok-bins.bins.items (c.accumulate_tiles.auto.bins ∙ ap length c.deref_mut.ensures.value)
-    (sym (c.accumulate_tiles.auto.bins ∙ c.deref_mut.ensures.len)) ∙ all in
+    let kept = written c.in_ok-bins.bins.len c.accumulate_all_tiles_into_bins.new.bins c.in_ok-bins.bins.items (c.accumulate_all_tiles_into_bins.auto.bins ∙ ap length c.deref_mut.ensures.value)
+    (sym (c.accumulate_all_tiles_into_bins.auto.bins ∙ c.deref_mut.ensures.len)) ∙ all in
     let fits : FitsSigned w32 c.lo.result = search rules in
     let lo : to_z w32 (of_z w32 c.lo.result) ≡ a.bins.lo = to_z-of_z w32 c.lo.result fits ∙ c.lo.ensures.end
     ∙ ap (λ (e : Ends). e.lo) c.bins-2.ensures in

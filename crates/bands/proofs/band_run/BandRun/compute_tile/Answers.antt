@@ -12,8 +12,8 @@ invariant_of-tile c =
     let run = c.args.self.now in
     record { whole = whole (pipeline_in run.job.now) (kept_tiles run.kept.now.stages.items) c.requires.right }
 
-pub compute_values-requires-clause-needs : goal.compute_values-requires-clause-needs
-compute_values-requires-clause-needs c =
+pub compute_values_if_stage_is_function-requires-clause-needs : goal.compute_values_if_stage_is_function-requires-clause-needs
+compute_values_if_stage_is_function-requires-clause-needs c =
     subst (NeedsGiven (kept_tiles c.args.self.now.kept.now.stages.items)) c.needs.ensures
     (all_given (kept_tiles c.args.self.now.kept.now.stages.items) c.needs.result.now (sym c.has_all_needed_tiles.ensures ∙ c.if-not-has_all_needed_tiles.false))
 

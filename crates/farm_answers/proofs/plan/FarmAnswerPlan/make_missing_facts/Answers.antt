@@ -7,8 +7,8 @@ use Rattle.farm_answers.proofs.LeftTiles.{at_key, can_make, less_left}
 use Rattle.farm_answers.specs.inside.Missing.{IsLeft}
 use Rattle.farm_answers.proofs.plan.FarmAnswerPlan.make_missing_facts.Goals as goal
 
-pub make_fact-requires : goal.make_fact-requires
-make_fact-requires c =
+pub make_fact_of_key_from_held_facts-requires : goal.make_fact_of_key_from_held_facts-requires
+make_fact_of_key_from_held_facts-requires c =
     let plan = c.args.self.now in
     let keys = c.args.keys.now in
     let i = c.loop-key.key-index in

@@ -7,8 +7,8 @@ use Rattle.grouping.specs.inside.Between.{IsNumberedTile}
 use Rattle.grouping.proofs.KeptBetween.{kept_between}
 use Rattle.grouping.proofs.greedy.Grouper.derive_inner_box.Goals as goal
 
-pub returns-then-can_derive_inner_box : goal.returns-then-can_derive_inner_box
-returns-then-can_derive_inner_box c =
+pub returns-then-has_reader_regions_of_left_and_top : goal.returns-then-has_reader_regions_of_left_and_top
+returns-then-has_reader_regions_of_left_and_top c =
     let job = pipeline_in c.args.job.now in
     let h = c.args.candidate.now.group in
     let left = c.in_ok-left.left in
@@ -20,4 +20,4 @@ returns-then-can_derive_inner_box c =
     kept_between job c.args.self.now c.args.candidate.now c.args.here.now left top c.in_ok-one.one c.in_ok-other.other c.args.job.now.well
     c.requires.stand c.requires.candidate c.requires.here at_left at_top
     (c.requires.wholes left c.in_ok-one.one at_left c.in_ok-one.ensures)
-    (c.requires.wholes top c.in_ok-other.other at_top c.in_ok-other.ensures) (c.can_derive_inner_box.ensures c.if-can_derive_inner_box.true)
+    (c.requires.wholes top c.in_ok-other.other at_top c.in_ok-other.ensures) (c.has_reader_regions_of_left_and_top.ensures c.if-has_reader_regions_of_left_and_top.true)

@@ -12,9 +12,9 @@ returns-then-are_all_in_group c =
     let first = c.in_ok-first.field-0.now in
     let at : slice_get c.args.readers.now 0 ≡ Some first = sym c.in_ok-first.ensures.value in
     let all : list_all (λ g. nat_eq (group grouping g) (group grouping first)) c.args.readers.now ≡ true =
-    ap (λ (n : ℕ). list_all (λ g. nat_eq (group grouping g) n) c.args.readers.now) (sym c.find_group-first.ensures) ∙ sym c.are_all_in_group.ensures
+    ap (λ (n : ℕ). list_all (λ g. nat_eq (group grouping g) n) c.args.readers.now) (sym c.get_group_of_stage-first.ensures) ∙ sym c.are_all_in_group.ensures
     ∙ c.if-are_all_in_group.true in
-    ap Some c.find_group-first.ensures
+    ap Some c.get_group_of_stage-first.ensures
     ∙ sym (common_is grouping c.args.readers.now first at ∙ ap (λ b. if b then Some (group grouping first) else None) all)
 
 pub returns-else-are_all_in_group : goal.returns-else-are_all_in_group
@@ -22,6 +22,6 @@ returns-else-are_all_in_group c =
     let grouping = grouping_of c.args.self.now in
     let first = c.in_ok-first.field-0.now in
     let at : slice_get c.args.readers.now 0 ≡ Some first = sym c.in_ok-first.ensures.value in
-    let some = ap (λ (n : ℕ). list_all (λ g. nat_eq (group grouping g) n) c.args.readers.now) (sym c.find_group-first.ensures)
+    let some = ap (λ (n : ℕ). list_all (λ g. nat_eq (group grouping g) n) c.args.readers.now) (sym c.get_group_of_stage-first.ensures)
     ∙ sym c.are_all_in_group.ensures ∙ c.if-are_all_in_group.false in
     sym (common_is grouping c.args.readers.now first at ∙ ap (λ b. if b then Some (group grouping first) else None) some)

@@ -19,4 +19,4 @@ returns-in-Some-Inlined c =
     λ holds. kept_across self.standings.items c.args.group c.args.reader g boxes c.if-reader-group.false
     (ap (λ (xs : List StageStatus). slice_get xs c.args.reader) (sym c.deref.ensures.value) ∙ at)
     (subst (λ (n : ℕ). IsCrossed n (tile_cols g) boxes) c.tile_rows.ensures.number
-    (subst (λ (m : ℕ). IsCrossed c.tile_rows.result m boxes) c.tile_cols.ensures.number (c.has_separable_boxes.ensures holds)))
+    (subst (λ (m : ℕ). IsCrossed c.tile_rows.result m boxes) c.tile_cols.ensures.number (c.has_separable_boxes_of_grid_size.ensures holds)))

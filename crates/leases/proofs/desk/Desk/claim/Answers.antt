@@ -31,8 +31,8 @@ returns c =
     let done =
     λ (h : List LeaseEntry) (t : ℕ) (s : StandsFor c.args.self.now h t). claim_done c.args.self.now
     (record { clock = c.max-time.result; leases = c.match-to_lease.self.leases }) h t c.args.now c.max-time.result
-    c.args.node c.args.key c.args.ttl c.decide_by_lease-claim.result c.to_lease.result s c.max-time.ensures
-    (c.decide_by_lease-claim.ensures ∙ ap (λ o. claim_by o c.max-time.result c.args.node c.args.ttl) c.find_lease_in_force.ensures) c.to_lease.ensures refl table
+    c.args.node c.args.key c.args.ttl c.from_lease_in_force-claim.result c.to_lease.result s c.max-time.ensures
+    (c.from_lease_in_force-claim.ensures ∙ ap (λ o. claim_by o c.max-time.result c.args.node c.args.ttl) c.find_lease_in_force.ensures) c.to_lease.ensures refl table
     in
     record {
       answer = λ h t s some. (done h t s).0;

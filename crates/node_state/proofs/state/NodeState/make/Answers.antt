@@ -4,7 +4,7 @@ use Rattle.states.specs.States.{State}
 use Rattle.node_state.proofs.state.NodeState.make.Goals as goal
 
 pub returns-then-has_retired_job-clause-fault : goal.returns-then-has_retired_job-clause-fault
-returns-then-has_retired_job-clause-fault g c = c.find_retired_make_fault.ensures c.args.schedule.now.inlining
+returns-then-has_retired_job-clause-fault g c = c.choose_make_fault_for_retired_key.ensures c.args.schedule.now.inlining
 
 pub returns-clause-right : goal.returns-clause-right
 returns-clause-right g c = λ h.

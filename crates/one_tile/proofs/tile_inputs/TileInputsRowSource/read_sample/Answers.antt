@@ -13,8 +13,8 @@ use Rattle.tile_eval.specs.Raster.{place_of}
 use Rattle.tile_eval.specs.Rows.{at}
 use Rattle.one_tile.proofs.tile_inputs.TileInputsRowSource.read_sample.Goals as goal
 
-pub read_sample_for_tile-requires-clause-plane : goal.read_sample_for_tile-requires-clause-plane
-read_sample_for_tile-requires-clause-plane g c =
+pub read_plane_sample_for_tile-requires-clause-plane : goal.read_plane_sample_for_tile-requires-clause-plane
+read_plane_sample_for_tile-requires-clause-plane g c =
     let tile = c.args.self.now.tile in
     let job = pipeline_in tile.job.now in
     let s = stage_view c.in-Some.found.now in
@@ -22,8 +22,8 @@ read_sample_for_tile-requires-clause-plane g c =
     (planes_lie job tile.job.now.well c.args.stage c.in-Plane.plane s (sym c.in-Some.ensures)
     (plane_body c.in-Some.found.now c.body.result.now c.in-Plane.plane c.body.ensures c.in-Plane.is)).0
 
-pub read_sample_for_tile-requires-clause-there : goal.read_sample_for_tile-requires-clause-there
-read_sample_for_tile-requires-clause-there g c =
+pub read_plane_sample_for_tile-requires-clause-there : goal.read_plane_sample_for_tile-requires-clause-there
+read_plane_sample_for_tile-requires-clause-there g c =
     let tile = c.args.self.now.tile in
     let job = pipeline_in tile.job.now in
     let inlining = tile.layout.now.inlining in

@@ -18,8 +18,8 @@ bounds-ranges-place g c =
     let step = c.index-steps-place.result in
     in_ranges job l given some ss c.steps.ensures rs c.ranges-2.ensures c.args.place c.requires.there step c.index-steps-place.is
 
-pub compute_box_values-requires-clause-area : goal.compute_box_values-requires-clause-area
-compute_box_values-requires-clause-area g c =
+pub write_box_values_into_scratch-requires-clause-area : goal.write_box_values_into_scratch-requires-clause-area
+write_box_values_into_scratch-requires-clause-area g c =
     let job = pipeline_in c.args.self.now.job.now in
     let l = c.args.self.now.layout.now in
     let given = g.K.TileSource.given c.args.self.now.known.now in
@@ -29,8 +29,8 @@ compute_box_values-requires-clause-area g c =
     let step = c.index-steps-place.result in
     step_area job l given some ss c.steps.ensures rs c.ranges-2.ensures c.args.place c.requires.there step c.index-steps-place.is c.args.self.now.job.now.well c.requires.needs
 
-pub compute_box_values-requires-clause-inside : goal.compute_box_values-requires-clause-inside
-compute_box_values-requires-clause-inside g c =
+pub write_box_values_into_scratch-requires-clause-inside : goal.write_box_values_into_scratch-requires-clause-inside
+write_box_values_into_scratch-requires-clause-inside g c =
     let job = pipeline_in c.args.self.now.job.now in
     let l = c.args.self.now.layout.now in
     let given = g.K.TileSource.given c.args.self.now.known.now in
@@ -42,8 +42,8 @@ compute_box_values-requires-clause-inside g c =
     let within = mine_within job l given some ss c.steps.ensures rs c.ranges-2.ensures c.args.place c.requires.there step c.index-steps-place.is in
     omega (arith, len, within, c.requires.size)
 
-pub compute_box_values-requires-clause-prepared : goal.compute_box_values-requires-clause-prepared
-compute_box_values-requires-clause-prepared g c =
+pub write_box_values_into_scratch-requires-clause-prepared : goal.write_box_values_into_scratch-requires-clause-prepared
+write_box_values_into_scratch-requires-clause-prepared g c =
     let job = pipeline_in c.args.self.now.job.now in
     let l = c.args.self.now.layout.now in
     let given = g.K.TileSource.given c.args.self.now.known.now in
@@ -54,8 +54,8 @@ compute_box_values-requires-clause-prepared g c =
     step_prepared job l given some ss c.steps.ensures rs c.ranges-2.ensures c.args.place c.requires.there step c.index-steps-place.is c.args.self.now.job.now.well c.requires.needs
     (numbers_of c.args.scratch.now) c.requires.size c.requires.before
 
-pub compute_box_values-requires-clause-room : goal.compute_box_values-requires-clause-room
-compute_box_values-requires-clause-room g c =
+pub write_box_values_into_scratch-requires-clause-room : goal.write_box_values_into_scratch-requires-clause-room
+write_box_values_into_scratch-requires-clause-room g c =
     let job = pipeline_in c.args.self.now.job.now in
     let l = c.args.self.now.layout.now in
     let given = g.K.TileSource.given c.args.self.now.known.now in
@@ -76,7 +76,7 @@ returns-in-Some-clause-size g c =
     let rs = c.ranges-2.result.now in
     let step = c.index-steps-place.result in
     (step_done job l given some ss c.steps.ensures rs c.ranges-2.ensures c.args.place c.requires.there step c.index-steps-place.is c.args.self.now.job.now.well c.requires.needs
-    (numbers_of c.args.scratch.now) c.requires.size c.requires.before _ c.compute_box_values.ensures).0
+    (numbers_of c.args.scratch.now) c.requires.size c.requires.before _ c.write_box_values_into_scratch.ensures).0
 
 pub returns-in-Some-clause-computed : goal.returns-in-Some-clause-computed
 returns-in-Some-clause-computed g c =
@@ -88,7 +88,7 @@ returns-in-Some-clause-computed g c =
     let rs = c.ranges-2.result.now in
     let step = c.index-steps-place.result in
     (step_done job l given some ss c.steps.ensures rs c.ranges-2.ensures c.args.place c.requires.there step c.index-steps-place.is c.args.self.now.job.now.well c.requires.needs
-    (numbers_of c.args.scratch.now) c.requires.size c.requires.before _ c.compute_box_values.ensures).1
+    (numbers_of c.args.scratch.now) c.requires.size c.requires.before _ c.write_box_values_into_scratch.ensures).1
 
 pub returns-in_default-clause-computed : goal.returns-in_default-clause-computed
 returns-in_default-clause-computed g c =

@@ -19,12 +19,12 @@ loop-place-init g c =
 pub push_row_samples-requires : goal.push_row_samples-requires
 push_row_samples-requires g c =
     let area = c.args.area.now in
-    let row_fits : FitsSigned w32 c.find_span_number-row.result = search rules in
+    let row_fits : FitsSigned w32 c.find_span_number_at_position-row.result = search rules in
     let first_fits : FitsSigned w32 c.lo-first.result = search rules in
     let within : c.loop-place.place < len_of area.rows = omega arith in
     row_given (pipeline_in c.args.self.now.job.now) (g.K.TileSource.given c.args.self.now.known.now) c.args.stage area c.requires
-    (to_z w32 (of_z w32 c.find_span_number-row.result)) (to_z w32 (of_z w32 c.lo-first.result)) c.loop-place.place c.len-count.result within
-    (to_z-of_z w32 c.find_span_number-row.result row_fits ∙ c.find_span_number-row.ensures) (to_z-of_z w32 c.lo-first.result first_fits
+    (to_z w32 (of_z w32 c.find_span_number_at_position-row.result)) (to_z w32 (of_z w32 c.lo-first.result)) c.loop-place.place c.len-count.result within
+    (to_z-of_z w32 c.find_span_number_at_position-row.result row_fits ∙ c.find_span_number_at_position-row.ensures) (to_z-of_z w32 c.lo-first.result first_fits
     ∙ c.lo-first.ensures.end) c.len-count.ensures.number
 
 pub loop-place-preserved : goal.loop-place-preserved
@@ -33,17 +33,17 @@ loop-place-preserved g c =
     sample_at (given_at (pipeline_in c.args.self.now.job.now) (g.K.TileSource.given c.args.self.now.known.now)) (g.S.OutputSheet.greatest_of c.args.sheet.now) c.args.stage in
     let area = c.args.area.now in
     let within : c.loop-place.place < len_of area.rows = omega arith in
-    let row_fits : FitsSigned w32 c.find_span_number-row.result = search rules in
+    let row_fits : FitsSigned w32 c.find_span_number_at_position-row.result = search rules in
     let first_fits : FitsSigned w32 c.lo-first.result = search rules in
-    let row : to_z w32 (of_z w32 c.find_span_number-row.result) ≡ c.find_span_number-row.result = to_z-of_z w32 c.find_span_number-row.result row_fits in
+    let row : to_z w32 (of_z w32 c.find_span_number_at_position-row.result) ≡ c.find_span_number_at_position-row.result = to_z-of_z w32 c.find_span_number_at_position-row.result row_fits in
     let first : to_z w32 (of_z w32 c.lo-first.result) ≡ area.cols.lo = to_z-of_z w32 c.lo-first.result first_fits
     ∙ c.lo-first.ensures.end in
     record {
       max = c.in_ok-push_row_samples.ensures.max ∙ c.loop-place.invariant.max;
       samples =
-          row_made h area.rows.lo c.find_span_number-row.result c.loop-place.place (len_of area.rows) (numbers_of area.cols)
+          row_made h area.rows.lo c.find_span_number_at_position-row.result c.loop-place.place (len_of area.rows) (numbers_of area.cols)
           (g.S.OutputSheet.samples c.loop-place.sheet) (g.S.OutputSheet.samples c.push_row_samples.new.sheet) ((g.S.OutputSheet.samples c.args.sheet.now) ++ map h (points_of area)) within
-          c.find_span_number-row.ensures c.loop-place.invariant.samples (c.in_ok-push_row_samples.ensures.samples
+          c.find_span_number_at_position-row.ensures c.loop-place.invariant.samples (c.in_ok-push_row_samples.ensures.samples
           ∙ (λ i. g.S.OutputSheet.samples c.loop-place.sheet ++ map (λ (z : ℤ). sample_at (given_at (pipeline_in c.args.self.now.job.now)
           (g.K.TileSource.given c.args.self.now.known.now)) (c.loop-place.invariant.max i) c.args.stage (row i, z))
           (numbers_from (first i) (c.len-count.ensures.number i))));

@@ -11,8 +11,8 @@ use Rattle.pictures.proofs.picture.SuppliedJob.push_row_samples.Goals as goal
 pub loop-done-init : goal.loop-done-init
 loop-done-init g c = record { max = refl; most = search rules; samples = sym (append-nil (g.S.OutputSheet.samples c.args.sheet.now)) }
 
-pub find_coordinate_at_place-from-requires : goal.find_coordinate_at_place-from-requires
-find_coordinate_at_place-from-requires g c =
+pub compute_coordinate_at_place-from-requires : goal.compute_coordinate_at_place-from-requires
+compute_coordinate_at_place-from-requires g c =
     let first : FitsSigned w32 c.args.first = search rules in
     let within : c.loop-done.done < c.args.count = search rules in
     let bounds = line_bounds (pipeline_in c.args.self.now.job.now) (g.K.TileSource.given c.args.self.now.known.now) c.args.stage c.args.row
@@ -22,29 +22,29 @@ find_coordinate_at_place-from-requires g c =
       most = rw (to_z-of_z w32 c.args.first first) bounds.1;
     }
 
-pub borrow_supplied_row_part-part-requires-clause-given : goal.borrow_supplied_row_part-part-requires-clause-given
-borrow_supplied_row_part-part-requires-clause-given g c =
+pub borrow_supplied_row_up_to_tile_end-part-requires-clause-given : goal.borrow_supplied_row_up_to_tile_end-part-requires-clause-given
+borrow_supplied_row_up_to_tile_end-part-requires-clause-given g c =
     let row : FitsSigned w32 c.args.row = search rules in
     let first : FitsSigned w32 c.args.first = search rules in
-    let from : FitsSigned w32 c.find_coordinate_at_place-from.result = search rules in
+    let from : FitsSigned w32 c.compute_coordinate_at_place-from.result = search rules in
     line_rest (pipeline_in c.args.self.now.job.now) (g.K.TileSource.given c.args.self.now.known.now) c.args.stage c.args.row c.args.first
-    c.args.count c.requires _ _ c.loop-done.done _ (to_z-of_z w32 c.args.row row) (to_z-of_z w32 c.find_coordinate_at_place-from.result from
-    ∙ c.find_coordinate_at_place-from.ensures ∙ (λ i. to_z-of_z w32 c.args.first first i +ℤ pos c.loop-done.done)) (omega arith)
+    c.args.count c.requires _ _ c.loop-done.done _ (to_z-of_z w32 c.args.row row) (to_z-of_z w32 c.compute_coordinate_at_place-from.result from
+    ∙ c.compute_coordinate_at_place-from.ensures ∙ (λ i. to_z-of_z w32 c.args.first first i +ℤ pos c.loop-done.done)) (omega arith)
 
 pub loop-done-preserved : goal.loop-done-preserved
 loop-done-preserved g c =
-    let from : FitsSigned w32 c.find_coordinate_at_place-from.result = search rules in
+    let from : FitsSigned w32 c.compute_coordinate_at_place-from.result = search rules in
     record {
-      max = c.in_ok-push_clamped_samples.ensures.max ∙ c.loop-done.invariant.max;
-      most = omega (arith, c.borrow_supplied_row_part-part.ensures.most);
+      max = c.in_ok-push_values_as_clamped_samples.ensures.max ∙ c.loop-done.invariant.max;
+      most = omega (arith, c.borrow_supplied_row_up_to_tile_end-part.ensures.most);
       samples =
           cut_on (given_at (pipeline_in c.args.self.now.job.now) (g.K.TileSource.given c.args.self.now.known.now) c.args.stage
           (to_z w32 (of_z w32 c.args.row)))
-          (sample_of (g.S.OutputSheet.greatest_of c.args.sheet.now)) (to_z w32 (of_z w32 c.args.first)) (to_z w32 (of_z w32 c.find_coordinate_at_place-from.result)) c.loop-done.done
-          c.borrow_supplied_row_part-part.result.now (g.S.OutputSheet.samples c.args.sheet.now) (g.S.OutputSheet.samples c.loop-done.sheet) (g.S.OutputSheet.samples c.push_clamped_samples.new.sheet)
-          (to_z-of_z w32 c.find_coordinate_at_place-from.result from ∙ c.find_coordinate_at_place-from.ensures) c.borrow_supplied_row_part-part.ensures.numbers
-          c.loop-done.invariant.samples (c.in_ok-push_clamped_samples.ensures.samples
-          ∙ (λ i. g.S.OutputSheet.samples c.loop-done.sheet ++ map (sample_of (c.loop-done.invariant.max i)) c.borrow_supplied_row_part-part.result.now));
+          (sample_of (g.S.OutputSheet.greatest_of c.args.sheet.now)) (to_z w32 (of_z w32 c.args.first)) (to_z w32 (of_z w32 c.compute_coordinate_at_place-from.result)) c.loop-done.done
+          c.borrow_supplied_row_up_to_tile_end-part.result.now (g.S.OutputSheet.samples c.args.sheet.now) (g.S.OutputSheet.samples c.loop-done.sheet) (g.S.OutputSheet.samples c.push_values_as_clamped_samples.new.sheet)
+          (to_z-of_z w32 c.compute_coordinate_at_place-from.result from ∙ c.compute_coordinate_at_place-from.ensures) c.borrow_supplied_row_up_to_tile_end-part.ensures.numbers
+          c.loop-done.invariant.samples (c.in_ok-push_values_as_clamped_samples.ensures.samples
+          ∙ (λ i. g.S.OutputSheet.samples c.loop-done.sheet ++ map (sample_of (c.loop-done.invariant.max i)) c.borrow_supplied_row_up_to_tile_end-part.result.now));
     }
 
 pub returns-clause-samples : goal.returns-clause-samples

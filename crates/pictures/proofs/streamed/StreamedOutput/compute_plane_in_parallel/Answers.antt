@@ -17,8 +17,8 @@ use Rattle.pictures.proofs.RowsOfTiles.{rows_are_whole}
 use Rattle.pictures.proofs.StripsAreRows.{same_behind, seen_all}
 use Rattle.pictures.proofs.streamed.StreamedOutput.compute_plane_in_parallel.Goals as goal
 
-pub append_plane_strips-requires : goal.append_plane_strips-requires
-append_plane_strips-requires g c =
+pub append_each_plane_strip_to_plane-requires : goal.append_each_plane_strip_to_plane-requires
+append_each_plane_strip_to_plane-requires g c =
     let run = c.args.self.now.run in
     let job = pipeline_in run.job.now in
     let max : ℕ = c.args.max in
@@ -50,11 +50,11 @@ returns g c =
     let joined : flat_map (λ (strip : PlaneStrip). strip.samples.items) c.deref.result.now ≡ flat_map row rows =
     ap (flat_map (λ (strip : PlaneStrip). strip.samples.items)) c.deref.ensures.value
     ∙ same_behind (λ (strip : PlaneStrip). strip.samples.items) row c.in_ok-strips.strips.items rows c.in_ok-strips.ensures in
-    let all : c.append_plane_strips.new.plane.samples ≡ samples job max self.run.stage =
-    c.in_ok-append_plane_strips.ensures.samples
+    let all : c.append_each_plane_strip_to_plane.new.plane.samples ≡ samples job max self.run.stage =
+    c.in_ok-append_each_plane_strip_to_plane.ensures.samples
     ∙ (λ i. (first i).samples ++ joined i)
     ∙ rows_are_whole h grid parted
     ∙ ap (λ (d : Grid). map h (points_of d.area)) is.parted
     ∙ sym (samples_are job (value job) max self.run.stage is.stage is.function.there) in
-    let same : c.append_plane_strips.new.plane.max ≡ max = c.in_ok-append_plane_strips.ensures.max ∙ ap (λ (p : MadePlane). p.max) first in
+    let same : c.append_each_plane_strip_to_plane.new.plane.max ≡ max = c.in_ok-append_each_plane_strip_to_plane.ensures.max ∙ ap (λ (p : MadePlane). p.max) first in
     λ i. made (same i) (all i)

@@ -7,8 +7,8 @@ use Rattle.pipe_term_parser.proofs.parser.TermParser.+expression.Given as goal
 abbrev pub decreases-parse_expression : goal.decreases-parse_expression
 decreases-parse_expression l = 6 * l.levels + 4
 
-abbrev pub decreases-parse_boxed_operand : goal.decreases-parse_boxed_operand
-decreases-parse_boxed_operand l = 6 * l.levels + 5
+abbrev pub decreases-parse_boxed_expression : goal.decreases-parse_boxed_expression
+decreases-parse_boxed_expression l = 6 * l.levels + 5
 
 abbrev pub decreases-parse_product : goal.decreases-parse_product
 decreases-parse_product l = 6 * l.levels + 3
@@ -22,11 +22,11 @@ decreases-parse_named_expression l = 6 * l.levels + 1
 abbrev pub decreases-parse_table_entry : goal.decreases-parse_table_entry
 decreases-parse_table_entry l = 6 * l.levels + 6
 
-abbrev pub decreases-parse_opened_level : goal.decreases-parse_opened_level
-decreases-parse_opened_level l = 6 * l.levels + 7
+abbrev pub decreases-parse_expression_that_opens_level : goal.decreases-parse_expression_that_opens_level
+decreases-parse_expression_that_opens_level l = 6 * l.levels + 7
 
-abbrev pub decreases-parse_call_arguments : goal.decreases-parse_call_arguments
-decreases-parse_call_arguments l = 6 * l.levels + 6
+abbrev pub decreases-parse_arguments_into_call : goal.decreases-parse_arguments_into_call
+decreases-parse_arguments_into_call l = 6 * l.levels + 6
 
 abbrev pub decreases-parse_select : goal.decreases-parse_select
 decreases-parse_select l = 6 * l.levels + 6

@@ -8,4 +8,4 @@ pub invariant_of-result : goal.invariant_of-result
 invariant_of-result c =
     let bytes = c.args.bytes.now in
     subst (λ (front : List ℕ). HoldsName (front ++ drop (length bytes) (replicate 32 0)) (length bytes))
-    (sym c.copy_from_slice.ensures.after) (holds_name bytes (sym c.is_name.ensures ∙ c.if-not-is_name.false))
+    (sym c.copy_from_slice.ensures.after) (holds_name bytes (sym c.is_identifier_of_name_length.ensures ∙ c.if-not-is_identifier_of_name_length.false))

@@ -4,7 +4,7 @@ use Rattle.std.specs.List.{flat_map}
 use Rattle.domains.specs.declared.area.Area.{Area}
 use Rattle.job.specs.WellFormed.{IsJob}
 use Rattle.tile_boxes.specs.Order.{order_stages_by_rank, backward}
-use Rattle.tile_boxes.specs.Targets.{Target, with_number, can_have_box, numbered_box, boxes}
+use Rattle.tile_boxes.specs.Targets.{Target, with_number, is_function_other_than_target, numbered_box, boxes}
 use Rattle.tile_boxes.specs.Walks.{target_of, new_empty_boxes, cut_hull, walked, numbered_hull}
 use Rattle.tile_boxes.proofs.Lists.{flat_map-same}
 use Rattle.tile_boxes.proofs.WalksGiveBoxes.{walk_gives_boxes}
@@ -13,7 +13,7 @@ use Rattle.tile_boxes.proofs.target.BoxWalk.boxes.Goals as goal
 listed_are_boxes : (t : Target) (hulls : List (Option Area)) → IsJob t.job
     → hulls ≡ walked t (new_empty_boxes t.job.stages) (backward t.job.stages) → flat_map (numbered_hull t hulls) (order_stages_by_rank t.job.stages) ≡ boxes t
 listed_are_boxes t hulls job is = flat_map-same (numbered_hull t hulls) (numbered_box t) (order_stages_by_rank t.job.stages) (λ g.
-    ap (λ o. if can_have_box t g then with_number g o else []) (ap (λ hs. cut_hull t.job.stages hs g) is ∙ walk_gives_boxes t g job))
+    ap (λ o. if is_function_other_than_target t g then with_number g o else []) (ap (λ hs. cut_hull t.job.stages hs g) is ∙ walk_gives_boxes t g job))
 
 pub returns : goal.returns
 returns c =

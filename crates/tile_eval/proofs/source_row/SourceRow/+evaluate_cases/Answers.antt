@@ -11,8 +11,8 @@ use Rattle.tile_eval.proofs.Gathering.{room_less}
 use Rattle.tile_eval.proofs.Covering.{cut_len, part_ready, part_values, fewer_cases, ready_behind}
 use Rattle.tile_eval.proofs.source_row.SourceRow.+evaluate_cases.Goals as goal
 
-pub evaluate_cases_part-evaluate_cases-requires : goal.evaluate_cases_part-evaluate_cases-requires
-evaluate_cases_part-evaluate_cases-requires g t c κs within =
+pub evaluate_cases_on_part_of_row-evaluate_cases-requires : goal.evaluate_cases_on_part_of_row-evaluate_cases-requires
+evaluate_cases_on_part_of_row-evaluate_cases-requires g t c κs within =
     let o : c.args.from < c.args.to = c.if-from-to.true in
     let cut = cut_len c.args.from c.args.to c.args.out.now o c.requires.most in
     let some : 0 < length (take (c.args.to - c.args.from) (drop c.args.from c.args.out.now)) = rw cut (omega arith) in
@@ -25,8 +25,8 @@ evaluate_cases_part-evaluate_cases-requires g t c κs within =
     c.slice_points-points.ensures.row c.slice_points-points.ensures.col c.requires.ready in
     (below, (search rules, (some, (cut ∙ sym c.slice_points-points.ensures.len, ready))))
 
-pub evaluate_cases_part-returns-then-from-to-clause-inside : goal.evaluate_cases_part-returns-then-from-to-clause-inside
-evaluate_cases_part-returns-then-from-to-clause-inside g t c = λ k l low high.
+pub evaluate_cases_on_part_of_row-returns-then-from-to-clause-inside : goal.evaluate_cases_on_part_of_row-returns-then-from-to-clause-inside
+evaluate_cases_on_part_of_row-returns-then-from-to-clause-inside g t c = λ k l low high.
     part_values (function_value (g.S.RowSource.samples c.args.self.now.source.now) (map case_view c.args.cases.now)
     (option_map formula_view c.args.otherwise.now))
     c.args.self.now.points.row c.args.self.now.points.col
@@ -44,24 +44,24 @@ evaluate_cases-evaluate_cases_where_earlier_fails-requires g t c κs within =
     (length c.args.out.now) (length c.args.temps.now) c.args.cases.now c.args.otherwise.now c.requires.ready in
     (below, (search rules, (c.requires.some, (c.requires.fits, (search rules, (search rules, ready))))))
 
-pub evaluate_cases-evaluate_cases_part-requires-in-Some : goal.evaluate_cases-evaluate_cases_part-requires-in-Some
-evaluate_cases-evaluate_cases_part-requires-in-Some g t c κs within =
+pub evaluate_cases-evaluate_cases_on_part_of_row-requires-in-Some : goal.evaluate_cases-evaluate_cases_on_part_of_row-requires-in-Some
+evaluate_cases-evaluate_cases_on_part_of_row-requires-in-Some g t c κs within =
     let here : length c.args.cases.now * 2 ≡ t = c.decreases in
     let fewer = fewer_cases c.args.cases.now c.in-len1-up.len_at_least in
     let below : length (take (length c.args.cases.now - 1) (drop 1 c.args.cases.now)) * 2 + 1 < t = omega (arith, here, fewer) in
-    let out : length c.evaluate_cases_part.new.out ≡ length c.args.out.now = c.evaluate_cases_part.auto.out in
-    let temps : length c.evaluate_cases_part.new.temps ≡ length c.args.temps.now = c.evaluate_cases_part.auto.temps in
-    let most : c.in-Some.to ≤ length c.evaluate_cases_part.new.out = omega (arith, out, c.requires.fits, c.in-Some.ensures.most.1) in
+    let out : length c.evaluate_cases_on_part_of_row.new.out ≡ length c.args.out.now = c.evaluate_cases_on_part_of_row.auto.out in
+    let temps : length c.evaluate_cases_on_part_of_row.new.temps ≡ length c.args.temps.now = c.evaluate_cases_on_part_of_row.auto.temps in
+    let most : c.in-Some.to ≤ length c.evaluate_cases_on_part_of_row.new.out = omega (arith, out, c.requires.fits, c.in-Some.ensures.most.1) in
     let ready =
     ready_behind (g.S.RowSource.has c.args.self.now.source.now) c.args.self.now.points.row c.args.self.now.points.col
     (length c.args.out.now) (length c.args.temps.now) c.args.cases.now c.args.otherwise.now c.requires.ready in
     (below, (search rules, (out ∙ c.requires.fits, (most, (omega arith, rw out (rw temps ready))))))
 
-pub evaluate_cases-evaluate_formula_part-requires-clause-room : goal.evaluate_cases-evaluate_formula_part-requires-clause-room
-evaluate_cases-evaluate_formula_part-requires-clause-room g t c =
-    let out : length c.evaluate_cases_part-in-Some.new.out ≡ length c.args.out.now = c.evaluate_cases_part-in-Some.auto.out ∙ c.evaluate_cases_part.auto.out in
-    let temps : length c.evaluate_cases_part-in-Some.new.temps ≡ length c.args.temps.now =
-    c.evaluate_cases_part-in-Some.auto.temps ∙ c.evaluate_cases_part.auto.temps in
+pub evaluate_cases-evaluate_formula_on_part_of_row-requires-clause-room : goal.evaluate_cases-evaluate_formula_on_part_of_row-requires-clause-room
+evaluate_cases-evaluate_formula_on_part_of_row-requires-clause-room g t c =
+    let out : length c.evaluate_cases_on_part_of_row-in-Some.new.out ≡ length c.args.out.now = c.evaluate_cases_on_part_of_row-in-Some.auto.out ∙ c.evaluate_cases_on_part_of_row.auto.out in
+    let temps : length c.evaluate_cases_on_part_of_row-in-Some.new.temps ≡ length c.args.temps.now =
+    c.evaluate_cases_on_part_of_row-in-Some.auto.temps ∙ c.evaluate_cases_on_part_of_row.auto.temps in
     let roomy : IsRoomy (length c.args.out.now) (length c.args.temps.now) (case_view c.case-item.result) =
     subst (λ (p : KeptCase). IsRoomy (length c.args.out.now) (length c.args.temps.now) (case_view p)) (sym c.case-item.is)
     (c.requires.ready.cases 0 c.case-item.result c.in-len1-up.len_at_least).1 in
@@ -71,24 +71,24 @@ evaluate_cases-evaluate_formula_part-requires-clause-room g t c =
     (sym c.formula.ensures)
     (room_less (formula_view c.case-item.result.formula) (length c.args.out.now) (length c.args.out.now) _ _ same room roomy.operands)))
 
-pub evaluate_cases_where_earlier_fails-evaluate_cases_part-requires-in-Some : goal.evaluate_cases_where_earlier_fails-evaluate_cases_part-requires-in-Some
-evaluate_cases_where_earlier_fails-evaluate_cases_part-requires-in-Some g t c κs within =
+pub evaluate_cases_where_earlier_fails-evaluate_cases_on_part_of_row-requires-in-Some : goal.evaluate_cases_where_earlier_fails-evaluate_cases_on_part_of_row-requires-in-Some
+evaluate_cases_where_earlier_fails-evaluate_cases_on_part_of_row-requires-in-Some g t c κs within =
     let here : length c.args.cases.now * 2 + 1 ≡ t = c.decreases in
     let fewer = fewer_cases c.args.cases.now c.in-len1-up.len_at_least in
     let below : length (take (length c.args.cases.now - 1) (drop 1 c.args.cases.now)) * 2 + 1 < t = omega (arith, here, fewer) in
-    let out : length c.evaluate_cases_part.new.out ≡ length c.args.out.now = c.evaluate_cases_part.auto.out in
-    let temps : length c.evaluate_cases_part.new.temps ≡ length c.args.temps.now = c.evaluate_cases_part.auto.temps in
-    let most : c.in-Some.to ≤ length c.evaluate_cases_part.new.out = omega (arith, out, c.requires.fits, c.in-Some.ensures.most.1) in
+    let out : length c.evaluate_cases_on_part_of_row.new.out ≡ length c.args.out.now = c.evaluate_cases_on_part_of_row.auto.out in
+    let temps : length c.evaluate_cases_on_part_of_row.new.temps ≡ length c.args.temps.now = c.evaluate_cases_on_part_of_row.auto.temps in
+    let most : c.in-Some.to ≤ length c.evaluate_cases_on_part_of_row.new.out = omega (arith, out, c.requires.fits, c.in-Some.ensures.most.1) in
     let ready =
     ready_behind (g.S.RowSource.has c.args.self.now.source.now) c.args.self.now.points.row c.args.self.now.points.col
     (length c.args.out.now) (length c.args.temps.now) c.args.cases.now c.args.otherwise.now c.requires.ready in
     (below, (search rules, (out ∙ c.requires.fits, (most, (omega arith, rw out (rw temps ready))))))
 
-pub evaluate_cases_where_earlier_fails-evaluate_formula_part-requires-clause-room : goal.evaluate_cases_where_earlier_fails-evaluate_formula_part-requires-clause-room
-evaluate_cases_where_earlier_fails-evaluate_formula_part-requires-clause-room g t c =
-    let out : length c.evaluate_cases_part-in-Some.new.out ≡ length c.args.out.now = c.evaluate_cases_part-in-Some.auto.out ∙ c.evaluate_cases_part.auto.out in
-    let temps : length c.evaluate_cases_part-in-Some.new.temps ≡ length c.args.temps.now =
-    c.evaluate_cases_part-in-Some.auto.temps ∙ c.evaluate_cases_part.auto.temps in
+pub evaluate_cases_where_earlier_fails-evaluate_formula_on_part_of_row-requires-clause-room : goal.evaluate_cases_where_earlier_fails-evaluate_formula_on_part_of_row-requires-clause-room
+evaluate_cases_where_earlier_fails-evaluate_formula_on_part_of_row-requires-clause-room g t c =
+    let out : length c.evaluate_cases_on_part_of_row-in-Some.new.out ≡ length c.args.out.now = c.evaluate_cases_on_part_of_row-in-Some.auto.out ∙ c.evaluate_cases_on_part_of_row.auto.out in
+    let temps : length c.evaluate_cases_on_part_of_row-in-Some.new.temps ≡ length c.args.temps.now =
+    c.evaluate_cases_on_part_of_row-in-Some.auto.temps ∙ c.evaluate_cases_on_part_of_row.auto.temps in
     let roomy : IsRoomy (length c.args.out.now) (length c.args.temps.now) (case_view c.case-item.result) =
     subst (λ (p : KeptCase). IsRoomy (length c.args.out.now) (length c.args.temps.now) (case_view p)) (sym c.case-item.is)
     (c.requires.ready.cases 0 c.case-item.result c.in-len1-up.len_at_least).1 in
@@ -98,9 +98,9 @@ evaluate_cases_where_earlier_fails-evaluate_formula_part-requires-clause-room g 
     (sym c.formula.ensures)
     (room_less (formula_view c.case-item.result.formula) (length c.args.out.now) (length c.args.out.now) _ _ same room roomy.operands)))
 
-pub evaluate_cases_where_earlier_fails-evaluate_formula_part-requires-clause-reads : goal.evaluate_cases_where_earlier_fails-evaluate_formula_part-requires-clause-reads
-evaluate_cases_where_earlier_fails-evaluate_formula_part-requires-clause-reads g t c = λ k l low high.
-    let out : length c.evaluate_cases_part-in-Some.new.out ≡ length c.args.out.now = c.evaluate_cases_part-in-Some.auto.out ∙ c.evaluate_cases_part.auto.out in
+pub evaluate_cases_where_earlier_fails-evaluate_formula_on_part_of_row-requires-clause-reads : goal.evaluate_cases_where_earlier_fails-evaluate_formula_on_part_of_row-requires-clause-reads
+evaluate_cases_where_earlier_fails-evaluate_formula_on_part_of_row-requires-clause-reads g t c = λ k l low high.
+    let out : length c.evaluate_cases_on_part_of_row-in-Some.new.out ≡ length c.args.out.now = c.evaluate_cases_on_part_of_row-in-Some.auto.out ∙ c.evaluate_cases_on_part_of_row.auto.out in
     let few : k < length c.args.out.now = subst (λ (n : ℕ). k < n) out l in
     let short : k < c.args.self.now.points.len = subst (λ (n : ℕ). k < n) c.requires.fits few in
     let ready : IsReady (g.S.RowSource.has c.args.self.now.source.now) (case_view c.case-item.result) c.args.self.now.points.row

@@ -10,8 +10,8 @@ use Rattle.tile_eval.specs.inside.Cases.{IsReady}
 use Rattle.tile_eval.proofs.Covering.{cut_len, cut_at, to_after, from_after, roomy_less, part_taken, no_test}
 use Rattle.tile_eval.proofs.source_row.SourceRow.overwrite_row_where_case_holds.Goals as goal
 
-pub evaluate_boxed_case-requires-clause-inside : goal.evaluate_boxed_case-requires-clause-inside
-evaluate_boxed_case-requires-clause-inside g c = λ k h.
+pub overwrite_row_in_box_where_tests_hold-requires-clause-inside : goal.overwrite_row_in_box_where_tests_hold-requires-clause-inside
+overwrite_row_in_box_where_tests_hold-requires-clause-inside g c = λ k h.
     let from : ℕ = c.in-Some-find_area_interval_along_row.from in
     let some = c.in-Some-find_area_interval_along_row.ensures.some in
     let within : c.in-Some-find_area_interval_along_row.to ≤ length c.args.out.now = rw c.requires.fits c.in-Some-find_area_interval_along_row.ensures.some.1 in
@@ -28,8 +28,8 @@ evaluate_boxed_case-requires-clause-inside g c = λ k h.
     c.slice_points-points.result.col
     c.in-Some-find_area_interval_along_row.from k (c.in-Some-find_area_interval_along_row.from + k) c.slice_points-points.ensures.row c.slice_points-points.ensures.col sum held)
 
-pub evaluate_boxed_case-requires-clause-ready : goal.evaluate_boxed_case-requires-clause-ready
-evaluate_boxed_case-requires-clause-ready g c = λ k h.
+pub overwrite_row_in_box_where_tests_hold-requires-clause-ready : goal.overwrite_row_in_box_where_tests_hold-requires-clause-ready
+overwrite_row_in_box_where_tests_hold-requires-clause-ready g c = λ k h.
     let some = c.in-Some-find_area_interval_along_row.ensures.some in
     let within : c.in-Some-find_area_interval_along_row.to ≤ length c.args.out.now = rw c.requires.fits c.in-Some-find_area_interval_along_row.ensures.some.1 in
     let cut : k < c.in-Some-find_area_interval_along_row.to - c.in-Some-find_area_interval_along_row.from =
@@ -42,8 +42,8 @@ evaluate_boxed_case-requires-clause-ready g c = λ k h.
     c.slice_points-points.ensures.col sum
     (c.requires.case.0 (c.in-Some-find_area_interval_along_row.from + k) l)
 
-pub evaluate_boxed_case-requires-clause-roomy : goal.evaluate_boxed_case-requires-clause-roomy
-evaluate_boxed_case-requires-clause-roomy g c =
+pub overwrite_row_in_box_where_tests_hold-requires-clause-roomy : goal.overwrite_row_in_box_where_tests_hold-requires-clause-roomy
+overwrite_row_in_box_where_tests_hold-requires-clause-roomy g c =
     let some = c.in-Some-find_area_interval_along_row.ensures.some in
     let within : c.in-Some-find_area_interval_along_row.to ≤ length c.args.out.now = rw c.requires.fits c.in-Some-find_area_interval_along_row.ensures.some.1 in
     let cut = cut_len c.in-Some-find_area_interval_along_row.from c.in-Some-find_area_interval_along_row.to c.args.out.now some.0 within in
@@ -57,21 +57,21 @@ returns-in-Some-find_area_interval_along_row g c = λ k h.
     let within : c.in-Some-find_area_interval_along_row.to ≤ length c.args.out.now = rw c.requires.fits c.in-Some-find_area_interval_along_row.ensures.some.1 in
     let a : ℕ = c.in-Some-find_area_interval_along_row.from in
     let cut = cut_len c.in-Some-find_area_interval_along_row.from c.in-Some-find_area_interval_along_row.to c.args.out.now some.0 within in
-    let len : length c.evaluate_boxed_case.new.out ≡ c.in-Some-find_area_interval_along_row.to - c.in-Some-find_area_interval_along_row.from = c.evaluate_boxed_case.auto.out ∙ cut in
+    let len : length c.overwrite_row_in_box_where_tests_hold.new.out ≡ c.in-Some-find_area_interval_along_row.to - c.in-Some-find_area_interval_along_row.from = c.overwrite_row_in_box_where_tests_hold.auto.out ∙ cut in
     let box : c.args.case.now.area ≡ Some c.in-Some.area = search rules in
-    part_taken c.in-Some-find_area_interval_along_row.from c.in-Some-find_area_interval_along_row.to k c.args.out.now c.evaluate_boxed_case.new.out _ _ some.0 within len
+    part_taken c.in-Some-find_area_interval_along_row.from c.in-Some-find_area_interval_along_row.to k c.args.out.now c.overwrite_row_in_box_where_tests_hold.new.out _ _ some.0 within len
     (λ low high.
     let sum : c.in-Some-find_area_interval_along_row.from + (k - c.in-Some-find_area_interval_along_row.from) ≡ k = omega arith in
     let short : k - c.in-Some-find_area_interval_along_row.from < c.in-Some-find_area_interval_along_row.to - c.in-Some-find_area_interval_along_row.from = omega arith in
     let l : k - c.in-Some-find_area_interval_along_row.from
     < length (take (c.in-Some-find_area_interval_along_row.to - c.in-Some-find_area_interval_along_row.from) (drop c.in-Some-find_area_interval_along_row.from c.args.out.now)) = rw cut short in
-    from_after (λ r x. at c.evaluate_boxed_case.new.out (k - c.in-Some-find_area_interval_along_row.from) ≡ if all_passed (map test_view c.args.case.now.tests.items) r x
+    from_after (λ r x. at c.overwrite_row_in_box_where_tests_hold.new.out (k - c.in-Some-find_area_interval_along_row.from) ≡ if all_passed (map test_view c.args.case.now.tests.items) r x
     then formula_value (g.S.RowSource.samples c.args.self.now.source.now) (formula_view c.args.case.now.formula) r x else at
     c.args.out.now k)
     c.args.self.now.points.row c.args.self.now.points.col c.slice_points-points.result.row c.slice_points-points.result.col c.in-Some-find_area_interval_along_row.from (k -
     c.in-Some-find_area_interval_along_row.from) k
     c.slice_points-points.ensures.row c.slice_points-points.ensures.col sum
-    (c.evaluate_boxed_case.ensures (k - c.in-Some-find_area_interval_along_row.from) l
+    (c.overwrite_row_in_box_where_tests_hold.ensures (k - c.in-Some-find_area_interval_along_row.from) l
     ∙ ap (λ (z : ℤ). if all_passed (map test_view c.args.case.now.tests.items) c.slice_points-points.result.row
     (c.slice_points-points.result.col +ℤ pos (k - c.in-Some-find_area_interval_along_row.from))
     then formula_value (g.S.RowSource.samples c.args.self.now.source.now) (formula_view c.args.case.now.formula) c.slice_points-points.result.row

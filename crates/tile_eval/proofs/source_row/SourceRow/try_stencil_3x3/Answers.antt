@@ -8,9 +8,9 @@ use Rattle.tile_eval.proofs.source_row.SourceRow.try_stencil_3x3.Goals as goal
 pub returns-in-Some-Some-Some : goal.returns-in-Some-Some-Some
 returns-in-Some-Some-Some g c = λ t k h.
     let lines = c.in-Some-Some-Some in
-    let top = rw lines.is-0 at c.borrow_kernel_line-top.ensures in
-    let middle = rw lines.is-1 at c.borrow_kernel_line-middle.ensures in
-    let bottom = rw lines.is-2 at c.borrow_kernel_line-bottom.ensures in
+    let top = rw lines.is-0 at c.borrow_line_under_kernel_row-top.ensures in
+    let middle = rw lines.is-1 at c.borrow_line_under_kernel_row-middle.ensures in
+    let bottom = rw lines.is-2 at c.borrow_line_under_kernel_row-bottom.ensures in
     c.write_sums.ensures k h
     ∙ ap (λ (ks : List (List ℤ)). wrapped
     (tap_sum (factors ks 0) lines.top.now k +ℤ tap_sum (factors ks 1) lines.middle.now k +ℤ tap_sum (factors ks 2) lines.bottom.now k)) c.in-Some.ensures.is

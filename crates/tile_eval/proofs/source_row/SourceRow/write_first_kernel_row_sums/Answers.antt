@@ -14,8 +14,8 @@ returns g c = λ k h.
     ∙ found_factors c.args.kernel.now 0 _ some
     (c.index-as_slice-0.is ∙ ap (λ (ks : List (List ℤ)). slice_index_or ks 0 c.index-as_slice-0.result) c.as_slice.ensures) in
     let few : length c.as_slice-factors.result.now ≤ 15 = rw fs (few_factors c.args.kernel.now 0 c.requires.kernel some) in
-    let len : length c.borrow_or_read_kernel_line-line.result.now ≡ length c.args.out.now + length c.as_slice-factors.result.now - 1 =
+    let len : length c.borrow_or_read_line_under_kernel_row-line.result.now ≡ length c.args.out.now + length c.as_slice-factors.result.now - 1 =
     grind (arith, common_steps) in
     row_written c.args.kernel.now (g.S.RowSource.samples c.args.self.now.source.now c.args.stage) c.args.self.now.points.row
     c.args.self.now.points.col 0 k
-    _ _ c.borrow_or_read_kernel_line-line.result.now _ fs c.borrow_or_read_kernel_line-line.ensures.line len h (c.write_tap_sums.ensures k h)
+    _ _ c.borrow_or_read_line_under_kernel_row-line.result.now _ fs c.borrow_or_read_line_under_kernel_row-line.ensures.line len h (c.write_tap_sums.ensures k h)

@@ -12,8 +12,8 @@ use Rattle.tile_run.proofs.RunAllStores.{AreStoredTo, stored_more, stored_other,
 use Rattle.tile_run.proofs.ranks.PhasedRun.run_phase.Goals as goal
 use Rattle.tile_run.proofs.ranks.PhasedRun.run_phase.Goals.{then-eq+in_ok-stored, else-eq}
 
-pub make_stage_tiles-requires-clause-stored : goal.make_stage_tiles-requires-clause-stored
-make_stage_tiles-requires-clause-stored g c κs within =
+pub make_tiles_if_stage_is_used_and_stored-requires-clause-stored : goal.make_tiles_if_stage_is_used_and_stored-requires-clause-stored
+make_tiles_if_stage_is_used_and_stored-requires-clause-stored g c κs within =
     let run = c.args.self.now in
     let job : Pipeline = pipeline_in run.job.now in
     let n = c.loop-number.number in

@@ -13,22 +13,22 @@ invariant_of-tile c =
           c.requires.ready;
     }
 
-pub compute_values-requires-clause-layout : goal.compute_values-requires-clause-layout
-compute_values-requires-clause-layout c =
+pub compute_values_if_stage_is_function-requires-clause-layout : goal.compute_values_if_stage_is_function-requires-clause-layout
+compute_values_if_stage_is_function-requires-clause-layout c =
     let run = c.args.self.now in
     of_function (pipeline_in run.job.now) run.schedule.now.inlining (stored_tiles run.stored.now.stages.items) run.stage run.grid
     run.job.now.well c.requires.ready c.args.row c.args.col c.in_ok-layout.layout c.in_ok-layout.ensures
 
-pub compute_values-requires-clause-needs : goal.compute_values-requires-clause-needs
-compute_values-requires-clause-needs c = c.requires.ready.needs c.args.row c.args.col c.in_ok-layout.layout c.in_ok-layout.ensures
+pub compute_values_if_stage_is_function-requires-clause-needs : goal.compute_values_if_stage_is_function-requires-clause-needs
+compute_values_if_stage_is_function-requires-clause-needs c = c.requires.ready.needs c.args.row c.args.col c.in_ok-layout.layout c.in_ok-layout.ensures
 
 pub returns : goal.returns
 returns c =
     let run = c.args.self.now in
     let inlining = run.schedule.now.inlining in
-    IfOk-weaker c.compute_values.result _ _
+    IfOk-weaker c.compute_values_if_stage_is_function.result _ _
     (λ values local.
     values_are (pipeline_in run.job.now) inlining (stored_tiles run.stored.now.stages.items) run.stage run.grid run.job.now.well
     c.requires.ready c.args.row c.args.col c.in_ok-layout.layout c.in_ok-layout.ensures
     values.items (local inlining run.stage c.args.row c.args.col c.in_ok-layout.ensures))
-    c.compute_values.ensures
+    c.compute_values_if_stage_is_function.ensures

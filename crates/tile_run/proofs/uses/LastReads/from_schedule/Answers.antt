@@ -18,8 +18,8 @@ loop-back-init c =
     (ap length made ∙ length-replicate (length c.stages-2.result.now) Never ∙ sym (length-map c.stages-2.result.now stage_view)
     ∙ ap length c.stages-2.ensures)
 
-pub record_rank_reads-requires-2 : goal.record_rank_reads-requires-2
-record_rank_reads-requires-2 c =
+pub record_reads_made_by_stages_of_rank-requires-2 : goal.record_reads_made_by_stages_of_rank-requires-2
+record_reads_made_by_stages_of_rank-requires-2 c =
     let none : c.find_greatest_rank-last.result - c.loop-back.back + 1 ≡ 0 + 1 = omega arith in
     subst (λ (r : ℕ). HasLastsFrom (pipeline_in c.args.job.now) c.args.schedule.now.inlining r c.loop-back.uses.lasts.items) none
     c.loop-back.invariant
@@ -27,8 +27,8 @@ record_rank_reads-requires-2 c =
 pub loop-back-preserved : goal.loop-back-preserved
 loop-back-preserved c =
     let less : c.find_greatest_rank-last.result - c.loop-back.back ≡ c.find_greatest_rank-last.result - (c.loop-back.back + 1) + 1 = omega arith in
-    subst (λ (r : ℕ). HasLastsFrom (pipeline_in c.args.job.now) c.args.schedule.now.inlining r c.record_rank_reads.new.self.lasts.items) less
-    c.record_rank_reads.ensures
+    subst (λ (r : ℕ). HasLastsFrom (pipeline_in c.args.job.now) c.args.schedule.now.inlining r c.record_reads_made_by_stages_of_rank.new.self.lasts.items) less
+    c.record_reads_made_by_stages_of_rank.ensures
 
 pub returns : goal.returns
-returns c = lasts_all (pipeline_in c.args.job.now) c.args.schedule.now.inlining c.record_rank_reads-2.new.self.lasts.items c.record_rank_reads-2.ensures
+returns c = lasts_all (pipeline_in c.args.job.now) c.args.schedule.now.inlining c.record_reads_made_by_stages_of_rank-2.new.self.lasts.items c.record_reads_made_by_stages_of_rank-2.ensures

@@ -5,8 +5,8 @@ use Rattle.tile_sources.specs.KnownTiles.{number_at, IsGivenAt}
 use Rattle.tile_sources.proofs.RowsCrossTiles.{row_goes_on, still_most, rest_held}
 use Rattle.tile_sources.proofs.supplied_tiles.SuppliedTiles.gather_row.Goals as goal
 
-pub gather_row_part-done-requires-clause-there : goal.gather_row_part-done-requires-clause-there
-gather_row_part-done-requires-clause-there g c =
+pub gather_row_up_to_tile_end-done-requires-clause-there : goal.gather_row_up_to_tile_end-done-requires-clause-there
+gather_row_up_to_tile_end-done-requires-clause-there g c =
     let row : FitsSigned w32 c.args.row = search rules in
     rw (to_z-of_z w32 c.args.row row)
     (rest_held c.args.points.now.col c.slice_points.result.col c.loop-done.done c.loop-done.out c.loop-done.invariant.most c.slice_points.ensures.col
@@ -17,12 +17,12 @@ pub loop-done-preserved : goal.loop-done-preserved
 loop-done-preserved g c = record {
   most =
       still_most c.args.points.now.col c.slice_points.result.col c.loop-done.done c.loop-done.out c.loop-done.invariant.most c.slice_points.ensures.col
-      c.gather_row_part-done.new.out c.gather_row_part-done.result c.gather_row_part-done.auto.out c.gather_row_part-done.ensures.most;
+      c.gather_row_up_to_tile_end-done.new.out c.gather_row_up_to_tile_end-done.result c.gather_row_up_to_tile_end-done.auto.out c.gather_row_up_to_tile_end-done.ensures.most;
   numbers =
       row_goes_on c.args.points.now.col c.slice_points.result.col c.loop-done.done c.loop-done.out c.loop-done.invariant.most c.slice_points.ensures.col
-      c.gather_row_part-done.new.out c.gather_row_part-done.result c.gather_row_part-done.auto.out c.gather_row_part-done.ensures.most
+      c.gather_row_up_to_tile_end-done.new.out c.gather_row_up_to_tile_end-done.result c.gather_row_up_to_tile_end-done.auto.out c.gather_row_up_to_tile_end-done.ensures.most
       (λ (z : ℤ). number_at (g.K.TileSource.given c.args.self.now.known.now) c.args.self.now.stage c.args.self.now.grid
-      (to_z w32 (of_z w32 c.args.row)) (index_at c.args.col.now z)) c.loop-done.invariant.numbers c.gather_row_part-done.ensures.numbers;
+      (to_z w32 (of_z w32 c.args.row)) (index_at c.args.col.now z)) c.loop-done.invariant.numbers c.gather_row_up_to_tile_end-done.ensures.numbers;
 }
 
 pub returns : goal.returns

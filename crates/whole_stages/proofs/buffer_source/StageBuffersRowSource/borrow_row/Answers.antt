@@ -8,5 +8,5 @@ slice_row-requires c =
     let row : FitsSigned w32 c.args.row = search rules in
     let first : FitsSigned w32 c.args.first = search rules in
     rw (to_z-of_z w32 c.args.row row) (rw (to_z-of_z w32 c.args.first first) (λ k h.
-    known_within c.args.self.now.buffers.items c.args.stage c.in_ok-find_buffer.field-0.now c.view.result.area _ _ c.in_ok-find_buffer.ensures.some
+    known_within c.args.self.now.buffers.items c.args.stage c.in_ok-borrow_buffer_of_stage.field-0.now c.view.result.area _ _ c.in_ok-borrow_buffer_of_stage.ensures.some
     c.view.ensures.area (c.requires k h)))

@@ -19,8 +19,8 @@ use Rattle.whole_stages.specs.Known.{sample_in, AreKnownOf, IsKnownAt}
 use Rattle.whole_stages.proofs.Knowing.{known_there, reads_known, functions_known, planes_known, stage_values_is}
 use Rattle.whole_stages.proofs.buffers.StageBuffers.compute_stage_values.Goals as goal
 
-pub convert_whole_plane-requires : goal.convert_whole_plane-requires
-convert_whole_plane-requires c =
+pub convert_whole_plane_of_picture-requires : goal.convert_whole_plane_of_picture-requires
+convert_whole_plane_of_picture-requires c =
     let job : Pipeline = pipeline_in c.args.job.now in
     let s : Stage = stage_view c.in-Some.stage.now in
     let there : slice_get job.stages c.args.number ≡ Some s = sym c.in-Some.ensures in
@@ -64,11 +64,11 @@ returns-in-Plane c =
     let s : Stage = stage_view c.in-Some.stage.now in
     let there : slice_get job.stages c.args.number ≡ Some s = sym c.in-Some.ensures in
     let is : s.body ≡ plane c.in-Plane.plane = ap body_view (sym c.body.ensures ∙ c.in-Plane.is) in
-    IfOk-weaker c.convert_whole_plane.result _ (λ (values : Vec ℤ). values.items ≡ stage_values job c.args.number) (λ values e.
+    IfOk-weaker c.convert_whole_plane_of_picture.result _ (λ (values : Vec ℤ). values.items ≡ stage_values job c.args.number) (λ values e.
     e ∙ ap (λ (p : Image). raster (picture_area p) (sample_at p c.in-Plane.plane)) c.picture.ensures
     ∙ planes_known job c.args.job.now.well c.args.number s there c.in-Plane.plane is
     ∙ sym (stage_values_is job c.args.number s there))
-    c.convert_whole_plane.ensures
+    c.convert_whole_plane_of_picture.ensures
 
 pub returns-in-Function : goal.returns-in-Function
 returns-in-Function c =

@@ -1,8 +1,0 @@
-use Rattle.std.proofs.Common.{◌∙◌, ap}
-use Rattle.clap.specs.Words.{found_of}
-use Rattle.clap.proofs.WalkLemmas.{first_value-rows}
-use Rattle.command_line.specs.Values.{is_true}
-use Rattle.command_line.proofs.words.read_flag_option.Goals as goal
-
-pub returns : goal.returns
-returns c = c.is_flag_option_given.ensures ∙ ap is_true (c.get_str.ensures ∙ first_value-rows (found_of c.args.given.now) c.args.name.now)

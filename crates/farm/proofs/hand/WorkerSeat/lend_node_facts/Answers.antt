@@ -1,5 +1,0 @@
-use Rattle.farm.proofs.Ends.{true_loan_all}
-use Rattle.farm.proofs.hand.WorkerSeat.lend_node_facts.Goals as goal
-
-pub returns : goal.returns
-returns g c = true_loan_all g.C.NamedCatalog.catalog c.args.keys.now c.in_ok-loan.loan.facts.items c.in_ok-loan.ensures.truth

@@ -1,6 +1,0 @@
-use Rattle.std.proofs.Common.{take}
-use Rattle.gossip_events.specs.Scripts.{AreKeysOf}
-use Rattle.gossip_events.proofs.naming.resolve_script_tile_names.Given as goal
-
-abbrev pub invariant-loop-place : goal.invariant-loop-place
-invariant-loop-place l = AreKeysOf l.jobs (take l.place-index l.places) l.keys.items

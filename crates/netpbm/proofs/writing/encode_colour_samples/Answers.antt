@@ -1,9 +1,0 @@
--- No sample of the three is above the greatest, so none of those in turn is.
-use Rattle.std.proofs.Common.{◌≤◌, All, sym, subst}
-use Rattle.netpbm.proofs.Written.{All-woven}
-use Rattle.netpbm.proofs.writing.encode_colour_samples.Goals as goal
-
-pub encode_raw_samples-requires-clause-bounded : goal.encode_raw_samples-requires-clause-bounded
-encode_raw_samples-requires-clause-bounded c =
-    let r = c.requires in
-    subst (All (λ s. s ≤ c.args.max)) (sym c.interleave_colour_samples.ensures) (All-woven c.args.max _ _ _ r.red_bounded r.green_bounded r.blue_bounded)
