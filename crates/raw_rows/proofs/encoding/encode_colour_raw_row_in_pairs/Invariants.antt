@@ -1,0 +1,11 @@
+-- What is written so far.
+use Rattle.std.proofs.Common.{ℕ, ◌*◌, ◌<◌, pos, get_or}
+use Rattle.job.specs.Answers.{sample_of}
+use Rattle.raw_rows.proofs.Encoded.{ArePairsAt}
+use Rattle.raw_rows.proofs.encoding.encode_colour_raw_row_in_pairs.Given as goal
+
+abbrev pub invariant-loop-k : goal.invariant-loop-k
+invariant-loop-k l =
+    (k : ℕ) → k < l.k
+    → ArePairsAt l.out (6 * k) (sample_of l.max (get_or l.red k (pos 0))) (sample_of l.max (get_or l.green k (pos 0)))
+    (sample_of l.max (get_or l.blue k (pos 0)))

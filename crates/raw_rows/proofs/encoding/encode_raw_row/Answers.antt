@@ -1,0 +1,12 @@
+-- One byte for each sample.
+use Rattle.std.proofs.Common.{◌∙◌, sym}
+use Rattle.netpbm.proofs.Rasters.{raw_raster_one}
+use Rattle.raw_rows.proofs.encoding.encode_raw_row.Goals as goal
+
+pub returns-then-max-lt256 : goal.returns-then-max-lt256
+returns-then-max-lt256 c =
+    rw c.in-Grey.is (c.encode_grey_raw_row_in_bytes.ensures ∙ sym (raw_raster_one c.args.max _ c.if-max-lt256.true))
+
+pub returns-then-max-lt256-2 : goal.returns-then-max-lt256-2
+returns-then-max-lt256-2 c =
+    rw c.in-Colour.is (c.encode_colour_raw_row_in_bytes.ensures ∙ sym (raw_raster_one c.args.max _ c.if-max-lt256-2.true))
