@@ -1,0 +1,3 @@
+pub mod Taking
+pub mod Growing
+pub mod Checking

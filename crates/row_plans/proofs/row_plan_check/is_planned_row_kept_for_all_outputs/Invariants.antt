@@ -1,0 +1,7 @@
+use Rattle.std.proofs.Common.{All, take}
+use Rattle.job.specs.Kept.{pipeline_in}
+use Rattle.row_plans.specs.Plans.{IsOutputKept}
+use Rattle.row_plans.proofs.row_plan_check.is_planned_row_kept_for_all_outputs.Given as goal
+
+abbrev pub invariant-loop-output : goal.invariant-loop-output
+invariant-loop-output l = All (IsOutputKept (pipeline_in l.job) l.states l.row) (take l.output-index l.outputs)

@@ -1,0 +1,4 @@
+pub mod Rows
+pub mod Plans
+pub mod Taken
+pub mod Checks

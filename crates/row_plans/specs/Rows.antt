@@ -1,0 +1,24 @@
+-- Which rows of stages are kept.
+use Rattle.std.specs.Prelude.{ℕ, ◌+◌, ◌<◌, ◌≤◌, ◌≡◌, ℤ, pos, ◌+ℤ◌, Some, List, slice_get}
+use Rattle.std.specs.Int.{int_gap}
+use Rattle.domains.specs.Span.{Holds}
+use Rattle.row_plans.specs.declared.row_state.RowState.{RowState}
+
+-- the number of the row that is made next
+abbrev pub next_row : RowState → ℤ
+next_row s = s.area.rows.lo +ℤ pos s.next
+
+-- row r is made, and is one of the last rows made, as many as are kept
+pub record IsKeptRow (s : RowState) (r : ℤ) : Type 0 where
+  pub within : Holds s.area.rows r
+  pub begun : s.first ≤ int_gap s.area.rows.lo r
+  pub made : int_gap s.area.rows.lo r < s.next
+  pub kept : s.next ≤ int_gap s.area.rows.lo r + s.kept
+
+-- row r of stage g is kept
+abbrev pub IsKeptAt : List RowState → ℕ → ℤ → Type 0
+IsKeptAt states g r = (s : RowState) × (slice_get states g ≡ Some s) × IsKeptRow s r
+
+-- the state once one row more is made
+abbrev pub one_row_more : RowState → RowState
+one_row_more s = record { area = s.area; kept = s.kept; first = s.first; next = s.next + 1 }

@@ -1,0 +1,277 @@
+#![tactic(auto)]
+//! Plans of rows by demand. No clause specifies them: each plan is checked before it is returned.
+
+use crate::plan::{PlanStep, RowPlan};
+use crate::row_state::RowState;
+use crate::stage_rows_read::StageRowsRead;
+use domains::Area;
+use std::alloc::{AllocError, Global};
+
+/// Which rows of a stage are planned, by their numbers.
+#[derive(Clone, Copy)]
+struct PlannedRows {
+    // The first row that is made.
+    first: i32,
+    // The row that is made next.
+    next: i32,
+    // The row behind the last one that is wanted.
+    wanted: i32,
+    // How many rows are kept.
+    kept: i32,
+}
+
+impl PlannedRows {
+    // No row is wanted.
+    fn new() -> PlannedRows {
+        PlannedRows {
+            first: i32::MAX,
+            next: i32::MAX,
+            wanted: i32::MIN,
+            kept: 0,
+        }
+    }
+
+    // Wants rows, from the first up to the last. The first one of all is made first.
+    fn request_rows(&mut self, first: i32, last: i32) {
+        self.first = self.first.min(first);
+        self.next = self.first;
+        self.wanted = self.wanted.max(last.saturating_add(1));
+    }
+
+    // Makes the next row.
+    fn make_row(&mut self) {
+        self.next = self.next.saturating_add(1);
+        self.kept = self.kept.max(1);
+    }
+
+    // Keeps the rows that are made, from this row on.
+    fn keep_rows_from(&mut self, row: i32) {
+        self.kept = self.kept.max(self.next.saturating_sub(row));
+    }
+
+    // The state at the start of a stage with this domain.
+    fn build_row_state(&self, area: Area) -> RowState {
+        let lo = area.rows.lo();
+        let first = if self.kept > 0 {
+            usize::try_from(self.first.saturating_sub(lo)).unwrap_or(0)
+        } else {
+            0
+        };
+        RowState {
+            area,
+            kept: usize::try_from(self.kept).unwrap_or(0),
+            first,
+            next: first,
+        }
+    }
+}
+
+/// A plan that grows, row by row of the picture.
+#[derive(Drop)]
+pub(crate) struct RowPlanner<'a> {
+    rows: &'a [StageRowsRead<'a>],
+    outputs: &'a [usize],
+    // The stages in dependence order, each with its rank.
+    order: Vec<(usize, usize)>,
+    planned: Vec<PlannedRows>,
+    // The rows to be made before which others wait: of a stage all rows before a row.
+    demands: Vec<(usize, i32)>,
+    steps: Vec<PlanStep>,
+}
+
+impl<'a> RowPlanner<'a> {
+    /// Nothing is planned.
+    ///
+    /// # Errors
+    ///
+    /// Fails only where memory is refused.
+    pub(crate) fn new(
+        alloc: Global,
+        rows: &'a [StageRowsRead<'a>],
+        outputs: &'a [usize],
+    ) -> Result<RowPlanner<'a>, AllocError> {
+        let mut order = Vec::with_capacity(alloc, rows.len())?;
+        let mut planned = Vec::with_capacity(alloc, rows.len())?;
+        for (stage, read) in rows.iter().enumerate() {
+            order.push((read.rank(), stage))?;
+            planned.push(PlannedRows::new())?;
+        }
+        order.sort()?;
+        Ok(RowPlanner {
+            rows,
+            outputs,
+            order,
+            planned,
+            demands: Vec::new(alloc),
+            steps: Vec::new(alloc),
+        })
+    }
+
+    /// The plan that outputs the rows of the picture from row `first` up to before row `end`.
+    ///
+    /// # Errors
+    ///
+    /// Fails only where memory is refused.
+    pub(crate) fn plan_rows(
+        mut self,
+        alloc: Global,
+        first: usize,
+        end: usize,
+    ) -> Result<RowPlan, AllocError> {
+        self.request_output_rows(first, end.saturating_sub(1));
+        self.request_rows_read_by_all_stages();
+        for row in first..end {
+            self.plan_output_row(row)?;
+        }
+        self.into_row_plan(alloc)
+    }
+
+    // Wants what the rows read that are wanted, of each stage before those that it reads.
+    fn request_rows_read_by_all_stages(&mut self) {
+        for behind in 0..self.order.len() {
+            let place = self.order.len().saturating_sub(1).saturating_sub(behind);
+            self.request_rows_read_by_stage(self.find_planned_stage(place));
+        }
+    }
+
+    // The stage at this place of the dependence order.
+    fn find_planned_stage(&self, place: usize) -> usize {
+        match self.order.get(place) {
+            Some((_, stage)) => *stage,
+            None => 0,
+        }
+    }
+
+    // Wants what the rows of a stage read that are wanted.
+    fn request_rows_read_by_stage(&mut self, stage: usize) {
+        let Some(found) = self.rows.get(stage) else {
+            return;
+        };
+        let PlannedRows { first, wanted, .. } = self.find_planned_rows(stage);
+        for read in found.reads() {
+            if let (Some((top, bottom)), Some(planned)) = (
+                read.find_first_and_last_row_read_in_range(first, wanted),
+                self.planned.get_mut(read.stage()),
+            ) {
+                planned.request_rows(top, bottom);
+            }
+        }
+    }
+
+    // Wants rows of the picture in all its planes.
+    fn request_output_rows(&mut self, first: usize, last: usize) {
+        for output in self.outputs {
+            if let (Some(read), Some(planned)) = (
+                self.rows.get(*output),
+                self.planned.get_mut(*output),
+            ) {
+                planned.request_rows(read.find_row_at_place(first), read.find_row_at_place(last));
+            }
+        }
+    }
+
+    // Which rows of a stage are planned.
+    fn find_planned_rows(&self, stage: usize) -> PlannedRows {
+        match self.planned.get(stage) {
+            Some(planned) => *planned,
+            None => PlannedRows::new(),
+        }
+    }
+
+    // Makes what a row of the picture needs, and outputs it.
+    fn plan_output_row(&mut self, row: usize) -> Result<(), AllocError> {
+        for output in self.outputs {
+            if let Some(read) = self.rows.get(*output) {
+                let end = read.find_row_at_place(row).saturating_add(1);
+                self.demands.push((*output, end))?;
+                self.make_demanded_planned_rows()?;
+            }
+        }
+        self.keep_output_rows(row);
+        self.steps.push(PlanStep::Output)?;
+        Ok(())
+    }
+
+    // Makes the rows that are demanded, each as soon as all is made that it reads.
+    fn make_demanded_planned_rows(&mut self) -> Result<(), AllocError> {
+        for _ in 0..u64::MAX {
+            let Some((stage, end)) = self.find_last_demand_of_planned_rows() else {
+                return Ok(());
+            };
+            let row = self.find_planned_rows(stage).next;
+            if row >= end {
+                let _ = self.demands.pop();
+            } else if let Some(demand) = self.find_planned_rows_to_make_before(stage, row) {
+                self.demands.push(demand)?;
+            } else {
+                self.make_planned_row(stage, row)?;
+            }
+        }
+        Ok(())
+    }
+
+    // The last demand: a stage, and the row before which its rows are to be made.
+    fn find_last_demand_of_planned_rows(&self) -> Option<(usize, i32)> {
+        match self.demands.last() {
+            Some(demand) => Some(*demand),
+            None => None,
+        }
+    }
+
+    // Rows that this row of a stage reads, if they are not made.
+    fn find_planned_rows_to_make_before(&self, stage: usize, row: i32) -> Option<(usize, i32)> {
+        for read in self.rows.get(stage)?.reads() {
+            if let Some((_, bottom)) = read.find_rows_read_at(row) {
+                if self.find_planned_rows(read.stage()).next <= bottom {
+                    return Some((read.stage(), bottom.saturating_add(1)));
+                }
+            }
+        }
+        None
+    }
+
+    // Makes the next row of a stage, and keeps what it reads. The number of a stage that is too great is left out.
+    fn make_planned_row(&mut self, stage: usize, row: i32) -> Result<(), AllocError> {
+        if let Some(found) = self.rows.get(stage) {
+            for read in found.reads() {
+                if let (Some((top, _)), Some(planned)) = (
+                    read.find_rows_read_at(row),
+                    self.planned.get_mut(read.stage()),
+                ) {
+                    planned.keep_rows_from(top);
+                }
+            }
+        }
+        if let Some(planned) = self.planned.get_mut(stage) {
+            planned.make_row();
+        }
+        if let Ok(number) = u32::try_from(stage) {
+            self.steps.push(PlanStep::Make(number))?;
+        }
+        Ok(())
+    }
+
+    // Keeps a row of the picture in all its planes.
+    fn keep_output_rows(&mut self, row: usize) {
+        for output in self.outputs {
+            if let (Some(read), Some(planned)) = (
+                self.rows.get(*output),
+                self.planned.get_mut(*output),
+            ) {
+                planned.keep_rows_from(read.find_row_at_place(row));
+            }
+        }
+    }
+
+    // The steps, with the state of each stage at the start.
+    fn into_row_plan(self, alloc: Global) -> Result<RowPlan, AllocError> {
+        let mut states = Vec::with_capacity(alloc, self.rows.len())?;
+        for (read, planned) in self.rows.iter().zip(&self.planned) {
+            states.push(planned.build_row_state(read.area()))?;
+        }
+        Ok(RowPlan {
+            steps: self.steps,
+            states,
+        })
+    }
+}

@@ -1,0 +1,197 @@
+#![tactic(auto)]
+//! Which rows of other stages a row of a stage is made of.
+
+ghost use Rattle.std.specs.Prelude.{◌≡◌, ◌<◌, ◌+ℤ◌, ◌≤ℤ◌, ℕ, ℤ, pos, negsuc, true, List, IfSome};
+ghost use Rattle.domains.specs.Index.{index_at};
+ghost use Rattle.domains.specs.Span.{Holds};
+ghost use Rattle.job.specs.ReadViews.{read_view};
+ghost use Rattle.operators.specs.Values.{under};
+ghost use Rattle.row_plans.specs.Taken.{middle_row, AreTakenKept, IsKeptFor, IsReadKept};
+ghost use Rattle.row_plans.specs.declared.row_state.RowState.{RowState};
+
+use crate::row_state::{RowState, are_row_state_rows_kept};
+use domains::{Index, Span};
+use job::Read;
+
+// The highest kernel.
+const MOST_HEIGHT: usize = 4096;
+
+/// Rows of one stage that another reads for each row of some span.
+#[derive(Clone, Copy)]
+pub(crate) struct RowsRead {
+    // The stage that is read.
+    stage: usize,
+    // The rows of the reader for which it is read.
+    rows: Span,
+    // The row from which the others are counted; none if it has the number of the reader's row.
+    index: Option<Index>,
+    // How far the first and the last row that are read lie below that row.
+    first: i16,
+    last: i16,
+}
+
+impl RowsRead {
+    /// What a read takes for these rows of the reader. None if a kernel is too high.
+    pub(crate) fn from_read(read: &Read, rows: Span) -> Option<RowsRead>
+        ensures { IfSome result (λ x. (states : List RowState) (g : ℕ) (r c : ℤ) → Holds rows r
+            → AreTakenKept states g r x → IsReadKept states g r c (read_view read.now)) }
+    {
+        match read {
+            Read::Point(stage, index, _) => Some(RowsRead::from_index(*stage, *index, rows)),
+            Read::Window(stage, kernel) => {
+                RowsRead::from_height(*stage, kernel.as_slice().len(), rows)
+            }
+        }
+    }
+
+    // The row at an index, which is a distance if it neither multiplies nor divides.
+    fn from_index(stage: usize, index: Index, rows: Span) -> RowsRead
+        ensures { (states : List RowState) (g : ℕ) (r : ℤ) → Holds rows r
+            → AreTakenKept states g r result → IsKeptFor states g stage (index_at index r) }
+    {
+        if index.mul() == 1 && index.div() == 1 {
+            let distance = index.add() as i16;
+            RowsRead {
+                stage,
+                rows,
+                index: None,
+                first: distance,
+                last: distance,
+            }
+        } else {
+            RowsRead {
+                stage,
+                rows,
+                index: Some(index),
+                first: 0,
+                last: 0,
+            }
+        }
+    }
+
+    // The rows under a kernel of this height.
+    fn from_height(stage: usize, height: usize, rows: Span) -> Option<RowsRead>
+        ensures { IfSome result (λ x. (states : List RowState) (g : ℕ) (r : ℤ) → Holds rows r
+            → AreTakenKept states g r x
+            → (a : ℕ) → a < height → IsKeptFor states g stage (under r height a)) }
+    {
+        if height == 0 || height > MOST_HEIGHT {
+            return None;
+        }
+        Some(RowsRead {
+            stage,
+            rows,
+            index: None,
+            first: -((height / 2) as i16),
+            last: (height - height / 2 - 1) as i16,
+        })
+    }
+
+    /// The stage that is read.
+    pub(crate) fn stage(&self) -> usize
+        ensures { result ≡ self.now.stage }
+    {
+        self.stage
+    }
+
+    /// One for both, if they read the same stage for the same rows, counted from the same row.
+    pub(crate) fn join_rows_read(&self, other: &RowsRead) -> Option<RowsRead>
+        ensures { IfSome result (λ x. (states : List RowState) (g : ℕ) (r : ℤ)
+            → AreTakenKept states g r x
+            → AreTakenKept states g r self.now × AreTakenKept states g r other.now) }
+    {
+        if !self.has_same_middle_rows_read(other) {
+            return None;
+        }
+        Some(RowsRead {
+            first: self.first.min(other.first),
+            last: self.last.max(other.last),
+            ..*self
+        })
+    }
+
+    // Whether both read the same stage for the same rows, counted from the same row.
+    fn has_same_middle_rows_read(&self, other: &RowsRead) -> bool
+        ensures { result ≡ true → (self.now.stage ≡ other.now.stage) × (self.now.rows ≡ other.now.rows)
+            × (self.now.index ≡ other.now.index) }
+    {
+        self.stage == other.stage && self.rows == other.rows && self.index == other.index
+    }
+
+    // The row from which those that are read are counted.
+    fn find_middle_row_read(&self, row: i32) -> Option<i32>
+        ensures middle { IfSome result (λ middle. middle ≡ middle_row self.now row) }
+        ensures least { IfSome result (λ middle. negsuc 1048575 ≤ℤ middle) }
+        ensures most { IfSome result (λ middle. middle ≤ℤ pos 1048576) }
+    {
+        if row < -32_767 || row > 32_768 {
+            return None;
+        }
+        match self.index {
+            Some(index) => Some(index.at(row)),
+            None => Some(row),
+        }
+    }
+
+    /// The first and the last row that are read for this row of the reader. None if its number is beyond those of domains.
+    pub(crate) fn find_first_and_last_row_read(&self, row: i32) -> Option<(i32, i32)>
+        ensures { IfSome result (λ ends. (ends.0 ≡ middle_row self.now row +ℤ self.now.first)
+            × (ends.1 ≡ middle_row self.now row +ℤ self.now.last)) }
+    {
+        let middle = self.find_middle_row_read(row)?;
+        Some((
+            find_row_read_at_distance(middle, self.first),
+            find_row_read_at_distance(middle, self.last),
+        ))
+    }
+
+    /// The first and the last row that are read for this row of the reader, if it is one for which any are read.
+    pub(crate) fn find_rows_read_at(&self, row: i32) -> Option<(i32, i32)> {
+        if self.rows.holds(row) {
+            self.find_first_and_last_row_read(row)
+        } else {
+            None
+        }
+    }
+
+    /// The first and the last row that are read for rows of the reader, from row `first` up to before row `end`.
+    pub(crate) fn find_first_and_last_row_read_in_range(
+        &self,
+        first: i32,
+        end: i32,
+    ) -> Option<(i32, i32)> {
+        let top = self.rows.lo().max(first);
+        let bottom = self.rows.hi().min(end.saturating_sub(1));
+        if top > bottom {
+            return None;
+        }
+        let (first, _) = self.find_first_and_last_row_read(top)?;
+        let (_, last) = self.find_first_and_last_row_read(bottom)?;
+        Some((first, last))
+    }
+
+    /// Whether the rows that are read for this row of the reader are kept, and are of another stage.
+    pub(crate) fn are_rows_read_kept(&self, states: &[RowState], reader: usize, row: i32) -> bool
+        ensures { result ≡ true → AreTakenKept states.now reader row self.now }
+    {
+        if !self.rows.holds(row) {
+            return true;
+        }
+        match self.find_first_and_last_row_read(row) {
+            Some((first, last)) => {
+                self.stage != reader && are_row_state_rows_kept(states, self.stage, first, last)
+            }
+            None => false,
+        }
+    }
+}
+
+// The row that lies so far below another.
+#[inline]
+fn find_row_read_at_distance(row: i32, distance: i16) -> i32
+    requires least { negsuc 1048575 ≤ℤ row }
+    requires most { row ≤ℤ pos 1048576 }
+    ensures { result ≡ row +ℤ distance }
+{
+    row + i32::from(distance)
+}
