@@ -1,0 +1,10 @@
+pub mod Places
+pub mod Areas
+pub mod Taking
+pub mod Values
+pub mod Turning
+pub mod Stages
+pub mod Given
+pub mod Points
+pub mod Begun
+pub mod Rooms

@@ -1,0 +1,5 @@
+pub mod RingRows
+pub mod TrueRings
+pub mod RoomOnce
+pub mod Rings
+pub mod inside

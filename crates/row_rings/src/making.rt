@@ -1,0 +1,111 @@
+#![tactic(auto)]
+//! The next row of a ring, from the rows of others.
+
+ghost use Rattle.std.specs.Prelude.{◌≡◌, ◌<◌, ◌+ℤ◌, pos, length, map};
+ghost use Rattle.std.specs.Option.{option_map};
+ghost use Rattle.domains.specs.Span.{len_of};
+ghost use Rattle.job.specs.Kept.{pipeline_in};
+ghost use Rattle.job.specs.Values.{sample_at};
+ghost use Rattle.job.specs.Views.{case_view, formula_view};
+ghost use Rattle.row_loops.specs.Rows.{EachPlace, at};
+ghost use Rattle.row_plans.specs.Rows.{next_row};
+ghost use Rattle.row_rings.specs.RingRows.{sample_in, IsKeptPoint};
+ghost use Rattle.row_rings.specs.TrueRings.{AreTrueRings, HasStageRoom};
+ghost use Rattle.row_rings.specs.inside.Making.{row_area, IsPictureRow, IsMakeable, IsValueRow, HasOneRowMore};
+ghost use Rattle.tile_eval.specs.Cases.{function_value, IsComputable};
+ghost use Rattle.tile_eval.specs.Reading.{HasFunctionRoom};
+
+use crate::ring::{RowRing, RowRings};
+use domains::{Area, Span};
+use job::{Body, Function, Job};
+use netpbm::Picture;
+use row_kernels::convert_samples_to_row;
+use row_plans::RowState;
+use tile_eval::{evaluate_function_area, find_span_number_at_position};
+
+// Writes a row of a plane, which is counted from the first one of the picture.
+fn write_samples_to_ring(picture: &Picture, plane: usize, row: usize, out: &mut [i32])
+    requires { IsPictureRow picture.now plane row (length out.old) }
+    ensures { EachPlace (length out.old)
+        (λ k. at out.new k ≡ sample_at picture.now plane (pos row) (pos k)) }
+{
+    convert_samples_to_row(&picture.samples(plane), row * out.len(), out);
+}
+
+// Writes a row of a function. The contents of the operands' buffer have no meaning.
+fn write_function_row_to_ring(
+    known: &RowRings,
+    function: &Function,
+    area: &Area,
+    row: i32,
+    out: &mut [i32],
+    temps: &mut [i32],
+)
+    requires function { IsComputable (IsKeptPoint known.now.rings.items) (row_area area.now row)
+        (map case_view function.now.cases.items) (option_map formula_view function.now.otherwise) }
+    requires count { length out.old ≡ len_of area.now.cols }
+    requires room { HasFunctionRoom (len_of area.now.cols) (length temps.old)
+        (map case_view function.now.cases.items) (option_map formula_view function.now.otherwise) }
+    ensures { EachPlace (len_of area.now.cols) (λ k. at out.new k
+        ≡ function_value (sample_in known.now.rings.items) (map case_view function.now.cases.items)
+        (option_map formula_view function.now.otherwise) row (area.now.cols.lo +ℤ pos k)) }
+{
+    if let Some(rows) = Span::new(row, row) {
+        let own = Area {
+            rows,
+            cols: area.cols,
+        };
+        evaluate_function_area(known, function, &own, out, temps);
+    }
+}
+
+// Writes the next row of a stage, from the rows that it reads.
+fn write_stage_row_to_ring(
+    job: &Job,
+    stage: usize,
+    state: &RowState,
+    known: &RowRings,
+    out: &mut [i32],
+    temps: &mut [i32],
+)
+    requires can { IsMakeable (pipeline_in job.now) known.now.rings.items stage state.now }
+    requires right { AreTrueRings (pipeline_in job.now) known.now.rings.items }
+    requires count { length out.old ≡ len_of state.now.area.cols }
+    requires room { HasStageRoom (pipeline_in job.now) stage (len_of state.now.area.cols)
+        (length temps.old) }
+    ensures { IsValueRow (pipeline_in job.now) stage state.now.area (next_row state.now) out.new }
+{
+    let Some(found) = job.stage(stage) else {
+        return;
+    };
+    match found.body() {
+        Body::Plane(plane) => write_samples_to_ring(job.picture(), *plane, state.next, out),
+        Body::Function(function) => {
+            let row = find_span_number_at_position(&state.area.rows, state.next as u32);
+            write_function_row_to_ring(known, function, &state.area, row, out, temps);
+        }
+        Body::Accumulator(_) => {}
+    }
+}
+
+impl RowRing {
+    // Makes the next row, in place of the oldest one.
+    pub(crate) fn make_next_row(
+        &mut self,
+        job: &Job,
+        stage: usize,
+        known: &RowRings,
+        temps: &mut [i32],
+    )
+        requires can { IsMakeable (pipeline_in job.now) known.now.rings.items stage self.old.state }
+        requires some { 0 < self.old.state.kept }
+        requires right { AreTrueRings (pipeline_in job.now) known.now.rings.items }
+        requires room { HasStageRoom (pipeline_in job.now) stage (len_of self.old.state.area.cols)
+            (length temps.old) }
+        ensures { HasOneRowMore (pipeline_in job.now) stage self.old self.new }
+    {
+        write_stage_row_to_ring(job, stage, &self.state, known, &mut self.rows[0], temps);
+        self.rows.rotate_left(1);
+        self.state.next += 1;
+    }
+}

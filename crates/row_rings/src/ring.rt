@@ -1,0 +1,24 @@
+#![tactic(auto)]
+//! The rows of a stage that were made last.
+
+ghost use Rattle.std.specs.Prelude.{◌≡◌, length, All};
+ghost use Rattle.domains.specs.Span.{len_of};
+
+use row_plans::RowState;
+
+/// The rows of a stage that were made last, the oldest first. Until that many rows are made, the first ones have no meaning.
+#[derive(Drop)]
+pub struct RowRing {
+    pub(crate) state: RowState,
+    pub(crate) rows: Vec<Vec<i32>>,
+    // How many numbers are needed beside a row to make it.
+    pub(crate) room: usize,
+    ghost count: { length rows.items ≡ state.kept },
+    ghost width: { All (λ row. length row.items ≡ len_of state.area.cols) rows.items },
+}
+
+/// The rings of stages, each at the place of its stage's number.
+#[derive(Drop)]
+pub struct RowRings {
+    pub(crate) rings: Vec<RowRing>,
+}
