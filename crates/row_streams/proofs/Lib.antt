@@ -1,0 +1,4 @@
+pub mod Lines
+pub mod MadeInOrder
+pub mod Steps
+pub mod StripsAreRows

@@ -1,0 +1,14 @@
+use Rattle.std.proofs.Common.{◌≡◌, ◌+◌, ◌*◌, take}
+use Rattle.job.specs.Kept.{pipeline_in}
+use Rattle.job.specs.Views.{output_view}
+use Rattle.raw_rows.specs.Rows.{raw_rows}
+use Rattle.row_streams.proofs.row_stream.RowStream.encode_next_streamed_rows.Given as goal
+
+abbrev pub invariant-loop-k : goal.invariant-loop-k
+invariant-loop-k l = record {
+  bytes : take (l.k * l.len) l.out ≡ raw_rows (pipeline_in l.fn.self.job.now) (output_view l.fn.self.output.now) l.fn.self.row l.k;
+  row : l.self.row ≡ l.fn.self.row + l.k;
+  job : l.self.job ≡ l.fn.self.job;
+  output : l.self.output ≡ l.fn.self.output;
+  end : l.self.end ≡ l.fn.self.end;
+}
