@@ -1,0 +1,2 @@
+pub mod PiecesAreRows
+pub mod ResultIsStreamed

@@ -1,0 +1,23 @@
+#![tactic(auto)]
+//! How much work the rows of a picture are, by an estimate. No result depends on it.
+
+use job::Job;
+use tile_run::count_point_run_work;
+
+/// Least work at which several threads pay off, in reads and operators: about three milliseconds.
+const WORK_WORTH_STRIPS: u64 = 8_388_608;
+
+// The work of all stages at all their points, as far as it can be counted.
+fn estimate_work_of_streamed_result(job: &Job) -> u64 {
+    let mut work = 0u64;
+    for stage in job.stages() {
+        let points = stage.domain().points();
+        work = work.saturating_add(points.saturating_mul(count_point_run_work(stage)));
+    }
+    work
+}
+
+/// Whether several threads make the rows of a picture sooner than one, as far as its work tells.
+pub(crate) fn is_streamed_result_worth_strips(job: &Job) -> bool {
+    estimate_work_of_streamed_result(job) >= WORK_WORTH_STRIPS
+}
