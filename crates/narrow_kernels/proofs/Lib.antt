@@ -1,0 +1,2 @@
+pub mod NarrowReciprocals
+pub mod NarrowWraps

@@ -1,0 +1,3 @@
+pub mod NarrowOperands
+pub mod NarrowTaps
+pub mod NarrowReciprocals

@@ -1,0 +1,80 @@
+#![tactic(auto)]
+//! Division of numbers of 16 bits by a fixed number, without a division for each number.
+
+ghost use Rattle.std.specs.Prelude.{◌≡◌, ◌<◌, ◌≤◌, ◌*◌, ◌/◌, ◌^◌, ◌+ℤ◌, pos};
+ghost use Rattle.domains.specs.Arithmetic.{floor_div};
+ghost use Rattle.narrow_kernels.specs.NarrowReciprocals.{IsNarrowReciprocal, narrow_complement, narrow_uncomplement};
+
+use crate::narrow_maps::NarrowNumberMap;
+
+/// A divisor, with a factor. The product with the factor, without its last `shift` bits, is used instead of a division.
+#[derive(Clone, Copy, Debug)]
+pub struct NarrowReciprocal {
+    divisor: u32,
+    factor: u32,
+    shift: u32,
+    ghost few: { shift < 32 },
+    ghost small: { factor ≤ 65536 },
+    ghost exact: { IsNarrowReciprocal divisor factor shift },
+}
+
+impl NarrowReciprocal {
+    /// The reciprocal of a divisor from 2 to 2^15.
+    pub(crate) fn new(divisor: u32) -> NarrowReciprocal
+        requires least { 2 ≤ divisor }
+        requires most { divisor ≤ 32768 }
+        ensures { result.divisor ≡ divisor }
+    {
+        let shift = 16 + (divisor - 1).ilog2();
+        let factor = (1u32 << shift) / divisor + 1;
+        NarrowReciprocal {
+            divisor,
+            factor,
+            shift,
+        }
+    }
+
+    /// `n / divisor`.
+    #[inline]
+    fn divide_narrow_magnitude(&self, n: u16) -> u16
+        requires { n < 2 ^ 15 }
+        ensures { result ≡ n / self.now.divisor }
+    {
+        ((u32::from(n) * self.factor) >> self.shift) as u16
+    }
+}
+
+// The quotient by its divisor, rounded down.
+impl NarrowNumberMap for NarrowReciprocal {
+    ghost value = { λ s a. floor_div a (pos s.divisor) };
+
+    ghost fits = { λ _ _. Unit {0} };
+
+    #[inline]
+    fn apply_to_narrow_number(&self, number: i16) -> i16 {
+        undo_narrow_complement(
+            number,
+            self.divide_narrow_magnitude(complement_narrow_number(number)),
+        )
+    }
+}
+
+// How far a number lies from 0, and one below 0 from -1.
+#[inline]
+#[tactic(auto, using(std::proofs::lemmas::Int::ints))]
+fn complement_narrow_number(a: i16) -> u16
+    ensures is { result ≡ narrow_complement a }
+    ensures most { result < 2 ^ 15 }
+{
+    if a < 0 { (-1 - a) as u16 } else { a as u16 }
+}
+
+// `n` if `a` is at least 0, else -1 - `n`.
+#[inline]
+#[tactic(auto, using(std::proofs::lemmas::Int::ints))]
+fn undo_narrow_complement(a: i16, n: u16) -> i16
+    requires { n < 2 ^ 15 }
+    ensures { result ≡ narrow_uncomplement a n }
+{
+    if a < 0 { -1 - n as i16 } else { n as i16 }
+}
