@@ -1,0 +1,3 @@
+pub mod NarrowRows
+pub mod NarrowSums
+pub mod NarrowReady

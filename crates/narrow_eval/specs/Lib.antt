@@ -1,0 +1,3 @@
+pub mod NarrowFormulas
+pub mod NarrowStencils
+pub mod NarrowCases

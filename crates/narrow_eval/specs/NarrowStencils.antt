@@ -1,0 +1,9 @@
+-- What rows of kernels give at points.
+use Rattle.std.specs.Prelude.{ℕ, ℤ, pos, ◌*ℤ◌, List, length, slice_index_or}
+use Rattle.job.specs.Values.{sum_below, factors, kernel_row, kernel_column}
+
+-- what the first n rows of a kernel give at a point
+abbrev pub rows_below : ℕ → List (List ℤ) → (ℤ → ℤ → ℤ) → ℤ → ℤ → ℤ
+rows_below n kernel f r c =
+    sum_below n (λ a. sum_below (length (factors kernel a)) (λ b.
+    slice_index_or (factors kernel a) b (pos 0) *ℤ f (kernel_row kernel r a) (kernel_column kernel c b)))

@@ -1,0 +1,235 @@
+#![tactic(auto)]
+//! Formulas along rows of points, in 16 bits.
+
+ghost use Rattle.std.specs.Prelude.{◌≡◌, ◌≤◌, ◌-◌, ℕ, ◌+◌, ◌+ℤ◌, ℤ, pos, length, List};
+ghost use Rattle.job.specs.Values.{Valuation, formula_value};
+ghost use Rattle.job.specs.WellFormed.{IsFormula};
+ghost use Rattle.job.specs.Views.{formula_view};
+ghost use Rattle.narrow_kernels.specs.NarrowOperands.{narrow_operand_at, ServesNarrow, IsGivenNarrow};
+ghost use Rattle.row_loops.specs.Rows.{EachPlace, at};
+ghost use Rattle.tile_eval.specs.Reading.{ReadsWithin, HasRoom};
+ghost use Rattle.value_ranges.specs.Narrow.{IsNarrow};
+ghost use Rattle.narrow_eval.specs.NarrowFormulas.{NarrowWithin};
+
+use crate::narrow_points::NarrowPoints;
+use crate::narrow_reads::find_narrow_formula_number;
+use crate::narrow_source::NarrowSource;
+use job::Formula;
+use narrow_kernels::{
+    NarrowOperand, fill_narrow_row, keep_narrow_row_where_related, write_narrow_binary_results,
+    write_narrow_literal_op_results, write_narrow_operand, write_narrow_ternary_results,
+    write_narrow_unary_results,
+};
+use row_kernels::RowSpan;
+
+// A formula as an operand along a row of points: what is available, or values computed into `own`.
+#[cycle(evaluate_narrow)]
+fn obtain_narrow_formula_operand<'a, S: NarrowSource>(
+    source: &'a S,
+    points: &RowSpan,
+    formula: &Formula,
+    own: &'a mut [i16],
+    temps: &mut [i16],
+) -> NarrowOperand<'a>
+    requires fits { length own.old ≡ points.now.len }
+    requires formula { IsFormula (formula_view formula.now) }
+    requires narrow { NarrowWithin (S.samples source.now) (formula_view formula.now) points.now.row
+        points.now.col (length own.old) }
+    requires reads { ReadsWithin (S.has source.now) (formula_view formula.now) points.now.row
+        points.now.col (length own.old) }
+    requires room { HasRoom (formula_view formula.now) (length own.old) (length temps.old) }
+    ensures serves { ServesNarrow (length own.old) result }
+    ensures given { IsGivenNarrow result }
+    ensures values { (out : List ℤ) → EachPlace (length own.old) (λ k. narrow_operand_at result out k
+        ≡ formula_value (S.samples source.now) (formula_view formula.now) points.now.row
+        (points.now.col +ℤ pos k)) }
+{
+    let row = NarrowPoints {
+        source,
+        points: *points,
+    };
+    match row.borrow_available_narrow_formula(formula) {
+        Some(it) => it,
+        None => {
+            row.evaluate_narrow(formula, own, temps);
+            NarrowOperand::Line(own)
+        }
+    }
+}
+
+// A formula as the right operand, which is computed into the row itself unless the left one is there.
+#[cycle(evaluate_narrow)]
+fn obtain_right_narrow_formula_operand<'a, S: NarrowSource>(
+    source: &'a S,
+    points: &RowSpan,
+    left: NarrowOperand,
+    formula: &Formula,
+    out: &mut [i16],
+    temps: &'a mut [i16],
+) -> NarrowOperand<'a>
+    requires fits { length out.old ≡ points.now.len }
+    requires formula { IsFormula (formula_view formula.now) }
+    requires narrow { NarrowWithin (S.samples source.now) (formula_view formula.now) points.now.row
+        points.now.col (length out.old) }
+    requires reads { ReadsWithin (S.has source.now) (formula_view formula.now) points.now.row
+        points.now.col (length out.old) }
+    requires own { length out.old ≤ length temps.old }
+    requires room { HasRoom (formula_view formula.now) (length out.old)
+        (length temps.old - length out.old) }
+    ensures left { (k : ℕ) → narrow_operand_at left.entry out.new k
+        ≡ narrow_operand_at left.entry out.old k }
+    ensures serves { ServesNarrow (length out.old) result }
+    ensures values { EachPlace (length out.old) (λ k. narrow_operand_at result out.new k
+        ≡ formula_value (S.samples source.now) (formula_view formula.now) points.now.row
+        (points.now.col +ℤ pos k)) }
+{
+    let (own, rest) = temps.split_at_mut(out.len());
+    match left {
+        NarrowOperand::Written => obtain_narrow_formula_operand(source, points, formula, own, rest),
+        _ => {
+            let row = NarrowPoints {
+                source,
+                points: *points,
+            };
+            row.borrow_or_write_narrow_formula(formula, out, rest)
+        }
+    }
+}
+
+impl<'a, S: NarrowSource> NarrowPoints<'a, S> {
+    // A formula as an operand, which is computed into the row itself if it is not available.
+    #[cycle(evaluate_narrow)]
+    fn borrow_or_write_narrow_formula(
+        &self,
+        formula: &Formula,
+        out: &mut [i16],
+        temps: &mut [i16],
+    ) -> NarrowOperand<'a>
+        requires fits { length out.old ≡ self.now.points.len }
+        requires formula { IsFormula (formula_view formula.now) }
+        requires narrow { NarrowWithin (S.samples self.now.source.now) (formula_view formula.now)
+            self.now.points.row self.now.points.col (length out.old) }
+        requires reads { ReadsWithin (S.has self.now.source.now) (formula_view formula.now)
+            self.now.points.row self.now.points.col (length out.old) }
+        requires room { HasRoom (formula_view formula.now) (length out.old) (length temps.old) }
+        ensures serves { ServesNarrow (length out.old) result }
+        ensures values { EachPlace (length out.old) (λ k. narrow_operand_at result out.new k
+            ≡ formula_value (S.samples self.now.source.now) (formula_view formula.now)
+            self.now.points.row (self.now.points.col +ℤ pos k)) }
+    {
+        match self.borrow_available_narrow_formula(formula) {
+            Some(it) => it,
+            None => {
+                self.evaluate_narrow(formula, out, temps);
+                NarrowOperand::Written
+            }
+        }
+    }
+
+    // The values of a formula, whose reads take what the source has.
+    #[cycle(evaluate_narrow)]
+    pub(crate) fn evaluate_narrow(&self, formula: &Formula, out: &mut [i16], temps: &mut [i16])
+        requires fits { length out.old ≡ self.now.points.len }
+        requires formula { IsFormula (formula_view formula.now) }
+        requires narrow { NarrowWithin (S.samples self.now.source.now) (formula_view formula.now)
+            self.now.points.row self.now.points.col (length out.old) }
+        requires reads { ReadsWithin (S.has self.now.source.now) (formula_view formula.now)
+            self.now.points.row self.now.points.col (length out.old) }
+        requires room { HasRoom (formula_view formula.now) (length out.old) (length temps.old) }
+        ensures { EachPlace (length out.old) (λ k. at out.new k
+            ≡ formula_value (S.samples self.now.source.now) (formula_view formula.now)
+            self.now.points.row (self.now.points.col +ℤ pos k)) }
+    {
+        match formula {
+            Formula::Number(number) => {
+                if let Some(number) = find_narrow_formula_number(*number) {
+                    fill_narrow_row(out, number);
+                }
+            }
+            Formula::Coordinate(_) | Formula::Lookup(_, _) => {}
+            Formula::Read(stage, i, j) => self.write_narrow_read(*stage, i, j, out),
+            Formula::Unary(op, a) => {
+                let of = self.borrow_or_write_narrow_formula(a, out, temps);
+                write_narrow_unary_results(*op, out, of);
+            }
+            Formula::Binary(op, a, b) => {
+                let left = self.borrow_or_write_narrow_formula(a, out, temps);
+                let right = obtain_right_narrow_formula_operand(
+                    self.source,
+                    &self.points,
+                    left,
+                    b,
+                    out,
+                    temps,
+                );
+                write_narrow_binary_results(*op, out, left, right);
+            }
+            Formula::Ternary(op, a, b, c) => {
+                let first = self.borrow_or_write_narrow_formula(a, out, temps);
+                let n = out.len();
+                let (second, rest) = temps.split_at_mut(n);
+                let (third, rest) = rest.split_at_mut(n);
+                let second = obtain_narrow_formula_operand(
+                    self.source,
+                    &self.points,
+                    b,
+                    second,
+                    rest,
+                );
+                let third = obtain_narrow_formula_operand(
+                    self.source,
+                    &self.points,
+                    c,
+                    third,
+                    rest,
+                );
+                write_narrow_ternary_results(*op, out, first, second, third);
+            }
+            Formula::Literal(op, a, number) => {
+                let left = self.borrow_or_write_narrow_formula(a, out, temps);
+                write_narrow_literal_op_results(*op, out, left, *number);
+            }
+            Formula::Select(a, relation, b, first, second) => {
+                self.evaluate_narrow(first, out, temps);
+                let n = out.len();
+                let (left, rest) = temps.split_at_mut(n);
+                let (right, rest) = rest.split_at_mut(n);
+                let (other, rest) = rest.split_at_mut(n);
+                self.evaluate_narrow(a, left, rest);
+                self.evaluate_narrow(b, right, rest);
+                self.evaluate_narrow(second, other, rest);
+                keep_narrow_row_where_related(out, left, *relation, right, other);
+            }
+            Formula::Stencil(stage, divisor, kernel) => {
+                self.evaluate_narrow_stencil(*stage, *divisor, kernel, out)
+            }
+        }
+    }
+}
+
+/// Writes the values of a formula at a row of points, where each number that is computed fits in 16 bits. The contents of `temps`
+/// have no meaning.
+pub fn evaluate_narrow_formula<S: NarrowSource>(
+    source: &S,
+    points: &RowSpan,
+    formula: &Formula,
+    out: &mut [i16],
+    temps: &mut [i16],
+)
+    requires fits { length out.old ≡ points.now.len }
+    requires formula { IsFormula (formula_view formula.now) }
+    requires narrow { EachPlace (length out.old) (λ k. IsNarrow (S.samples source.now)
+        (formula_view formula.now) points.now.row (points.now.col +ℤ pos k)) }
+    requires reads { ReadsWithin (S.has source.now) (formula_view formula.now) points.now.row
+        points.now.col (length out.old) }
+    requires room { HasRoom (formula_view formula.now) (length out.old) (length temps.old) }
+    ensures { EachPlace (length out.old) (λ k. at out.new k
+        ≡ formula_value (S.samples source.now) (formula_view formula.now) points.now.row
+        (points.now.col +ℤ pos k)) }
+{
+    let row = NarrowPoints {
+        source,
+        points: *points,
+    };
+    row.evaluate_narrow(formula, out, temps);
+}
