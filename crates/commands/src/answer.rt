@@ -23,7 +23,7 @@ pub fn compute_eval_reply(
     ensures { IfOk result (λ reply. reply_bytes reply ≡ result_bytes (pipeline_in job)) }
 {
     let planned = choose_tiles_and_schedule_of_command_job(rt.alloc(), job, options)?;
-    match bands::evaluate_in_bands_or_whole(rt, rt.alloc(), &planned.job, &planned.schedule) {
+    match accumulators::evaluate_job(rt, rt.alloc(), &planned.job, &planned.schedule) {
         Ok(answer) => make_result_reply(rt.alloc(), &planned.job, answer),
         Err(RunFault::Memory) => Err(AllocError),
         Err(RunFault::ScratchTooBig(_)) => unreachable!(),

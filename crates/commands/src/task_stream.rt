@@ -13,6 +13,7 @@ use command_inputs::read_input_job;
 use command_line::Options;
 use command_outcomes::{read_command_input_bytes, write_job_reply};
 use std::thread::Threads;
+use streamed_results::prepare_streamed_result;
 use streams::{Sink, Source};
 
 /// Reads a program and a picture. Writes a line for the identity of the program, one for the identity of its input, and one for
@@ -84,7 +85,8 @@ pub fn plan_stream<H: AllocGlobal + Threads + Sync, R: Source, W: Sink>(
     run_eval_check_or_plan(rt, JobQuestion::Plan, options, parameters, reader, writer)
 }
 
-/// Reads the input, and writes the reply to a question about its job. All is computed before the first byte is written.
+/// Reads the input, and writes the reply to a question about its job. All memory is taken before the first byte is written, and no
+/// fault but the writer's comes after it.
 fn run_eval_check_or_plan<H: AllocGlobal + Threads + Sync, R: Source, W: Sink>(
     rt: &H,
     question: JobQuestion,
@@ -102,6 +104,11 @@ fn run_eval_check_or_plan<H: AllocGlobal + Threads + Sync, R: Source, W: Sink>(
 {
     let input = read_command_input_bytes(rt.alloc(), reader)?;
     let job = read_input_job(rt.alloc(), options.sides, parameters, input)?;
+    if let JobQuestion::Answer = question {
+        if let Some(result) = prepare_streamed_result(rt, rt.alloc(), &job)? {
+            return Ok(result.write(writer)?);
+        }
+    }
     let reply = compute_eval_check_or_plan_reply(rt, question, options, job)?;
     Ok(write_job_reply(&reply, writer)?)
 }
