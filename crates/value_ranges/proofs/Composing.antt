@@ -97,10 +97,7 @@ found_wider ranges f one other is wider = record {
 
 pub case_wider : (ranges : List ValueRange) (p : JobCase) (one other : FoundRange) → IsWider one other → IsFoundCase ranges p one
     → IsFoundCase ranges p other
-case_wider ranges p one other wider is = record {
-  formula = found_wider ranges p.formula one other is.formula wider;
-  tests = λ e. is.tests (wider.narrow e);
-}
+case_wider ranges p one other wider is = record { formula = found_wider ranges p.formula one other is.formula wider }
 
 pub elsewhere_wider : (ranges : List ValueRange) (o : Option Formula) (one other : FoundRange) → IsWider one other
     → IsFoundElsewhere ranges o one → IsFoundElsewhere ranges o other

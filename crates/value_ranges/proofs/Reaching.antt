@@ -23,7 +23,7 @@ use Rattle.job.proofs.Solving.{BodyReads-both, near_fits, ranked_is, value_solve
 use Rattle.job.proofs.Steps.{All-from_map, All-both, other_each}
 use Rattle.value_ranges.specs.declared.value_range.ValueRange.{ValueRange}
 use Rattle.value_ranges.specs.declared.formulas.FoundRange.{FoundRange}
-use Rattle.value_ranges.specs.Narrow.{IsNarrow, IsBoundTest, IsNarrowFunction}
+use Rattle.value_ranges.specs.Narrow.{IsNarrow, IsNarrowFunction}
 use Rattle.value_ranges.specs.Ranges.{InRange, AreRanges, IsRangeOf, IsNarrowBody, IsNarrowStage, full_range, range_at}
 use Rattle.value_ranges.specs.inside.Found.{IsRanged, IsRangedAt, IsFoundCase, IsFoundFunction, AreKnown}
 use Rattle.value_ranges.proofs.Ends.{in_full}
@@ -119,7 +119,6 @@ module _ (ranges : List ValueRange) (env : Valuation) (r c : ℤ) (row_fits : Fi
 
     pub function_narrow : found.narrow ≡ true → IsNarrowFunction env cases otherwise r c
     function_narrow e = record {
-      tests = All-weaker IsReadCase (λ p. All IsBoundTest p.tests) (λ p one. one.found_of.tests e) cases read_cases;
       boxes = All-weaker IsReadCase (λ p. ForSome p.box (λ box. HoldsPoint box r c → IsNarrow env p.formula r c))
           (λ p one. λ box there inside. one.found_of.formula.narrow e env r c (case_at p box one there inside)) cases read_cases;
       other = λ f there. (is.other.formula f there).narrow e env r c (other_at f there);

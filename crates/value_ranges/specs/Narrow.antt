@@ -5,7 +5,7 @@ use Rattle.std.specs.Option.{ForSome}
 use Rattle.std.specs.Prelude.{Option}
 use Rattle.domains.specs.Area.{HoldsPoint}
 use Rattle.domains.specs.Index.{index_at}
-use Rattle.job.specs.Formula.{Formula, number, coordinate, read, unary, binary, ternary, literal, lookup, select, stencil, Test, compare, remainder}
+use Rattle.job.specs.Formula.{Formula, number, coordinate, read, unary, binary, ternary, literal, lookup, select, stencil}
 use Rattle.job.specs.Pipeline.{JobCase}
 use Rattle.job.specs.Values.{Valuation, factors, kernel_row, kernel_column, formula_value}
 
@@ -40,13 +40,7 @@ IsNarrow env (select a relation b first second) r c =
     IsNarrow env a r c × IsNarrow env b r c × IsNarrow env first r c × IsNarrow env second r c
 IsNarrow env (stencil g divisor kernel) r c = IsNarrowStencil (env g) kernel r c
 
--- a test of a bound, and none of a remainder
-abbrev pub IsBoundTest : Test → Type 0
-IsBoundTest (compare x relation bound) = Unit {0}
-IsBoundTest (remainder x modulus rest) = ⊥
-
--- at a point each formula of a function is narrow where it counts, and its cases have tests of bounds alone
+-- at a point each formula of a function is narrow where it is evaluated: that of a case at each point of its box
 pub record IsNarrowFunction (env : Valuation) (cases : List JobCase) (otherwise : Option Formula) (r c : ℤ) : Type 0 where
-  pub tests : All (λ p. All IsBoundTest p.tests) cases
   pub boxes : All (λ p. ForSome p.box (λ box. HoldsPoint box r c → IsNarrow env p.formula r c)) cases
   pub other : ForSome otherwise (λ f. IsNarrow env f r c)

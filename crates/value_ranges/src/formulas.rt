@@ -107,18 +107,13 @@ fn find_value_range_of_binary_formula(
 }
 
 // What holds of both.
-pub(crate) fn join_found_value_ranges(
-    first: FoundRange,
-    second: FoundRange,
-    narrow: bool,
-) -> FoundRange
+pub(crate) fn join_found_value_ranges(first: FoundRange, second: FoundRange) -> FoundRange
     ensures first { IsWider first result }
     ensures second { IsWider second result }
-    ensures narrow { result.narrow ≡ true → narrow ≡ true }
 {
     FoundRange {
         range: join_value_ranges(first.range, second.range),
-        narrow: narrow && first.narrow && second.narrow,
+        narrow: first.narrow && second.narrow,
     }
 }
 

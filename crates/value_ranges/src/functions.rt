@@ -1,34 +1,14 @@
 #![tactic(auto)]
 //! Ranges of functions.
 
-ghost use Rattle.std.specs.Prelude.{◌≡◌, map, true, All};
+ghost use Rattle.std.specs.Prelude.{map, All};
 ghost use Rattle.std.specs.Option.{option_map};
-ghost use Rattle.operators.specs.Views.{test_view};
 ghost use Rattle.job.specs.Views.{case_view, formula_view};
-ghost use Rattle.value_ranges.specs.Narrow.{IsBoundTest};
 ghost use Rattle.value_ranges.specs.inside.Found.{IsWider, IsFoundCase, IsFoundElsewhere, IsFoundFunction};
 
 use crate::formulas::{FoundRange, find_value_range_of_formula, join_found_value_ranges};
 use crate::value_range::ValueRange;
 use job::{Formula, Function, JobCase};
-use operators::PointTest;
-
-// Whether a test is one of a bound.
-fn is_narrow_test(test: &PointTest) -> bool
-    ensures { result ≡ true → IsBoundTest (test_view test.now) }
-{
-    match test {
-        PointTest::Compare(_, _, _) => true,
-        PointTest::Remainder(_, _, _) => false,
-    }
-}
-
-// Whether all tests are tests of bounds.
-fn has_narrow_tests(tests: &[PointTest]) -> bool
-    ensures { result ≡ true → All (λ t. IsBoundTest (test_view t)) tests.now }
-{
-    tests.iter().all(|test| is_narrow_test(test))
-}
 
 // What is found of the formula where no case holds: 0, if there is none.
 fn find_value_range_of_otherwise(otherwise: &Option<Formula>, ranges: &[ValueRange]) -> FoundRange
@@ -49,8 +29,7 @@ fn widen_value_range_by_case(found: FoundRange, case: &JobCase, ranges: &[ValueR
     ensures case { IsFoundCase ranges.now (case_view case.now) result }
 {
     let more = find_value_range_of_formula(case.formula(), ranges);
-    let tests = has_narrow_tests(case.tests());
-    join_found_value_ranges(found, more, tests)
+    join_found_value_ranges(found, more)
 }
 
 // The same of several cases.

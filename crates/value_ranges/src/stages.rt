@@ -100,7 +100,7 @@ fn is_narrow_value_range_at(ranges: &[ValueRange], stage: usize) -> bool
 }
 
 /// Whether the stage of this number is a function whose formulas are computed in 16 bits, from stages whose ranges fit in them.
-/// It says no where a coordinate, a table or a test of a remainder occurs.
+/// It says no where a coordinate or a table occurs.
 pub fn is_narrow_stage(job: &Job, ranges: &[ValueRange], stage: usize) -> bool
     requires { AreRanges (pipeline_in job.now) ranges.now }
     ensures function { result ≡ true → IsNarrowStage (pipeline_in job.now) stage }

@@ -9,7 +9,7 @@ use Rattle.job.specs.Reads.{EachRead}
 use Rattle.job.specs.WellFormed.{IsFormula}
 use Rattle.value_ranges.specs.declared.value_range.ValueRange.{ValueRange}
 use Rattle.value_ranges.specs.declared.formulas.FoundRange.{FoundRange}
-use Rattle.value_ranges.specs.Narrow.{IsNarrow, IsBoundTest}
+use Rattle.value_ranges.specs.Narrow.{IsNarrow}
 use Rattle.value_ranges.specs.Ranges.{InRange, AreRanges, range_at}
 
 -- a pair of ends with a number between them
@@ -47,7 +47,6 @@ pub record IsWider (one other : FoundRange) : Type 0 where
 -- it is found of a case
 pub record IsFoundCase (ranges : List ValueRange) (p : JobCase) (found : FoundRange) : Type 0 where
   pub formula : IsFound ranges p.formula found
-  pub tests : found.narrow ≡ true → All IsBoundTest p.tests
 
 -- it is found of what holds where no case does: of 0 where nothing is written
 pub record IsFoundElsewhere (ranges : List ValueRange) (otherwise : Option Formula) (found : FoundRange) : Type 0 where
