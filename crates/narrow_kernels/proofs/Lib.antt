@@ -1,2 +1,7 @@
 pub mod NarrowReciprocals
 pub mod NarrowWraps
+pub mod NarrowSums
+pub mod NarrowColumns
+pub mod NarrowMasks
+pub mod NarrowAffine
+pub mod NarrowClamps

@@ -1,27 +1,60 @@
 //! Loops over rows of numbers of 16 bits: each place becomes what an operator makes of the numbers there, where that fits.
 //!
 //! Words: narrow row, narrow row in place, narrow number, narrow sample, narrow pair, narrow reciprocal, narrow complement, narrow
-//! operand, narrow unary, narrow binary, narrow ternary, narrow literal op, narrow quotient, narrow tap, narrow line, narrow line
-//! times factor.
+//! operand, narrow unary, narrow binary, narrow ternary, narrow literal op, narrow quotient, narrow tap, narrow line, narrow term,
+//! narrow triple, narrow least, narrow greatest, narrow median, narrow difference, narrow clamped difference, narrow absolute, narrow
+//! selection, narrow index column, narrow place, narrow column, narrow affine, narrow offset, prepend narrow addition, prepend
+//! narrow multiplication, prepend narrow right shift, narrow clamped sums, shifted narrow sum.
 #![tactic(auto)]
 
+mod narrow_affine;
+mod narrow_affine_map;
+mod narrow_affine_steps;
+mod narrow_clamped_sums;
 mod narrow_conversions;
+mod narrow_differences;
+mod narrow_gathering;
 mod narrow_loops;
 mod narrow_maps;
+mod narrow_masks;
 mod narrow_operand;
 mod narrow_operators;
 mod narrow_pairs;
 mod narrow_reciprocal;
+mod narrow_selection;
+mod narrow_sums;
 mod narrow_taps;
+mod narrow_terms;
+mod narrow_triples;
 
+pub use narrow_affine::write_narrow_affine_values;
+pub use narrow_affine_map::NarrowAffineMap;
+pub use narrow_clamped_sums::{
+    NarrowClampedShift, write_narrow_clamped_sums_of_three_taps,
+    write_narrow_clamped_sums_of_two_taps,
+};
 pub use narrow_conversions::{
     convert_samples_to_narrow_row, narrow_row_of_wide_numbers, widen_narrow_row,
 };
+pub use narrow_differences::{
+    NarrowClampedDifference, add_narrow_difference_sums, write_narrow_difference_sums,
+};
+pub use narrow_gathering::gather_narrow_index_columns;
 pub use narrow_loops::fill_narrow_row;
+pub use narrow_masks::copy_narrow_row_where_mask_holds;
 pub use narrow_operand::NarrowOperand;
 pub use narrow_operators::{
-    clamp_narrow_operand_to_numbers, keep_narrow_row_where_related, write_narrow_binary_results,
+    clamp_narrow_operand_to_numbers, keep_narrow_row_where_related,
+    write_narrow_absolute_differences, write_narrow_binary_results,
     write_narrow_literal_op_results, write_narrow_operand, write_narrow_ternary_results,
     write_narrow_unary_results,
 };
-pub use narrow_taps::add_narrow_tap_sums;
+pub use narrow_selection::write_narrow_selection;
+pub use narrow_sums::write_narrow_literal_op_results_of_sums;
+pub use narrow_taps::{
+    NarrowTap, add_narrow_tap_sums, wrap_factor_to_narrow_number, write_narrow_tap_sums,
+};
+pub use narrow_triples::{
+    write_narrow_greatest_of_three_lines, write_narrow_least_of_three_lines,
+    write_narrow_medians_of_three_lines,
+};

@@ -18,9 +18,9 @@ pub fn widen_narrow_row(out: &mut [i32], line: &[i16])
     }
 }
 
-// A number of 32 bits that fits in 16.
+/// A number of 32 bits that fits in 16.
 #[inline]
-fn narrow_number_of_wide(number: i32) -> i16
+pub(crate) fn narrow_number_of_wide(number: i32) -> i16
     requires { FitsSigned w16 number }
     ensures { result ≡ number }
 {
@@ -119,6 +119,38 @@ impl<'a> NarrowSamples for EveryThirdNarrowByte<'a> {
     }
 }
 
+// Adjacent pairs of bytes.
+#[derive(Clone, Copy)]
+struct AdjacentNarrowBytePairs<'a>(SpacedPairs<'a>);
+
+impl<'a> NarrowSamples for AdjacentNarrowBytePairs<'a> {
+    ghost has = { λ s k. k < s.0.count × s.0.step ≡ 2 };
+
+    ghost sample = { λ s k. 256 * slice_index s.0.bytes.now (k * s.0.step)
+        + slice_index s.0.bytes.now (k * s.0.step + 1) };
+
+    #[inline]
+    fn load_narrow_sample(&self, k: usize) -> i16 {
+        (256 * u16::from(self.0.bytes[k * 2]) + u16::from(self.0.bytes[k * 2 + 1])) as i16
+    }
+}
+
+// Every third pair of bytes: one colour of three.
+#[derive(Clone, Copy)]
+struct EveryThirdNarrowBytePair<'a>(SpacedPairs<'a>);
+
+impl<'a> NarrowSamples for EveryThirdNarrowBytePair<'a> {
+    ghost has = { λ s k. k < s.0.count × s.0.step ≡ 6 };
+
+    ghost sample = { λ s k. 256 * slice_index s.0.bytes.now (k * s.0.step)
+        + slice_index s.0.bytes.now (k * s.0.step + 1) };
+
+    #[inline]
+    fn load_narrow_sample(&self, k: usize) -> i16 {
+        (256 * u16::from(self.0.bytes[k * 6]) + u16::from(self.0.bytes[k * 6 + 1])) as i16
+    }
+}
+
 // Takes the samples from a place on.
 fn copy_samples_to_narrow_row<V: NarrowSamples>(samples: V, place: usize, out: &mut [i16])
     requires few { (j : ℕ) → V.has samples j → j < 2 ^ 64 }
@@ -156,7 +188,11 @@ fn convert_byte_pairs_to_narrow_row(spaced: &SpacedPairs<'_>, place: usize, out:
         + slice_index spaced.now.bytes.now ((place + k) * spaced.now.step + 1))) }
 {
     prove!(spaced.count <= usize::MAX);
-    copy_samples_to_narrow_row(*spaced, place, out)
+    match spaced.step {
+        2 => copy_samples_to_narrow_row(AdjacentNarrowBytePairs(*spaced), place, out),
+        6 => copy_samples_to_narrow_row(EveryThirdNarrowBytePair(*spaced), place, out),
+        _ => copy_samples_to_narrow_row(*spaced, place, out),
+    }
 }
 
 /// Writes the samples from a place on, which are at most 32,767.

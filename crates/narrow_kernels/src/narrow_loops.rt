@@ -69,9 +69,9 @@ pub(crate) fn write_combination_of_two_narrow_rows<P: NarrowPairMap>(
     }
 }
 
-// One of two numbers. (Both are available when it is called, so that vector code is made.)
+/// One of two numbers. (Both are available when it is called, so that vector code is made.)
 #[inline]
-fn choose_narrow_number(holds: bool, one: i16, other: i16) -> i16
+pub(crate) fn choose_narrow_number(holds: bool, one: i16, other: i16) -> i16
     ensures { result ≡ (if holds then one else other) }
 {
     if holds { one } else { other }

@@ -1,9 +1,9 @@
 #![tactic(auto)]
 //! The operators of formulas on rows of numbers of 16 bits.
 
-ghost use Rattle.std.specs.Prelude.{◌≡◌, length, pos, FitsSigned, if◌then◌else◌};
+ghost use Rattle.std.specs.Prelude.{◌≡◌, ◌-ℤ◌, length, pos, unsigned_abs, FitsSigned, if◌then◌else◌};
 ghost use Rattle.std.specs.Int.{w16};
-ghost use Rattle.domains.specs.Arithmetic.{clamped, floor_div};
+ghost use Rattle.domains.specs.Arithmetic.{wrapped, clamped, floor_div};
 ghost use Rattle.operators.specs.Values.{unary_value, binary_value, ternary_value, literal_value, is_related};
 ghost use Rattle.operators.specs.Limits.{IsDivisor, IsLiteral};
 ghost use Rattle.narrow_kernels.specs.NarrowOperands.{narrow_operand_at, ServesNarrow, IsGivenNarrow};
@@ -20,8 +20,8 @@ use crate::narrow_maps::{
 };
 use crate::narrow_operand::NarrowOperand;
 use crate::narrow_pairs::{
-    NarrowAtLeast, NarrowAtMost, NarrowDifference, NarrowEqual, NarrowGreatest, NarrowLeast,
-    NarrowPairMap, NarrowProduct, NarrowSum, SwappedNarrowPair,
+    NarrowAbsoluteDifference, NarrowAtLeast, NarrowAtMost, NarrowDifference, NarrowEqual,
+    NarrowGreatest, NarrowLeast, NarrowPairMap, NarrowProduct, NarrowSum, SwappedNarrowPair,
 };
 use crate::narrow_reciprocal::NarrowReciprocal;
 use operators::{BinaryOp, LiteralOp, Relation, TernaryOp, UnaryOp};
@@ -39,8 +39,8 @@ pub fn write_narrow_operand(out: &mut [i16], of: NarrowOperand)
     }
 }
 
-// Writes what a change makes of an operand.
-fn map_narrow_operand<C: NarrowNumberMap>(out: &mut [i16], of: NarrowOperand, make: C)
+/// Writes what a change makes of an operand.
+pub(crate) fn map_narrow_operand<C: NarrowNumberMap>(out: &mut [i16], of: NarrowOperand, make: C)
     requires of { ServesNarrow (length out.old) of }
     requires fits { EachPlace (length out.old)
         (λ k. C.fits make (narrow_operand_at of out.old k)) }
@@ -134,6 +134,19 @@ pub fn write_narrow_unary_results(op: UnaryOp, out: &mut [i16], of: NarrowOperan
         UnaryOp::Neg => map_narrow_operand(out, of, NarrowNegation),
         UnaryOp::Abs => map_narrow_operand(out, of, NarrowAbsoluteValue),
     }
+}
+
+/// Writes the absolute values of the differences of two lines, which fit in 16 bits as the differences do.
+pub fn write_narrow_absolute_differences(out: &mut [i16], left: &[i16], right: &[i16])
+    requires left { length left.now ≡ length out.old }
+    requires right { length right.now ≡ length out.old }
+    requires fits { EachPlace (length out.old)
+        (λ k. FitsSigned w16 (wrapped (at left.now k -ℤ at right.now k)) × FitsSigned w16
+        (wrapped (pos (unsigned_abs (wrapped (at left.now k -ℤ at right.now k)))))) }
+    ensures { EachPlace (length out.old) (λ k. at out.new k
+        ≡ wrapped (pos (unsigned_abs (wrapped (at left.now k -ℤ at right.now k))))) }
+{
+    write_combination_of_two_narrow_rows(out, left, right, NarrowAbsoluteDifference);
 }
 
 /// Clamps the numbers of an operand to at least `low`, and then to at most `high`.

@@ -1,10 +1,12 @@
 #![tactic(auto)]
 //! Operations on two numbers of 16 bits.
 
-ghost use Rattle.std.specs.Prelude.{◌≡◌, ℤ, Bool, ◌+ℤ◌, ◌-ℤ◌, ◌*ℤ◌, int_le, FitsSigned};
+ghost use Rattle.std.specs.Prelude.{◌≡◌, ℤ, Bool, ◌+ℤ◌, ◌-ℤ◌, ◌*ℤ◌, int_le, pos, unsigned_abs, FitsSigned};
 ghost use Rattle.std.specs.Int.{w16, int_min, int_max};
 ghost use Rattle.std.specs.Ordering.{int_eq};
 ghost use Rattle.domains.specs.Arithmetic.{wrapped};
+
+use crate::narrow_maps::{NarrowAbsoluteValue, NarrowNumberMap};
 
 /// An operation on two numbers of 16 bits.
 pub trait NarrowPairMap: Copy {
@@ -46,6 +48,24 @@ impl NarrowPairMap for NarrowDifference {
     #[inline]
     fn apply_to_narrow_pair(&self, left: i16, right: i16) -> i16 {
         left - right
+    }
+}
+
+/// The absolute value of their difference.
+#[derive(Clone, Copy)]
+pub(crate) struct NarrowAbsoluteDifference;
+
+impl NarrowPairMap for NarrowAbsoluteDifference {
+    ghost value = { λ _ a b. wrapped (pos (unsigned_abs (wrapped (a -ℤ b)))) };
+
+    ghost fits = { λ _ a b. FitsSigned w16 (wrapped (a -ℤ b))
+        × FitsSigned w16 (wrapped (pos (unsigned_abs (wrapped (a -ℤ b))))) };
+
+    #[inline]
+    fn apply_to_narrow_pair(&self, left: i16, right: i16) -> i16 {
+        NarrowAbsoluteValue.apply_to_narrow_number(NarrowDifference.apply_to_narrow_pair(
+            left, right,
+        ))
     }
 }
 

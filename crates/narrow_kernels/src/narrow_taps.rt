@@ -1,16 +1,27 @@
 #![tactic(auto)]
-//! Sums of products of factors and numbers of 16 bits, wrapped at 16 bits: they are exact once the whole sum fits.
+//! Sums of products of factors and lines of numbers of 16 bits, wrapped at 16 bits.
 
-ghost use Rattle.std.specs.Prelude.{◌≡◌, ◌<◌, ◌≤◌, ◌+◌, ◌+ℤ◌, ◌*ℤ◌, ℤ, List, length};
+ghost use Rattle.std.specs.Prelude.{◌≡◌, ◌<◌, ◌+ℤ◌, ℤ, length};
 ghost use Rattle.std.specs.Int.{w16, int_wrap};
-ghost use Rattle.operators.specs.Values.{sum_below};
-ghost use Rattle.narrow_kernels.specs.NarrowTaps.{tap_total};
+ghost use Rattle.narrow_kernels.specs.NarrowTaps.{tap_at, tap_sum, HaveTapLines};
 ghost use Rattle.row_loops.specs.Rows.{EachPlace, at};
 
+use crate::narrow_loops::fill_narrow_row;
+use crate::narrow_terms::{
+    NarrowTerm, NarrowTermPair, add_narrow_term, multiply_wrapping_narrow_numbers,
+    write_narrow_term,
+};
 use domains::arithmetic::floor_rem;
 
-// A factor wrapped at 16 bits.
-fn wrap_factor_to_narrow_number(factor: i32) -> i16
+/// A factor, and the line of numbers that it multiplies.
+#[derive(Clone, Copy, Debug)]
+pub struct NarrowTap<'a> {
+    pub line: &'a [i16],
+    pub factor: i16,
+}
+
+/// A factor wrapped at 16 bits.
+pub fn wrap_factor_to_narrow_number(factor: i32) -> i16
     ensures { result ≡ int_wrap w16 factor }
 {
     let rest = floor_rem(factor, 65536);
@@ -21,62 +32,59 @@ fn wrap_factor_to_narrow_number(factor: i32) -> i16
     }
 }
 
-// `a + b`, wrapped at 16 bits.
-#[inline]
-#[tactic(auto, using(std::proofs::lemmas::Int::wraps))]
-fn add_wrapping_narrow_numbers(a: i16, b: i16) -> i16
-    ensures { result ≡ int_wrap w16 (a +ℤ b) }
-{
-    a.wrapping_add(b)
-}
+impl<'a> NarrowTerm for NarrowTap<'a> {
+    ghost has = { λ tap k. k < length tap.line.now };
 
-// `a * b`, wrapped at 16 bits.
-#[inline]
-#[tactic(auto, using(std::proofs::lemmas::Int::wraps))]
-fn multiply_wrapping_narrow_numbers(a: i16, b: i16) -> i16
-    ensures { result ≡ int_wrap w16 (a *ℤ b) }
-{
-    a.wrapping_mul(b)
-}
+    ghost exact = { λ tap k. tap_at tap k };
 
-// A sum plus one more product, wrapped at 16 bits.
-#[inline]
-fn add_narrow_tap_product(sum: i16, factor: i16, number: i16) -> i16
-    ensures { result ≡ int_wrap w16 (sum +ℤ int_wrap w16 (factor *ℤ number)) }
-{
-    add_wrapping_narrow_numbers(sum, multiply_wrapping_narrow_numbers(factor, number))
-}
-
-// Adds the products of a factor and the numbers of a line.
-fn add_narrow_line_times_number(out: &mut [i16], line: &[i16], factor: i16)
-    requires line { length line.now ≡ length out.old }
-    ensures { EachPlace (length out.old) (λ k. at out.new k
-        ≡ int_wrap w16 (at out.old k +ℤ int_wrap w16 (factor *ℤ at line.now k))) }
-{
-    for k in 0..out.len() {
-        out[k] = add_narrow_tap_product(out[k], factor, line[k]);
+    #[inline]
+    fn compute_narrow_term_at_place(&self, k: usize) -> i16 {
+        multiply_wrapping_narrow_numbers(self.factor, self.line[k])
     }
 }
 
-// Adds the products of a factor of 32 bits and the numbers of a line.
-fn add_narrow_line_times_factor(out: &mut [i16], line: &[i16], factor: i32)
-    requires line { length line.now ≡ length out.old }
-    ensures { EachPlace (length out.old) (λ k. at out.new k
-        ≡ int_wrap w16 (at out.old k +ℤ factor *ℤ at line.now k)) }
+/// Writes the sums of the products of factors and lines, wrapped at 16 bits.
+pub fn write_narrow_tap_sums(out: &mut [i16], taps: &[NarrowTap<'_>])
+    requires { HaveTapLines (length out.old) taps.now }
+    ensures { EachPlace (length out.old)
+        (λ k. at out.new k ≡ int_wrap w16 (tap_sum taps.now k)) }
 {
-    let wrapped = wrap_factor_to_narrow_number(factor);
-    add_narrow_line_times_number(out, line, wrapped);
+    match taps {
+        [] => fill_narrow_row(out, 0),
+        [a] => write_narrow_term(out, *a),
+        [a, b] => write_narrow_term(out, NarrowTermPair(*a, *b)),
+        [a, b, c] => write_narrow_term(out, NarrowTermPair(*a, NarrowTermPair(*b, *c))),
+        [a, b, c, d] => {
+            let back = NarrowTermPair(*c, *d);
+            write_narrow_term(out, NarrowTermPair(*a, NarrowTermPair(*b, back)));
+        }
+        [a, b, c, d, e, more @ ..] => {
+            let back = NarrowTermPair(*c, NarrowTermPair(*d, *e));
+            write_narrow_term(out, NarrowTermPair(*a, NarrowTermPair(*b, back)));
+            add_narrow_tap_sums(out, more);
+        }
+    }
 }
 
-/// Adds the products of factors and the numbers of a line, which begins with those of the first factor.
-pub fn add_narrow_tap_sums(out: &mut [i16], line: &[i16], factors: &[i32])
-    requires { length line.now + 1 ≡ length out.old + length factors.now }
+/// Adds the sums of the products of factors and lines, wrapped at 16 bits.
+pub fn add_narrow_tap_sums(out: &mut [i16], taps: &[NarrowTap<'_>])
+    requires { HaveTapLines (length out.old) taps.now }
     ensures { EachPlace (length out.old) (λ k. (s : ℤ) → at out.old k ≡ int_wrap w16 s
-        → at out.new k
-        ≡ int_wrap w16 (s +ℤ tap_total (length factors.now) factors.now line.now k)) }
+        → at out.new k ≡ int_wrap w16 (s +ℤ tap_sum taps.now k)) }
 {
-    for b in 0..factors.len() {
-        let part = &line[b..b + out.len()];
-        add_narrow_line_times_factor(out, part, factors[b]);
+    match taps {
+        [] => {}
+        [a] => add_narrow_term(out, *a),
+        [a, b] => add_narrow_term(out, NarrowTermPair(*a, *b)),
+        [a, b, c] => add_narrow_term(out, NarrowTermPair(*a, NarrowTermPair(*b, *c))),
+        [a, b, c, d] => {
+            let back = NarrowTermPair(*c, *d);
+            add_narrow_term(out, NarrowTermPair(*a, NarrowTermPair(*b, back)));
+        }
+        [a, b, c, d, e, more @ ..] => {
+            let back = NarrowTermPair(*c, NarrowTermPair(*d, *e));
+            add_narrow_term(out, NarrowTermPair(*a, NarrowTermPair(*b, back)));
+            add_narrow_tap_sums(out, more);
+        }
     }
 }
