@@ -1,3 +1,5 @@
 pub mod NarrowRows
+pub mod NarrowAddends
 pub mod NarrowSums
 pub mod NarrowReady
+pub mod NarrowMixes

@@ -1,23 +1,17 @@
 -- Cases along a row of points that are computed in 16 bits.
-use Rattle.std.proofs.Common.{arith, ℕ, ℤ, ◌≡◌, ◌-◌, ◌<◌, ◌≤◌, ◌⊎◌, inl, inr, pos, ◌+ℤ◌, ◌≤ℤ◌, ◌↔◌, Bool, true, false, List, [], ◌∷◌, length, take, drop, map}
+use Rattle.std.proofs.Common.{arith, ℕ, ℤ, ◌≡◌, ◌-◌, ◌<◌, ◌≤◌, pos, ◌+ℤ◌, ◌↔◌, List, length, take, drop, map}
 use Rattle.std.proofs.Common.{Option, Some, None, subst, sym, ◌∙◌, refl}
-use Rattle.std.specs.Prelude.{All, if◌then◌else◌, slice_index_or, int_le}
+use Rattle.std.specs.Prelude.{All, slice_index_or}
 use Rattle.std.specs.Option.{ForSome, option_map}
-use Rattle.std.proofs.lemmas.Int.{ints}
-use Rattle.std.proofs.lemmas.Bool.{cases_lt}
-use Rattle.std.proofs.lemmas.List.Elements.{All-head, All-tail, All-take, All-drop}
-use Rattle.std.proofs.lemmas.Bool.Decides.{Decides-int_eq}
+use Rattle.std.proofs.lemmas.List.Elements.{All-take, All-drop}
 use Rattle.domains.specs.Area.{HoldsPoint}
 use Rattle.domains.specs.declared.area.Area.{Area}
-use Rattle.operators.specs.declared.operator.Relation.{Relation}
-use Rattle.operators.specs.declared.operator.Relation.TheVariants.{AtMost, AtLeast, Equals}
-use Rattle.operators.specs.Values.{is_related, all_passed, along}
 use Rattle.job.specs.declared.formula.Formula.{Formula as KeptFormula}
 use Rattle.job.specs.declared.stage.JobCase.{JobCase as KeptCase}
-use Rattle.job.specs.Formula.{Formula, Test, compare, remainder}
+use Rattle.job.specs.Formula.{Formula}
 use Rattle.job.specs.Pipeline.{JobCase}
 use Rattle.job.specs.Values.{Valuation}
-use Rattle.job.specs.Boxes.{Relates, BoundsHold}
+use Rattle.job.specs.Boxes.{BoundsHold}
 use Rattle.job.specs.Reads.{EachRead, other_formula}
 use Rattle.job.specs.Views.{case_view, formula_view}
 use Rattle.job.specs.WellFormed.{IsFormula}
@@ -27,29 +21,11 @@ use Rattle.job.proofs.Steps.{All-from_map, other_each}
 use Rattle.row_loops.specs.Rows.{EachPlace}
 use Rattle.tile_eval.specs.Reading.{HasRoom}
 use Rattle.tile_eval.specs.Cases.{InBox}
+use Rattle.tile_eval.specs.inside.Cases.{IsRoomy}
+use Rattle.tile_eval.proofs.Covering.{cut_len, part_each, roomy_less}
 use Rattle.tile_eval.proofs.Gathering.{room_less}
-use Rattle.value_ranges.specs.Narrow.{IsNarrow, IsBoundTest}
+use Rattle.value_ranges.specs.Narrow.{IsNarrow}
 use Rattle.narrow_eval.specs.NarrowCases.{IsNarrowCase, AreNarrowCases, IsNarrowComputable}
-
--- ---- tests of bounds
-
-le_holds : (a b : ℤ) → a ≤ℤ b → int_le a b ≡ true
-le_holds a b h = sym (by (int_le a b) refl)
-  where
-    by : (t : Bool) → int_le a b ≡ t → true ≡ int_le a b
-    by t e = omega (arith, ints)
-
-related_from : (relation : Relation) (a b : ℤ) → Relates relation a b → is_related relation a b ≡ true
-related_from AtMost a b h = le_holds a b h
-related_from AtLeast a b h = le_holds b a h
-related_from Equals a b h = (Decides-int_eq a b).1 h
-
-bounds_pass : (ts : List Test) (r c : ℤ) → All IsBoundTest ts → BoundsHold ts r c → all_passed ts r c ≡ true
-bounds_pass [] r c is h = refl
-bounds_pass (compare x relation bound ∷ ts) r c is h =
-    let first = related_from relation (along x r c) bound h.0 in
-    rw first (bounds_pass ts r c (All-tail IsBoundTest (compare x relation bound) ts is) h.1)
-bounds_pass (remainder x modulus rest ∷ ts) r c is h = absurd (All-head IsBoundTest (remainder x modulus rest) ts is)
 
 -- ---- a case at a point of the domain
 
@@ -73,13 +49,10 @@ module _ (has : ℕ → ℤ → ℤ → Type 0) (env : Valuation) (r c : ℤ) (n
       let column : ℤ = c +ℤ pos k in
       let box = is.boxes i d l in
       record {
-        passed = (
-          (λ e. let there = passed_in_box is.domain p.tests r column (is.inside k lk) e in
-              subst (λ (b : Option Area). InBox b r column) (sym (box ∙ there.1)) there.2),
-          (λ h. bounds_pass p.tests r column ((is.narrow k lk).tests i d l)
-              (cut_holds (BoundsHold p.tests) is.domain p.box r column
-              (subst (IsCut (BoundsHold p.tests) is.domain) (sym box) (box_is_cut is.domain p.tests)) h)),
-        );
+        passed = λ e. let there = passed_in_box is.domain p.tests r column (is.inside k lk) e in
+            subst (λ (b : Option Area). InBox b r column) (sym (box ∙ there.1)) there.2;
+        bounds = λ h. cut_holds (BoundsHold p.tests) is.domain p.box r column
+            (subst (IsCut (BoundsHold p.tests) is.domain) (sym box) (box_is_cut is.domain p.tests)) h;
         reads = λ h. let there = in_some p.box r column h in (is.reads k lk).0 i d l there.0 there.1 there.2;
         narrow = λ h. let there = in_some p.box r column h in (is.narrow k lk).boxes i d l there.0 there.1 there.2;
       }
@@ -87,11 +60,10 @@ module _ (has : ℕ → ℤ → ℤ → Type 0) (env : Valuation) (r c : ℤ) (n
   each_formula : All (λ p. IsFormula p.formula) ps
   each_formula = All-from_map IsFormula (λ p. p.formula) ps (All-left IsFormula (map (λ p. p.formula) ps) (other_formula o) is.formulas)
 
-  pub cases_ready : All (λ p. EachPlace n (λ k. IsNarrowCase has env p r (c +ℤ pos k)) × IsFormula p.formula × HasRoom p.formula n room) ps
+  pub cases_ready : All (λ p. EachPlace n (λ k. IsNarrowCase has env p r (c +ℤ pos k)) × IsRoomy n room p) ps
   cases_ready = λ i d l. (
     case_ready i d l,
-    each_formula i d l,
-    room_less (slice_index_or ps i d).formula n n (room - n) room (omega arith) (omega arith) (is.capacity.operands i d l),
+    record { formula = each_formula i d l; tests = is.tests i d l; row = is.capacity.row; operands = is.capacity.operands i d l },
   )
 
   pub other_ready : ForSome o (λ f. EachPlace n (λ k. EachRead has f r (c +ℤ pos k) × IsNarrow env f r (c +ℤ pos k)) × IsFormula f × HasRoom f n room)
@@ -110,23 +82,26 @@ narrow_behind has env r c n room ps o h = record {
 }
   where
     P : KeptCase → Type 0
-    P p = EachPlace n (λ k. IsNarrowCase has env (case_view p) r (c +ℤ pos k)) × IsFormula (case_view p).formula
-        × HasRoom (case_view p).formula n room
+    P p = EachPlace n (λ k. IsNarrowCase has env (case_view p) r (c +ℤ pos k)) × IsRoomy n room (case_view p)
 
--- a number of a row, where a case was taken on an interval
-pub case_taken : (passed : Bool) (x y z : ℤ) (a b k : ℕ) → (passed ≡ true → (a ≤ k) × (k < b)) → (a ≤ k → k < b → passed ≡ true)
-    → (a ≤ k → k < b → z ≡ x) → ((k < a) ⊎ (b ≤ k) → z ≡ y) → z ≡ if passed then x else y
-case_taken true x y z a b k held back inside outside = let in_it = held refl in inside in_it.0 in_it.1
-case_taken false x y z a b k held back inside outside = by (cases_lt k a) (cases_lt k b)
-  where
-    by : (k < a) ⊎ (a ≤ k) → (k < b) ⊎ (b ≤ k) → z ≡ y
-    by (inl h) l = outside (inl h)
-    by (inr h) (inl l) = let no : false ≡ true = back h l in absurd (cc)
-    by (inr h) (inr l) = outside (inr l)
-
-pub case_skipped : (passed : Bool) (x y : ℤ) → (passed ≡ true → ⊥) → y ≡ if passed then x else y
-case_skipped true x y never = absurd (never refl)
-case_skipped false x y never = refl
+-- what is ready along a row is so along a part
+pub narrow_part : (has : ℕ → ℤ → ℤ → Type 0) (env : Valuation) (row col r c : ℤ) (a b room : ℕ) (xs : List ℤ) (ps : List KeptCase)
+    (o : Option KeptFormula) → a < b → b ≤ length xs → r ≡ row → c ≡ col +ℤ pos a
+    → AreNarrowCases has env row col (length xs) room ps o → AreNarrowCases has env r c (length (take (b - a) (drop a xs))) room ps o
+narrow_part has env row col r c a b room xs ps o l le e f h =
+    let less : length (take (b - a) (drop a xs)) ≤ length xs = rw (cut_len a b xs l le) (omega arith) in
+    record {
+      cases = λ i d m. (
+        part_each (IsNarrowCase has env (case_view (slice_index_or ps i d))) row col r c a b xs l le e f (λ k n low high. (h.cases i d m).0 k n),
+        roomy_less (length xs) _ room (case_view (slice_index_or ps i d)) less (h.cases i d m).1,
+      );
+      other = λ g is.
+          let it = h.other g is in (
+            part_each (λ x y. EachRead has g x y × IsNarrow env g x y) row col r c a b xs l le e f (λ k n low high. it.0 k n),
+            it.1,
+            room_less g (length xs) _ room room less (omega arith) it.2,
+          );
+    }
 
 -- a function that is computable has cases that are ready
 pub ready_from : (has : ℕ → ℤ → ℤ → Type 0) (env : Valuation) (r c : ℤ) (n room : ℕ) (ps : List KeptCase) (o : Option KeptFormula)
@@ -135,7 +110,7 @@ pub ready_from : (has : ℕ → ℤ → ℤ → Type 0) (env : Valuation) (r c :
 ready_from has env r c n room ps o qs u e f is =
     let ready : AreNarrowCases has env r c n room ps o = record {
       cases =
-          All-from_map (λ p. EachPlace n (λ k. IsNarrowCase has env p r (c +ℤ pos k)) × IsFormula p.formula × HasRoom p.formula n room)
+          All-from_map (λ p. EachPlace n (λ k. IsNarrowCase has env p r (c +ℤ pos k)) × IsRoomy n room p)
           case_view ps (cases_ready has env r c n room (map case_view ps) (option_map formula_view o) is);
       other = other_ready has env r c n room (map case_view ps) (option_map formula_view o) is;
     } in

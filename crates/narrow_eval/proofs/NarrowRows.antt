@@ -1,5 +1,5 @@
 -- Formulas that are narrow at each point of a row.
-use Rattle.std.proofs.Common.{arith, ℕ, ℤ, ◌≡◌, ◌<◌, ◌≤◌, ◌/◌, pos, negsuc, ◌+ℤ◌, subst, sym}
+use Rattle.std.proofs.Common.{arith, ℕ, ℤ, ◌≡◌, ◌<◌, ◌≤◌, ◌/◌, pos, negsuc, ◌+ℤ◌, subst, sym, ap, ◌∙◌}
 use Rattle.std.proofs.lemmas.Int.{ints}
 use Rattle.std.proofs.Math.Nat.{div-le_self}
 use Rattle.domains.specs.Arithmetic.{floor_div}
@@ -16,7 +16,7 @@ use Rattle.narrow_eval.specs.NarrowFormulas.{NarrowWithin}
 pub narrow_along : (env : Valuation) (r c : ℤ) (n : ℕ) (f : Formula) → ((k : ℕ) → k < n → IsNarrow env f r (c +ℤ pos k)) → NarrowWithin env f r c n
 narrow_along env r c n (number m) h = h
 narrow_along env r c n (coordinate x) h = h
-narrow_along env r c n (read g i j) h = tt
+narrow_along env r c n (read g i j) h = h
 narrow_along env r c n (unary op a) h = (narrow_along env r c n a (λ k l. (h k l).0), λ k l. (h k l).1)
 narrow_along env r c n (binary op a b) h =
     (narrow_along env r c n a (λ k l. (h k l).0), narrow_along env r c n b (λ k l. (h k l).1), λ k l. (h k l).2)
@@ -24,6 +24,7 @@ narrow_along env r c n (ternary op a b d) h = (
   narrow_along env r c n a (λ k l. (h k l).0),
   narrow_along env r c n b (λ k l. (h k l).1),
   narrow_along env r c n d (λ k l. (h k l).2),
+  λ k l. (h k l).3,
 )
 narrow_along env r c n (literal op a m) h = (narrow_along env r c n a (λ k l. (h k l).0), λ k l. (h k l).1)
 narrow_along env r c n (lookup t a) h = h
@@ -45,6 +46,13 @@ binary_fits op x y a b e f h =
 
 pub literal_fits : (op : LiteralOp) (n : ℕ) (x a : ℤ) → x ≡ a → Fits16 (literal_value op a n) → Fits16 (literal_value op x n)
 literal_fits op n x a e h = subst (λ (z : ℤ). Fits16 (literal_value op z n)) (sym e) h
+
+quotient_by_one : (x : ℤ) → floor_div x (pos 1) ≡ x
+quotient_by_one (pos n) = ap pos (omega arith)
+quotient_by_one (negsuc n) = ap negsuc (omega arith)
+
+pub same_as_quotient : (x z : ℤ) (d : ℕ) → d ≡ 1 → x ≡ z → x ≡ floor_div z (pos d)
+same_as_quotient x z d one e = rw one (e ∙ sym (quotient_by_one z))
 
 -- a quotient lies no further from 0
 pub quotient_fits : (x : ℤ) (d : ℕ) → Fits16 x → Fits16 (floor_div x (pos d))

@@ -1,3 +1,6 @@
 pub mod NarrowFormulas
 pub mod NarrowStencils
+pub mod NarrowSums
 pub mod NarrowCases
+pub mod NarrowOperators
+pub mod NarrowMixes

@@ -13,10 +13,11 @@ FitsWithin env f r c n = EachPlace n (λ k. Fits16 (formula_value env f r (c +�
 abbrev pub NarrowWithin : Valuation → Formula → ℤ → ℤ → ℕ → Type 0
 NarrowWithin env (number m) r c n = FitsWithin env (number m) r c n
 NarrowWithin env (coordinate x) r c n = EachPlace n (λ k. ⊥)
-NarrowWithin env (read g i j) r c n = Unit {0}
+NarrowWithin env (read g i j) r c n = FitsWithin env (read g i j) r c n
 NarrowWithin env (unary op a) r c n = NarrowWithin env a r c n × FitsWithin env (unary op a) r c n
 NarrowWithin env (binary op a b) r c n = NarrowWithin env a r c n × NarrowWithin env b r c n × FitsWithin env (binary op a b) r c n
-NarrowWithin env (ternary op a b d) r c n = NarrowWithin env a r c n × NarrowWithin env b r c n × NarrowWithin env d r c n
+NarrowWithin env (ternary op a b d) r c n =
+    NarrowWithin env a r c n × NarrowWithin env b r c n × NarrowWithin env d r c n × FitsWithin env (ternary op a b d) r c n
 NarrowWithin env (literal op a m) r c n = NarrowWithin env a r c n × FitsWithin env (literal op a m) r c n
 NarrowWithin env (lookup t a) r c n = EachPlace n (λ k. ⊥)
 NarrowWithin env (select a relation b first second) r c n =

@@ -1,15 +1,22 @@
 //! Formulas and functions along rows of points, computed in 16 bits where each number fits.
 //!
-//! Words: narrow formula, narrow function, narrow stencil, narrow source, narrow read, narrow case, narrow points.
+//! Words: narrow formula, narrow function, narrow stencil, narrow source, narrow read, narrow case, narrow points,
+//! narrow sum, narrow addend, narrow mix.
 #![tactic(auto)]
 
+mod narrow_addends;
 mod narrow_cases;
+mod narrow_extremes;
 mod narrow_formulas;
+mod narrow_mixes;
 mod narrow_points;
 mod narrow_reads;
 mod narrow_source;
 mod narrow_stencils;
+mod narrow_sum;
+mod narrow_sum_formulas;
 
 pub use narrow_cases::evaluate_narrow_function;
 pub use narrow_formulas::evaluate_narrow_formula;
+pub use narrow_mixes::{is_narrow_mix, try_narrow_mix};
 pub use narrow_source::NarrowSource;

@@ -1,16 +1,20 @@
 #![tactic(auto)]
 //! Functions by cases along a row of points, in 16 bits.
 
-ghost use Rattle.std.specs.Prelude.{◌≡◌, ◌≤◌, ◌<◌, ◌+ℤ◌, ◌↔◌, ◌⊎◌, ℕ, ℤ, pos, length, map, true, All, IfSome, IfNone, if◌then◌else◌};
+ghost use Rattle.std.specs.Prelude.{◌≡◌, ◌≤◌, ◌<◌, ◌+ℤ◌, ◌↔◌, ◌⊎◌, ℕ, ℤ, List, pos, length, map, true, false, All, IfSome, IfNone, if◌then◌else◌};
 ghost use Rattle.std.specs.Option.{option_map, option_map_or, ForSome};
 ghost use Rattle.domains.specs.Area.{HoldsPoint};
-ghost use Rattle.job.specs.Values.{all_passed, formula_value};
+ghost use Rattle.job.specs.Boxes.{BoundsHold};
+ghost use Rattle.job.specs.Formula.{Test};
 ghost use Rattle.job.specs.Reads.{EachRead};
-ghost use Rattle.job.specs.WellFormed.{IsFormula};
+ghost use Rattle.job.specs.Values.{all_passed, formula_value};
 ghost use Rattle.job.specs.Views.{case_view, formula_view};
+ghost use Rattle.job.specs.WellFormed.{IsFormula, IsTest};
+ghost use Rattle.row_kernels.specs.RowMask.{HoldsWhere};
 ghost use Rattle.row_loops.specs.Rows.{EachPlace, at};
 ghost use Rattle.tile_eval.specs.Reading.{HasRoom};
-ghost use Rattle.tile_eval.specs.Cases.{function_value};
+ghost use Rattle.tile_eval.specs.Cases.{InBox, function_value};
+ghost use Rattle.tile_eval.specs.inside.Cases.{IsRoomy};
 ghost use Rattle.value_ranges.specs.Narrow.{IsNarrow};
 ghost use Rattle.narrow_eval.specs.NarrowCases.{IsNarrowCase, AreNarrowCases, IsNarrowComputable};
 
@@ -18,8 +22,8 @@ use crate::narrow_points::NarrowPoints;
 use crate::narrow_source::NarrowSource;
 use domains::Area;
 use job::{Formula, Function, JobCase};
-use narrow_kernels::fill_narrow_row;
-use row_kernels::RowSpan;
+use narrow_kernels::{copy_narrow_row_where_mask_holds, fill_narrow_row};
+use row_kernels::{RowMask, RowSpan, find_row_mask};
 
 // The places of a row of points that lie in an area: the first one, and the end.
 fn find_narrow_case_interval(area: &Area, points: &RowSpan) -> Option<(usize, usize)>
@@ -41,51 +45,55 @@ fn find_narrow_case_interval(area: &Area, points: &RowSpan) -> Option<(usize, us
     ))
 }
 
+// Whether in each column the tests of the one hold if those of the other do not.
+fn are_narrow_case_masks_complementary(first: RowMask, second: RowMask) -> bool
+    ensures { result ≡ true → (xs ys : List Test) (r c : ℤ) → HoldsWhere first xs r
+        → HoldsWhere second ys r → BoundsHold xs r c → BoundsHold ys r c
+        → all_passed xs r c ≡ false → all_passed ys r c ≡ true }
+{
+    match (first, second) {
+        (RowMask::Leaving(2, 0), RowMask::Leaving(2, 1)) => true,
+        (RowMask::Leaving(2, 1), RowMask::Leaving(2, 0)) => true,
+        _ => false,
+    }
+}
+
 impl<S: NarrowSource> NarrowPoints<'_, S> {
-    // The values of a formula at a part of the points.
-    fn evaluate_narrow_formula_on_part(
-        &self,
-        formula: &Formula,
-        from: usize,
-        to: usize,
-        out: &mut [i16],
-        temps: &mut [i16],
-    )
+    // A case over a row that lies in its box.
+    fn overwrite_narrow_case_in_box(&self, case: &JobCase, out: &mut [i16], temps: &mut [i16])
+        requires some { 0 < length out.old }
         requires fits { length out.old ≡ self.now.points.len }
-        requires order { from < to }
-        requires most { to ≤ length out.old }
-        requires formula { IsFormula (formula_view formula.now) }
-        requires narrow { EachPlace (length out.old) (λ k. from ≤ k → k < to
-            → IsNarrow (S.samples self.now.source.now) (formula_view formula.now)
+        requires inside { EachPlace (length out.old) (λ k. InBox (case_view case.now).box
             self.now.points.row (self.now.points.col +ℤ pos k)) }
-        requires reads { EachPlace (length out.old) (λ k. from ≤ k → k < to
-            → EachRead (S.has self.now.source.now) (formula_view formula.now)
-            self.now.points.row (self.now.points.col +ℤ pos k)) }
-        requires room { HasRoom (formula_view formula.now) (length out.old) (length temps.old) }
-        ensures inside { EachPlace (length out.old) (λ k. from ≤ k → k < to → at out.new k
-            ≡ formula_value (S.samples self.now.source.now) (formula_view formula.now)
-            self.now.points.row (self.now.points.col +ℤ pos k)) }
-        ensures outside { EachPlace (length out.old) (λ k. (k < from) ⊎ (to ≤ k)
-            → at out.new k ≡ at out.old k) }
+        requires ready { EachPlace (length out.old) (λ k. IsNarrowCase (S.has self.now.source.now)
+            (S.samples self.now.source.now)
+            (case_view case.now) self.now.points.row (self.now.points.col +ℤ pos k)) }
+        requires roomy { IsRoomy (length out.old) (length temps.old) (case_view case.now) }
+        ensures { EachPlace (length out.old) (λ k. at out.new k
+            ≡ (if all_passed (case_view case.now).tests self.now.points.row
+            (self.now.points.col +ℤ pos k)
+            then formula_value (S.samples self.now.source.now) (case_view case.now).formula
+            self.now.points.row (self.now.points.col +ℤ pos k) else at out.old k)) }
     {
-        let points = self.points.slice_points(from, to);
-        let inner = NarrowPoints {
-            source: self.source,
-            points,
-        };
-        inner.evaluate_narrow(formula, &mut out[from..to], temps);
+        match find_row_mask(case.tests(), &self.points) {
+            RowMask::Nowhere => {}
+            RowMask::Everywhere => self.evaluate_narrow(case.formula(), out, temps),
+            passed => {
+                let (mine, rest) = temps.split_at_mut(out.len());
+                self.evaluate_narrow(case.formula(), mine, rest);
+                copy_narrow_row_where_mask_holds(out, mine, case.tests(), passed, &self.points);
+            }
+        }
     }
 
-    // Takes the values of a case in its box, where its tests hold.
+    // Takes the values of a case, where its tests hold.
     fn overwrite_narrow_case(&self, case: &JobCase, out: &mut [i16], temps: &mut [i16])
         requires fits { length out.old ≡ self.now.points.len }
         requires some { 0 < length out.old }
         requires case { EachPlace (length out.old) (λ k. IsNarrowCase (S.has self.now.source.now)
-            (S.samples self.now.source.now) (case_view case.now) self.now.points.row
-            (self.now.points.col +ℤ pos k)) }
-        requires formula { IsFormula (case_view case.now).formula }
-        requires room { HasRoom (case_view case.now).formula (length out.old)
-            (length temps.old) }
+            (S.samples self.now.source.now)
+            (case_view case.now) self.now.points.row (self.now.points.col +ℤ pos k))
+            × IsRoomy (length out.old) (length temps.old) (case_view case.now) }
         ensures { EachPlace (length out.old) (λ k. at out.new k
             ≡ (if all_passed (case_view case.now).tests self.now.points.row
             (self.now.points.col +ℤ pos k)
@@ -96,7 +104,12 @@ impl<S: NarrowSource> NarrowPoints<'_, S> {
             return;
         };
         if let Some((from, to)) = find_narrow_case_interval(area, &self.points) {
-            self.evaluate_narrow_formula_on_part(case.formula(), from, to, out, temps);
+            let points = self.points.slice_points(from, to);
+            let inner = NarrowPoints {
+                source: self.source,
+                points,
+            };
+            inner.overwrite_narrow_case_in_box(case, &mut out[from..to], temps);
         }
     }
 
@@ -129,7 +142,181 @@ impl<S: NarrowSource> NarrowPoints<'_, S> {
         }
     }
 
-    // The values of a function: the cases are written from the last to the first, so that the first one holds.
+    // The part of a row where the tests of a case hold, if this is known without testing each point: its first place and its end.
+    fn find_narrow_case_interval_by_tests(&self, case: &JobCase) -> Option<(usize, usize)>
+        requires some { 0 < self.now.points.len }
+        requires ready { EachPlace self.now.points.len (λ k. IsNarrowCase (S.has self.now.source.now)
+            (S.samples self.now.source.now)
+            (case_view case.now) self.now.points.row (self.now.points.col +ℤ pos k)) }
+        requires tests { All IsTest (case_view case.now).tests }
+        ensures most { IfSome result (λ p. (p.0 ≤ p.1) × (p.1 ≤ self.now.points.len)) }
+        ensures held { IfSome result (λ p. EachPlace self.now.points.len
+            (λ k. (all_passed (case_view case.now).tests self.now.points.row
+            (self.now.points.col +ℤ pos k) ≡ true) ↔ ((p.0 ≤ k) × (k < p.1)))) }
+    {
+        let Some(area) = case.area() else {
+            return Some((0, 0));
+        };
+        let Some((from, to)) = find_narrow_case_interval(area, &self.points) else {
+            return Some((0, 0));
+        };
+        match find_row_mask(case.tests(), &self.points) {
+            RowMask::Nowhere => Some((0, 0)),
+            RowMask::Everywhere => Some((from, to)),
+            _ => None,
+        }
+    }
+
+    // The part of a row where a case's tests hold unless those of the case before it do, if known without testing each point.
+    fn find_narrow_case_interval_where_earlier_fails(
+        &self,
+        before: &JobCase,
+        case: &JobCase,
+    ) -> Option<(usize, usize)>
+        requires some { 0 < self.now.points.len }
+        requires before { EachPlace self.now.points.len (λ k. IsNarrowCase (S.has self.now.source.now)
+            (S.samples self.now.source.now)
+            (case_view before.now) self.now.points.row (self.now.points.col +ℤ pos k)) }
+        requires ready { EachPlace self.now.points.len (λ k. IsNarrowCase (S.has self.now.source.now)
+            (S.samples self.now.source.now)
+            (case_view case.now) self.now.points.row (self.now.points.col +ℤ pos k)) }
+        requires first { All IsTest (case_view before.now).tests }
+        requires tests { All IsTest (case_view case.now).tests }
+        ensures most { IfSome result (λ p. (p.0 ≤ p.1) × (p.1 ≤ self.now.points.len)) }
+        ensures inside { IfSome result (λ p. EachPlace self.now.points.len (λ k. p.0 ≤ k → k < p.1
+            → InBox (case_view case.now).box self.now.points.row (self.now.points.col +ℤ pos k))) }
+        ensures held { IfSome result (λ p. EachPlace self.now.points.len
+            (λ k. all_passed (case_view before.now).tests self.now.points.row
+            (self.now.points.col +ℤ pos k) ≡ false
+            → (all_passed (case_view case.now).tests self.now.points.row
+            (self.now.points.col +ℤ pos k) ≡ true) ↔ ((p.0 ≤ k) × (k < p.1)))) }
+    {
+        let (Some(area), Some(box_before)) = (case.area(), before.area()) else {
+            return None;
+        };
+        let (from, to) = find_narrow_case_interval(area, &self.points)?;
+        let (first, second) = find_narrow_case_interval(box_before, &self.points)?;
+        let passed = find_row_mask(case.tests(), &self.points);
+        if first == from
+            && second == to
+            && are_narrow_case_masks_complementary(
+                find_row_mask(before.tests(), &self.points),
+                passed,
+            )
+        {
+            Some((from, to))
+        } else {
+            None
+        }
+    }
+
+    // The values of a formula at a part of the points.
+    fn evaluate_narrow_formula_on_part(
+        &self,
+        formula: &Formula,
+        from: usize,
+        to: usize,
+        out: &mut [i16],
+        temps: &mut [i16],
+    )
+        requires fits { length out.old ≡ self.now.points.len }
+        requires order { from ≤ to }
+        requires most { to ≤ length out.old }
+        requires formula { IsFormula (formula_view formula.now) }
+        requires narrow { EachPlace (length out.old) (λ k. from ≤ k → k < to
+            → IsNarrow (S.samples self.now.source.now) (formula_view formula.now)
+            self.now.points.row (self.now.points.col +ℤ pos k)) }
+        requires reads { EachPlace (length out.old) (λ k. from ≤ k → k < to
+            → EachRead (S.has self.now.source.now) (formula_view formula.now)
+            self.now.points.row (self.now.points.col +ℤ pos k)) }
+        requires room { HasRoom (formula_view formula.now) (length out.old) (length temps.old) }
+        ensures inside { EachPlace (length out.old) (λ k. from ≤ k → k < to → at out.new k
+            ≡ formula_value (S.samples self.now.source.now) (formula_view formula.now)
+            self.now.points.row (self.now.points.col +ℤ pos k)) }
+        ensures outside { EachPlace (length out.old) (λ k. (k < from) ⊎ (to ≤ k)
+            → at out.new k ≡ at out.old k) }
+    {
+        if from < to {
+            let points = self.points.slice_points(from, to);
+            let inner = NarrowPoints {
+                source: self.source,
+                points,
+            };
+            inner.evaluate_narrow(formula, &mut out[from..to], temps);
+        }
+    }
+
+    // The values of a function at a part of the points.
+    #[cycle(evaluate_narrow_cases)]
+    fn evaluate_narrow_cases_on_part(
+        &self,
+        cases: &[JobCase],
+        otherwise: &Option<Formula>,
+        from: usize,
+        to: usize,
+        out: &mut [i16],
+        temps: &mut [i16],
+    )
+        requires fits { length out.old ≡ self.now.points.len }
+        requires order { from ≤ to }
+        requires most { to ≤ length out.old }
+        requires ready { AreNarrowCases (S.has self.now.source.now) (S.samples self.now.source.now) self.now.points.row
+            self.now.points.col (length out.old) (length temps.old) cases.now otherwise.now }
+        ensures inside { EachPlace (length out.old) (λ k. from ≤ k → k < to → at out.new k
+            ≡ function_value (S.samples self.now.source.now) (map case_view cases.now)
+            (option_map formula_view otherwise.now) self.now.points.row
+            (self.now.points.col +ℤ pos k)) }
+        ensures outside { EachPlace (length out.old) (λ k. (k < from) ⊎ (to ≤ k)
+            → at out.new k ≡ at out.old k) }
+    {
+        if from < to {
+            let points = self.points.slice_points(from, to);
+            let inner = NarrowPoints {
+                source: self.source,
+                points,
+            };
+            inner.evaluate_narrow_cases(cases, otherwise, &mut out[from..to], temps);
+        }
+    }
+
+    // The values of a function at points where not all tests of the case before hold.
+    #[cycle(evaluate_narrow_cases)]
+    fn evaluate_narrow_cases_where_earlier_fails(
+        &self,
+        before: &JobCase,
+        cases: &[JobCase],
+        otherwise: &Option<Formula>,
+        out: &mut [i16],
+        temps: &mut [i16],
+    )
+        requires some { 0 < length out.old }
+        requires fits { length out.old ≡ self.now.points.len }
+        requires before { EachPlace (length out.old) (λ k. IsNarrowCase (S.has self.now.source.now)
+            (S.samples self.now.source.now)
+            (case_view before.now) self.now.points.row (self.now.points.col +ℤ pos k)) }
+        requires tests { All IsTest (case_view before.now).tests }
+        requires ready { AreNarrowCases (S.has self.now.source.now) (S.samples self.now.source.now) self.now.points.row
+            self.now.points.col (length out.old) (length temps.old) cases.now otherwise.now }
+        ensures { EachPlace (length out.old) (λ k. all_passed (case_view before.now).tests
+            self.now.points.row (self.now.points.col +ℤ pos k) ≡ false → at out.new k
+            ≡ function_value (S.samples self.now.source.now) (map case_view cases.now)
+            (option_map formula_view otherwise.now) self.now.points.row
+            (self.now.points.col +ℤ pos k)) }
+    {
+        if let [case, rest @ ..] = cases {
+            if let Some((from, to)) = self.find_narrow_case_interval_where_earlier_fails(
+                before, case,
+            ) {
+                self.evaluate_narrow_cases_on_part(rest, otherwise, 0, from, out, temps);
+                self.evaluate_narrow_cases_on_part(rest, otherwise, to, out.len(), out, temps);
+                return self.evaluate_narrow_formula_on_part(case.formula(), from, to, out, temps);
+            }
+        }
+        self.evaluate_narrow_cases(cases, otherwise, out, temps);
+    }
+
+    // The values of a function. If a case holds on one interval of a row, later cases are evaluated only outside that interval.
+    #[cycle(evaluate_narrow_cases)]
     fn evaluate_narrow_cases(
         &self,
         cases: &[JobCase],
@@ -139,9 +326,8 @@ impl<S: NarrowSource> NarrowPoints<'_, S> {
     )
         requires some { 0 < length out.old }
         requires fits { length out.old ≡ self.now.points.len }
-        requires ready { AreNarrowCases (S.has self.now.source.now) (S.samples self.now.source.now)
-            self.now.points.row self.now.points.col (length out.old) (length temps.old) cases.now
-            otherwise.now }
+        requires ready { AreNarrowCases (S.has self.now.source.now) (S.samples self.now.source.now) self.now.points.row
+            self.now.points.col (length out.old) (length temps.old) cases.now otherwise.now }
         ensures { EachPlace (length out.old) (λ k. at out.new k
             ≡ function_value (S.samples self.now.source.now) (map case_view cases.now)
             (option_map formula_view otherwise.now) self.now.points.row
@@ -150,8 +336,17 @@ impl<S: NarrowSource> NarrowPoints<'_, S> {
         let [case, behind @ ..] = cases else {
             return self.evaluate_narrow_otherwise(otherwise, out, temps);
         };
-        self.evaluate_narrow_cases(behind, otherwise, out, temps);
-        self.overwrite_narrow_case(case, out, temps);
+        match self.find_narrow_case_interval_by_tests(case) {
+            Some((from, to)) => {
+                self.evaluate_narrow_cases_on_part(behind, otherwise, 0, from, out, temps);
+                self.evaluate_narrow_cases_on_part(behind, otherwise, to, out.len(), out, temps);
+                self.evaluate_narrow_formula_on_part(case.formula(), from, to, out, temps);
+            }
+            None => {
+                self.evaluate_narrow_cases_where_earlier_fails(case, behind, otherwise, out, temps);
+                self.overwrite_narrow_case(case, out, temps);
+            }
+        }
     }
 }
 

@@ -1,25 +1,29 @@
 #![tactic(auto)]
 //! Formulas along rows of points, in 16 bits.
 
-ghost use Rattle.std.specs.Prelude.{◌≡◌, ◌≤◌, ◌-◌, ℕ, ◌+◌, ◌+ℤ◌, ℤ, pos, length, List};
-ghost use Rattle.job.specs.Values.{Valuation, formula_value};
+ghost use Rattle.std.specs.Prelude.{◌≡◌, ◌≤◌, ◌-◌, ℕ, ◌+◌, ◌+ℤ◌, ℤ, pos, length, List, IsTrue};
+ghost use Rattle.job.specs.Values.{Valuation, formula_value, unary_value};
+ghost use Rattle.operators.specs.Limits.{IsLiteral};
+ghost use Rattle.operators.specs.Values.{literal_value};
 ghost use Rattle.job.specs.WellFormed.{IsFormula};
 ghost use Rattle.job.specs.Views.{formula_view};
 ghost use Rattle.narrow_kernels.specs.NarrowOperands.{narrow_operand_at, ServesNarrow, IsGivenNarrow};
 ghost use Rattle.row_loops.specs.Rows.{EachPlace, at};
 ghost use Rattle.tile_eval.specs.Reading.{ReadsWithin, HasRoom};
-ghost use Rattle.value_ranges.specs.Narrow.{IsNarrow};
+ghost use Rattle.value_ranges.specs.Narrow.{IsNarrow, Fits16};
 ghost use Rattle.narrow_eval.specs.NarrowFormulas.{NarrowWithin};
+ghost use Rattle.narrow_eval.specs.NarrowOperators.{JoinsTwo};
 
 use crate::narrow_points::NarrowPoints;
-use crate::narrow_reads::find_narrow_formula_number;
+use crate::narrow_reads::{find_narrow_formula_constant, find_narrow_formula_number};
 use crate::narrow_source::NarrowSource;
 use job::Formula;
 use narrow_kernels::{
-    NarrowOperand, fill_narrow_row, keep_narrow_row_where_related, write_narrow_binary_results,
-    write_narrow_literal_op_results, write_narrow_operand, write_narrow_ternary_results,
-    write_narrow_unary_results,
+    NarrowOperand, fill_narrow_row, write_narrow_absolute_differences, write_narrow_binary_results,
+    write_narrow_literal_op_results, write_narrow_literal_op_results_of_sums,
+    write_narrow_selection, write_narrow_ternary_results, write_narrow_unary_results,
 };
+use operators::{BinaryOp, LiteralOp, UnaryOp};
 use row_kernels::RowSpan;
 
 // A formula as an operand along a row of points: what is available, or values computed into `own`.
@@ -126,6 +130,112 @@ impl<'a, S: NarrowSource> NarrowPoints<'a, S> {
         }
     }
 
+    // Writes the absolute differences of two reads, if the operator and its formula give them. Returns whether they do.
+    fn try_narrow_absolute_differences(
+        &self,
+        op: UnaryOp,
+        formula: &Formula,
+        out: &mut [i16],
+    ) -> bool
+        requires fits { length out.old ≡ self.now.points.len }
+        requires narrow { NarrowWithin (S.samples self.now.source.now) (formula_view formula.now)
+            self.now.points.row self.now.points.col self.now.points.len }
+        requires reads { ReadsWithin (S.has self.now.source.now) (formula_view formula.now)
+            self.now.points.row self.now.points.col self.now.points.len }
+        requires absolute { EachPlace (length out.old) (λ k. Fits16 (unary_value op
+            (formula_value (S.samples self.now.source.now)
+            (formula_view formula.now) self.now.points.row (self.now.points.col +ℤ pos k)))) }
+        ensures { IsTrue result → EachPlace (length out.old) (λ k. at out.new k
+            ≡ unary_value op (formula_value (S.samples self.now.source.now)
+            (formula_view formula.now) self.now.points.row (self.now.points.col +ℤ pos k))) }
+    {
+        let (UnaryOp::Abs, Formula::Binary(BinaryOp::Sub, left, right)) = (op, formula) else {
+            return false;
+        };
+        match (
+            self.borrow_narrow_read_line(left),
+            self.borrow_narrow_read_line(right),
+        ) {
+            (Some(left), Some(right)) => {
+                write_narrow_absolute_differences(out, left, right);
+                true
+            }
+            _ => false,
+        }
+    }
+
+    // The results of an operator on two formulas.
+    #[cycle(evaluate_narrow)]
+    fn evaluate_narrow_binary(&self, formula: &Formula, out: &mut [i16], temps: &mut [i16])
+        requires binary { JoinsTwo (formula_view formula.now) }
+        requires fits { length out.old ≡ self.now.points.len }
+        requires formula { IsFormula (formula_view formula.now) }
+        requires narrow { NarrowWithin (S.samples self.now.source.now) (formula_view formula.now)
+            self.now.points.row self.now.points.col (length out.old) }
+        requires reads { ReadsWithin (S.has self.now.source.now) (formula_view formula.now)
+            self.now.points.row self.now.points.col (length out.old) }
+        requires room { HasRoom (formula_view formula.now) (length out.old) (length temps.old) }
+        ensures { EachPlace (length out.old) (λ k. at out.new k
+            ≡ formula_value (S.samples self.now.source.now)
+            (formula_view formula.now) self.now.points.row (self.now.points.col +ℤ pos k)) }
+    {
+        let Formula::Binary(op, a, b) = formula else {
+            return;
+        };
+        if self.try_narrow_sum(formula, out, temps) {
+            return;
+        }
+        if self.try_narrow_formula_of_three_reads(formula, out) {
+            return;
+        }
+        let left = self.borrow_or_write_narrow_formula(a, out, temps);
+        let right = obtain_right_narrow_formula_operand(
+            self.source,
+            &self.points,
+            left,
+            b,
+            out,
+            temps,
+        );
+        write_narrow_binary_results(*op, out, left, right);
+    }
+
+    // The results of an operator on a formula and a literal, if the formula adds a number of the text at last. Returns whether it does.
+    #[cycle(evaluate_narrow)]
+    fn try_narrow_sum_under_literal_op(
+        &self,
+        op: LiteralOp,
+        formula: &Formula,
+        literal: u32,
+        out: &mut [i16],
+        temps: &mut [i16],
+    ) -> bool
+        requires literal { IsLiteral op literal }
+        requires fits { length out.old ≡ self.now.points.len }
+        requires formula { IsFormula (formula_view formula.now) }
+        requires narrow { NarrowWithin (S.samples self.now.source.now) (formula_view formula.now)
+            self.now.points.row self.now.points.col (length out.old) }
+        requires reads { ReadsWithin (S.has self.now.source.now) (formula_view formula.now)
+            self.now.points.row self.now.points.col (length out.old) }
+        requires room { HasRoom (formula_view formula.now) (length out.old) (length temps.old) }
+        requires results { EachPlace (length out.old) (λ k. Fits16 (literal_value op
+            (formula_value (S.samples self.now.source.now)
+            (formula_view formula.now) self.now.points.row (self.now.points.col +ℤ pos k)) literal)) }
+        ensures { IsTrue result → EachPlace (length out.old) (λ k. at out.new k
+            ≡ literal_value op (formula_value (S.samples self.now.source.now)
+            (formula_view formula.now) self.now.points.row (self.now.points.col +ℤ pos k)) literal) }
+    {
+        let Formula::Binary(BinaryOp::Add, front, last) = formula else {
+            return false;
+        };
+        let Some(number) = find_narrow_formula_constant(last) else {
+            return false;
+        };
+        let left = self.borrow_or_write_narrow_formula(front, out, temps);
+        write_narrow_literal_op_results_of_sums(op, out, left, number, literal);
+        true
+    }
+
     // The values of a formula, whose reads take what the source has.
     #[cycle(evaluate_narrow)]
     pub(crate) fn evaluate_narrow(&self, formula: &Formula, out: &mut [i16], temps: &mut [i16])
@@ -149,21 +259,13 @@ impl<'a, S: NarrowSource> NarrowPoints<'a, S> {
             Formula::Coordinate(_) | Formula::Lookup(_, _) => {}
             Formula::Read(stage, i, j) => self.write_narrow_read(*stage, i, j, out),
             Formula::Unary(op, a) => {
+                if self.try_narrow_absolute_differences(*op, a, out) {
+                    return;
+                }
                 let of = self.borrow_or_write_narrow_formula(a, out, temps);
                 write_narrow_unary_results(*op, out, of);
             }
-            Formula::Binary(op, a, b) => {
-                let left = self.borrow_or_write_narrow_formula(a, out, temps);
-                let right = obtain_right_narrow_formula_operand(
-                    self.source,
-                    &self.points,
-                    left,
-                    b,
-                    out,
-                    temps,
-                );
-                write_narrow_binary_results(*op, out, left, right);
-            }
+            Formula::Binary(_, _, _) => self.evaluate_narrow_binary(formula, out, temps),
             Formula::Ternary(op, a, b, c) => {
                 let first = self.borrow_or_write_narrow_formula(a, out, temps);
                 let n = out.len();
@@ -186,19 +288,34 @@ impl<'a, S: NarrowSource> NarrowPoints<'a, S> {
                 write_narrow_ternary_results(*op, out, first, second, third);
             }
             Formula::Literal(op, a, number) => {
+                if self.try_narrow_sum_under_literal_op(*op, a, *number, out, temps) {
+                    return;
+                }
                 let left = self.borrow_or_write_narrow_formula(a, out, temps);
                 write_narrow_literal_op_results(*op, out, left, *number);
             }
-            Formula::Select(a, relation, b, first, second) => {
-                self.evaluate_narrow(first, out, temps);
+            Formula::Select(a, relation, b, first, other) => {
+                let first = self.borrow_or_write_narrow_formula(first, out, temps);
                 let n = out.len();
                 let (left, rest) = temps.split_at_mut(n);
                 let (right, rest) = rest.split_at_mut(n);
-                let (other, rest) = rest.split_at_mut(n);
-                self.evaluate_narrow(a, left, rest);
-                self.evaluate_narrow(b, right, rest);
-                self.evaluate_narrow(second, other, rest);
-                keep_narrow_row_where_related(out, left, *relation, right, other);
+                let (third, rest) = rest.split_at_mut(n);
+                let left = obtain_narrow_formula_operand(self.source, &self.points, a, left, rest);
+                let right = obtain_narrow_formula_operand(
+                    self.source,
+                    &self.points,
+                    b,
+                    right,
+                    rest,
+                );
+                let other = obtain_narrow_formula_operand(
+                    self.source,
+                    &self.points,
+                    other,
+                    third,
+                    rest,
+                );
+                write_narrow_selection(out, left, *relation, right, first, other);
             }
             Formula::Stencil(stage, divisor, kernel) => {
                 self.evaluate_narrow_stencil(*stage, *divisor, kernel, out)

@@ -4,7 +4,7 @@
 ghost use Rattle.std.specs.Prelude.{◌≡◌, ◌+ℤ◌, pos, length, List, ℤ, IfSome, IfNone, IsTrue, FitsSigned};
 ghost use Rattle.std.specs.Int.{w16};
 ghost use Rattle.domains.specs.Index.{index_at};
-ghost use Rattle.job.specs.Values.{formula_value};
+ghost use Rattle.job.specs.Values.{Valuation, formula_value};
 ghost use Rattle.job.specs.Views.{formula_view};
 ghost use Rattle.narrow_kernels.specs.NarrowOperands.{narrow_operand_at, ServesNarrow, IsGivenNarrow};
 ghost use Rattle.row_loops.specs.Rows.{EachPlace, at};
@@ -15,6 +15,8 @@ use crate::narrow_source::NarrowSource;
 use domains::Index;
 use job::Formula;
 use narrow_kernels::NarrowOperand;
+use operators::UnaryOp;
+use row_kernels::RowSpan;
 
 // A number of the text, if it fits in 16 bits.
 #[tactic(auto, using(std::proofs::lemmas::Int::ints))]
@@ -28,15 +30,54 @@ pub(crate) fn find_narrow_formula_number(number: i32) -> Option<i16>
     Some(number as i16)
 }
 
+/// The number that a formula is all along a row, if it is a number of the text, or one with the other sign, and fits in 16 bits.
+#[inline(always)]
+pub(crate) fn find_narrow_formula_constant(formula: &Formula) -> Option<i16>
+    ensures { IfSome result (λ it. (env : Valuation) (r c : ℤ)
+        → formula_value env (formula_view formula.now) r c ≡ it) }
+{
+    match formula {
+        Formula::Number(number) => find_narrow_formula_number(*number),
+        Formula::Unary(UnaryOp::Neg, of) => match &**of {
+            Formula::Number(number) => find_narrow_formula_number(*number)?.checked_neg(),
+            _ => None,
+        },
+        _ => None,
+    }
+}
+
 // Whether an index only adds, so that it takes adjacent columns to adjacent columns.
+#[inline]
 fn is_narrow_read_shifting(index: &Index) -> bool
     ensures { IsTrue result → (index.now.mul ≡ pos 1) × (index.now.div ≡ pos 1) }
 {
     index.mul() == 1 && index.div() == 1
 }
 
+/// Whether a formula is a read whose samples can be borrowed.
+#[inline]
+pub(crate) fn is_borrowable_narrow_read(formula: &Formula) -> bool {
+    match formula {
+        Formula::Read(_, _, col) => is_narrow_read_shifting(col),
+        _ => false,
+    }
+}
+
+// The row that an index takes, without a division if it only adds.
+#[inline(always)]
+fn find_row_of_narrow_read(points: &RowSpan, index: &Index) -> i32
+    ensures { result ≡ index_at index.now points.now.row }
+{
+    if is_narrow_read_shifting(index) {
+        points.row + index.add()
+    } else {
+        points.row_at_index(index)
+    }
+}
+
 impl<'a, S: NarrowSource> NarrowPoints<'a, S> {
     // The samples at the columns of an index that only adds.
+    #[inline(always)]
     fn borrow_shifted_narrow_read(&self, stage: usize, row: &Index, col: &Index) -> &'a [i16]
         requires mul { col.now.mul ≡ pos 1 }
         requires div { col.now.div ≡ pos 1 }
@@ -48,7 +89,7 @@ impl<'a, S: NarrowSource> NarrowPoints<'a, S> {
             ≡ S.samples self.now.source.now stage (index_at row.now self.now.points.row)
             (index_at col.now (self.now.points.col +ℤ pos k))) }
     {
-        let row = self.points.row_at_index(row);
+        let row = find_row_of_narrow_read(&self.points, row);
         let first = self.points.first_column_at_index(col);
         self.source
             .borrow_narrow_row(stage, row, first, self.points.len)
@@ -73,6 +114,24 @@ impl<'a, S: NarrowSource> NarrowPoints<'a, S> {
         }
     }
 
+    /// The samples that a formula reads, if it is a read whose samples can be borrowed.
+    #[inline(always)]
+    pub(crate) fn borrow_narrow_read_line(&self, formula: &Formula) -> Option<&'a [i16]>
+        requires { ReadsWithin (S.has self.now.source.now) (formula_view formula.now)
+            self.now.points.row self.now.points.col self.now.points.len }
+        ensures count { IfSome result (λ it. length it.now ≡ self.now.points.len) }
+        ensures values { IfSome result (λ it. EachPlace self.now.points.len (λ k. at it.now k
+            ≡ formula_value (S.samples self.now.source.now) (formula_view formula.now)
+            self.now.points.row (self.now.points.col +ℤ pos k))) }
+    {
+        match formula {
+            Formula::Read(stage, row, col) if is_narrow_read_shifting(col) => Some(
+                self.borrow_shifted_narrow_read(*stage, row, col),
+            ),
+            _ => None,
+        }
+    }
+
     /// A formula as an operand, if nothing is to be computed.
     pub(crate) fn borrow_available_narrow_formula(
         &self,
@@ -87,14 +146,9 @@ impl<'a, S: NarrowSource> NarrowPoints<'a, S> {
             ≡ formula_value (S.samples self.now.source.now) (formula_view formula.now)
             self.now.points.row (self.now.points.col +ℤ pos k))) }
     {
-        match formula {
-            Formula::Number(number) => Some(NarrowOperand::Number(find_narrow_formula_number(
-                *number,
-            )?)),
-            Formula::Read(stage, row, col) if is_narrow_read_shifting(col) => Some(
-                NarrowOperand::Line(self.borrow_shifted_narrow_read(*stage, row, col)),
-            ),
-            _ => None,
+        match find_narrow_formula_constant(formula) {
+            Some(number) => Some(NarrowOperand::Number(number)),
+            None => Some(NarrowOperand::Line(self.borrow_narrow_read_line(formula)?)),
         }
     }
 }

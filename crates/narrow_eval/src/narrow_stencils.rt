@@ -1,48 +1,98 @@
 #![tactic(auto)]
 //! Stencils along rows of points, in 16 bits.
 
-ghost use Rattle.std.specs.Prelude.{◌≡◌, ◌<◌, ◌+ℤ◌, pos, suc, ℕ, ℤ, length};
+ghost use Rattle.std.specs.Prelude.{◌≡◌, ◌<◌, ◌≤◌, ◌+◌, ◌+ℤ◌, pos, suc, ℕ, ℤ, length};
 ghost use Rattle.std.specs.Int.{w16, int_wrap};
 ghost use Rattle.domains.specs.Arithmetic.{wrapped, floor_div};
-ghost use Rattle.job.specs.Values.{weighted_sum};
+ghost use Rattle.job.specs.Values.{kernel_row, kernel_column, weighted_sum};
 ghost use Rattle.job.specs.WellFormed.{IsDivisor, IsKernel};
 ghost use Rattle.row_loops.specs.Rows.{EachPlace, at};
 ghost use Rattle.tile_eval.specs.Reading.{KernelWithin};
 ghost use Rattle.value_ranges.specs.Narrow.{IsNarrowStencil};
-ghost use Rattle.narrow_eval.specs.NarrowStencils.{rows_below};
+ghost use Rattle.tile_eval.specs.inside.Stencil.{IsUnder};
+ghost use Rattle.narrow_eval.specs.NarrowStencils.{rows_below, line_total};
+ghost use Rattle.narrow_eval.specs.NarrowSums.{HasAddends, GivesSum};
 
 use crate::narrow_points::NarrowPoints;
 use crate::narrow_source::NarrowSource;
+use crate::narrow_sum::NarrowSum;
 use job::Kernel;
-use narrow_kernels::{
-    NarrowOperand, add_narrow_tap_sums, fill_narrow_row, write_narrow_literal_op_results,
-};
+use narrow_kernels::{NarrowOperand, write_narrow_literal_op_results};
 use operators::LiteralOp;
 
+// Adds the products of factors and the numbers of a line, which begins with those of the first factor.
+fn add_narrow_stencil_products<'a>(
+    line: &'a [i16],
+    factors: &[i32],
+    sum: &mut NarrowSum<'a>,
+    out: &mut [i16],
+)
+    requires line { length out.old + length factors.now ≤ length line.now + 1 }
+    requires addends { HasAddends (length out.old) sum.old }
+    ensures addends { HasAddends (length out.old) sum.new }
+    ensures sum { (f : ℕ → ℤ) → GivesSum (length out.old) f sum.old out.old
+        → GivesSum (length out.old) (λ k. f k +ℤ line_total (length factors.now) factors.now line.now k)
+        sum.new out.new }
+{
+    for b in 0..factors.len() {
+        let part = &line[b..b + out.len()];
+        sum.push_narrow_sum_product(part, factors[b], out);
+    }
+}
+
 impl<'a, S: NarrowSource> NarrowPoints<'a, S> {
+    // The samples under a row of a kernel.
+    fn borrow_narrow_stencil_line(
+        &self,
+        stage: usize,
+        kernel: &Kernel,
+        a: usize,
+        count: usize,
+    ) -> &'a [i16]
+        requires kernel { IsKernel kernel.now }
+        requires a { a < length kernel.now }
+        requires reads { EachPlace count (λ j. S.has self.now.source.now stage
+            (kernel_row kernel.now self.now.points.row a)
+            (kernel_column kernel.now self.now.points.col j)) }
+        ensures count { length result.now ≡ count }
+        ensures under { IsUnder kernel.now (S.samples self.now.source.now stage)
+            self.now.points.row self.now.points.col a result.now }
+    {
+        let rows = kernel.as_slice();
+        let row = self.points.row_under_kernel(rows.len(), a);
+        let col = self
+            .points
+            .first_column_under_kernel(rows[0].as_slice().len());
+        self.source.borrow_narrow_row(stage, row, col, count)
+    }
+
     // Adds what a row of a kernel gives.
-    fn add_narrow_stencil_row(&self, stage: usize, kernel: &Kernel, a: usize, out: &mut [i16])
+    fn add_narrow_stencil_row(
+        &self,
+        stage: usize,
+        kernel: &Kernel,
+        a: usize,
+        sum: &mut NarrowSum<'a>,
+        out: &mut [i16],
+    )
         requires fits { length out.old ≡ self.now.points.len }
         requires kernel { IsKernel kernel.now }
         requires a { a < length kernel.now }
         requires reads { KernelWithin (S.has self.now.source.now stage) kernel.now
             self.now.points.row self.now.points.col (length out.old) }
-        ensures { EachPlace (length out.old) (λ k. at out.old k
-            ≡ int_wrap w16 (rows_below a kernel.now (S.samples self.now.source.now stage)
-            self.now.points.row (self.now.points.col +ℤ pos k))
-            → at out.new k
-            ≡ int_wrap w16 (rows_below (suc a) kernel.now (S.samples self.now.source.now stage)
-            self.now.points.row (self.now.points.col +ℤ pos k))) }
+        requires addends { HasAddends (length out.old) sum.old }
+        ensures addends { HasAddends (length out.old) sum.new }
+        ensures sum { GivesSum (length out.old) (λ k. rows_below a kernel.now
+            (S.samples self.now.source.now stage) self.now.points.row
+            (self.now.points.col +ℤ pos k)) sum.old out.old
+            → GivesSum (length out.old) (λ k. rows_below (suc a) kernel.now
+            (S.samples self.now.source.now stage) self.now.points.row
+            (self.now.points.col +ℤ pos k)) sum.new out.new }
     {
-        let rows = kernel.as_slice();
-        let factors = rows[a].as_slice();
-        let row = self.points.row_under_kernel(rows.len(), a);
-        let col = self
-            .points
-            .first_column_under_kernel(rows[0].as_slice().len());
-        let count = out.len() + factors.len() - 1;
-        let line = self.source.borrow_narrow_row(stage, row, col, count);
-        add_narrow_tap_sums(out, line, factors);
+        let factors = kernel.as_slice()[a].as_slice();
+        let n = out.len();
+        let line = self.borrow_narrow_stencil_line(stage, kernel, a, n + factors.len() - 1);
+        add_narrow_stencil_products(line, factors, sum, out);
     }
 
     // The sums of a stencil, wrapped at 16 bits.
@@ -55,10 +105,11 @@ impl<'a, S: NarrowSource> NarrowPoints<'a, S> {
             ≡ int_wrap w16 (weighted_sum kernel.now (S.samples self.now.source.now stage)
             self.now.points.row (self.now.points.col +ℤ pos k))) }
     {
-        fill_narrow_row(out, 0);
+        let mut sum = NarrowSum::of_no_narrow_addends();
         for a in 0..kernel.as_slice().len() {
-            self.add_narrow_stencil_row(stage, kernel, a, out);
+            self.add_narrow_stencil_row(stage, kernel, a, &mut sum, out);
         }
+        sum.write_narrow_sum(out);
     }
 
     /// The values of a stencil.
@@ -82,6 +133,8 @@ impl<'a, S: NarrowSource> NarrowPoints<'a, S> {
             self.now.points.row (self.now.points.col +ℤ pos k))) (pos divisor)) }
     {
         self.write_narrow_stencil_sums(stage, kernel, out);
-        write_narrow_literal_op_results(LiteralOp::Div, out, NarrowOperand::Written, divisor);
+        if divisor != 1 {
+            write_narrow_literal_op_results(LiteralOp::Div, out, NarrowOperand::Written, divisor);
+        }
     }
 }

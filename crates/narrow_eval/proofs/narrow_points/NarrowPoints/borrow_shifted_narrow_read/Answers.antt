@@ -6,10 +6,10 @@ use Rattle.narrow_eval.proofs.narrow_points.NarrowPoints.borrow_shifted_narrow_r
 
 pub borrow_narrow_row-requires : goal.borrow_narrow_row-requires
 borrow_narrow_row-requires g c = λ k h.
-    let row_fits : FitsSigned w32 c.row_at_index-row.result = search rules in
+    let row_fits : FitsSigned w32 c.find_row_of_narrow_read-row.result = search rules in
     let col_fits : FitsSigned w32 c.first_column_at_index-first.result = search rules in
-    let row : to_z w32 (of_z w32 c.row_at_index-row.result) ≡ index_at c.args.row.now c.args.self.now.points.row =
-    to_z-of_z w32 _ row_fits ∙ c.row_at_index-row.ensures in
+    let row : to_z w32 (of_z w32 c.find_row_of_narrow_read-row.result) ≡ index_at c.args.row.now c.args.self.now.points.row =
+    to_z-of_z w32 _ row_fits ∙ c.find_row_of_narrow_read-row.ensures in
     let first : to_z w32 (of_z w32 c.first_column_at_index-first.result) +ℤ pos k ≡ index_at c.args.col.now (c.args.self.now.points.col +ℤ pos k) =
     ap (λ (z : ℤ). z +ℤ pos k) (to_z-of_z w32 _ col_fits ∙ c.first_column_at_index-first.ensures)
     ∙ columns_follow c.args.col.now c.args.self.now.points.col k c.requires.mul c.requires.div in
@@ -21,10 +21,10 @@ borrow_narrow_row-requires g c = λ k h.
 
 pub returns-clause-values : goal.returns-clause-values
 returns-clause-values g c = λ k l.
-    let row_fits : FitsSigned w32 c.row_at_index-row.result = search rules in
+    let row_fits : FitsSigned w32 c.find_row_of_narrow_read-row.result = search rules in
     let col_fits : FitsSigned w32 c.first_column_at_index-first.result = search rules in
-    let row : to_z w32 (of_z w32 c.row_at_index-row.result) ≡ index_at c.args.row.now c.args.self.now.points.row =
-    to_z-of_z w32 _ row_fits ∙ c.row_at_index-row.ensures in
+    let row : to_z w32 (of_z w32 c.find_row_of_narrow_read-row.result) ≡ index_at c.args.row.now c.args.self.now.points.row =
+    to_z-of_z w32 _ row_fits ∙ c.find_row_of_narrow_read-row.ensures in
     let first : to_z w32 (of_z w32 c.first_column_at_index-first.result) +ℤ pos k ≡ index_at c.args.col.now (c.args.self.now.points.col +ℤ pos k) =
     ap (λ (z : ℤ). z +ℤ pos k) (to_z-of_z w32 _ col_fits ∙ c.first_column_at_index-first.ensures)
     ∙ columns_follow c.args.col.now c.args.self.now.points.col k c.requires.mul c.requires.div in

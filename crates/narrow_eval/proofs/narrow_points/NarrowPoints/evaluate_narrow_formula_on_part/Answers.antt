@@ -10,7 +10,7 @@ use Rattle.narrow_eval.proofs.narrow_points.NarrowPoints.evaluate_narrow_formula
 
 pub evaluate_narrow-requires-clause-reads : goal.evaluate_narrow-requires-clause-reads
 evaluate_narrow-requires-clause-reads g c =
-    let o : c.args.from < c.args.to = c.requires.order in
+    let o : c.args.from < c.args.to = c.if-from-to.true in
     let cut = cut_len c.args.from c.args.to c.args.out.now o c.requires.most in
     let some : 0 < length (take (c.args.to - c.args.from) (drop c.args.from c.args.out.now)) = rw cut (omega arith) in
     reads_along (g.S.NarrowSource.has c.args.self.now.source.now) c.slice_points-points.result.row c.slice_points-points.result.col _
@@ -23,16 +23,16 @@ evaluate_narrow-requires-clause-reads g c =
 
 pub evaluate_narrow-requires-clause-room : goal.evaluate_narrow-requires-clause-room
 evaluate_narrow-requires-clause-room g c =
-    let cut = cut_len c.args.from c.args.to c.args.out.now c.requires.order c.requires.most in
+    let cut = cut_len c.args.from c.args.to c.args.out.now c.if-from-to.true c.requires.most in
     let most = c.requires.most in
     let le : length (take (c.args.to - c.args.from) (drop c.args.from c.args.out.now)) ≤ length c.args.out.now = rw cut (omega arith) in
     room_less (formula_view c.args.formula.now) (length c.args.out.now) _ _ _ le (omega arith) c.requires.room
 
-pub returns-clause-inside : goal.returns-clause-inside
-returns-clause-inside g c = λ k l low high.
+pub returns-then-from-to-clause-inside : goal.returns-then-from-to-clause-inside
+returns-then-from-to-clause-inside g c = λ k l low high.
     part_values (formula_value (g.S.NarrowSource.samples c.args.self.now.source.now) (formula_view c.args.formula.now))
     c.args.self.now.points.row c.args.self.now.points.col
-    c.slice_points-points.result.row c.slice_points-points.result.col c.args.from c.args.to k c.args.out.now c.evaluate_narrow.new.out c.requires.order
+    c.slice_points-points.result.row c.slice_points-points.result.col c.args.from c.args.to k c.args.out.now c.evaluate_narrow.new.out c.if-from-to.true
     c.requires.most c.evaluate_narrow.auto.out
     c.slice_points-points.ensures.row c.slice_points-points.ensures.col c.evaluate_narrow.ensures low high
 
@@ -42,6 +42,6 @@ evaluate_narrow-requires-clause-narrow g c =
     (formula_view c.args.formula.now)
     (part_each (IsNarrow (g.S.NarrowSource.samples c.args.self.now.source.now) (formula_view c.args.formula.now)) c.args.self.now.points.row
     c.args.self.now.points.col
-    c.slice_points-points.result.row c.slice_points-points.result.col c.args.from c.args.to c.args.out.now c.requires.order c.requires.most
-    c.slice_points-points.ensures.row c.slice_points-points.ensures.col
+    c.slice_points-points.result.row c.slice_points-points.result.col c.args.from c.args.to c.args.out.now c.if-from-to.true
+    c.requires.most c.slice_points-points.ensures.row c.slice_points-points.ensures.col
     c.requires.narrow)

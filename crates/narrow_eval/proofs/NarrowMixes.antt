@@ -1,0 +1,120 @@
+-- Sums of products, wrapped at 32 bits step by step.
+use Rattle.std.proofs.Common.{arith, ℕ, ℤ, ◌≡◌, ◌<◌, List, [], ◌∷◌, length, map, Option, true, false, true≢false, subst, pos, negsuc, suc, zero, neg_ℤ, ◌+ℤ◌, ◌-ℤ◌, ◌*ℤ◌, w32, sym, ap, ◌∙◌, refl}
+use Rattle.std.specs.Int.{int_wrap}
+use Rattle.std.proofs.Math.IntN.{neg_ℤ-neg_ℤ, negsuc-*ℤ-pos, pos-*ℤ-negsuc, zero-*ℤ}
+use Rattle.std.proofs.lemmas.Int.{ints, int_wrap-add_left, int_wrap-add_right, int_wrap-sub_right}
+use Rattle.domains.specs.Arithmetic.{wrapped}
+use Rattle.domains.specs.Index.{index_at}
+use Rattle.operators.specs.declared.operator.BinaryOp.{BinaryOp}
+use Rattle.operators.specs.declared.operator.BinaryOp.TheVariants.{Add, Sub, Mul, Min, Max}
+use Rattle.operators.specs.declared.operator.TernaryOp.TheVariants.{Clamp}
+use Rattle.operators.specs.declared.operator.LiteralOp.TheVariants.{Shr}
+use Rattle.job.specs.declared.stage.JobCase.{JobCase as KeptCase}
+use Rattle.job.specs.Views.{case_view}
+use Rattle.job.specs.Formula.{Formula, number, ternary, literal}
+use Rattle.job.specs.Reads.{EachRead, point}
+use Rattle.job.specs.Values.{Valuation, binary_value, formula_value}
+use Rattle.narrow_kernels.specs.NarrowClampedSums.{clamped_shift}
+use Rattle.narrow_eval.specs.declared.narrow_mixes.NarrowMixTerm.{NarrowMixTerm}
+use Rattle.narrow_eval.specs.declared.narrow_mixes.NarrowMixSum.{NarrowMixSum}
+use Rattle.narrow_eval.specs.declared.narrow_mixes.NarrowMixSum.TheVariants.{Two, Three}
+use Rattle.narrow_eval.specs.declared.narrow_mixes.NarrowMix.{NarrowMix}
+use Rattle.narrow_eval.specs.NarrowMixes.{is_mix, is_mix_operator, mix_product, mix_sum, mix_formula}
+
+-- the product with the factor of the other sign
+negated : (f y : ℤ) → neg_ℤ (f *ℤ y) ≡ neg_ℤ f *ℤ y
+negated (pos zero) y = ap neg_ℤ (zero-*ℤ y) ∙ sym (zero-*ℤ y)
+negated (pos (suc n)) (pos m) = sym (negsuc-*ℤ-pos n m)
+negated (pos (suc n)) (negsuc m) = ap neg_ℤ (pos-*ℤ-negsuc (suc n) m) ∙ neg_ℤ-neg_ℤ _
+negated (negsuc n) (pos m) = ap neg_ℤ (negsuc-*ℤ-pos n m) ∙ neg_ℤ-neg_ℤ _
+negated (negsuc n) (negsuc m) = sym (pos-*ℤ-negsuc (suc n) m)
+
+-- one more term is added, or subtracted
+pub term_added : (x z : ℤ) → wrapped (wrapped x +ℤ wrapped z) ≡ wrapped (x +ℤ z)
+term_added x z = int_wrap-add_left w32 x (wrapped z) ∙ int_wrap-add_right w32 x z
+
+to_sum : (x z : ℤ) → x -ℤ z ≡ x +ℤ neg_ℤ z
+to_sum x z = omega (arith, ints)
+
+pub term_subtracted : (x f y g : ℤ) → g ≡ neg_ℤ f → wrapped (wrapped x -ℤ wrapped (f *ℤ y)) ≡ wrapped (x +ℤ g *ℤ y)
+term_subtracted x f y g e =
+    int_wrap-sub_right w32 (wrapped x) (f *ℤ y)
+    ∙ ap wrapped (to_sum (wrapped x) (f *ℤ y))
+    ∙ int_wrap-add_left w32 x (neg_ℤ (f *ℤ y))
+    ∙ ap (λ (z : ℤ). wrapped (x +ℤ z)) (negated f y ∙ ap (λ (z : ℤ). z *ℤ y) (sym e))
+
+-- the factor of a term that is added, and of one that is subtracted
+pub added_sign : (op : BinaryOp) → is_mix_operator op ≡ true → ¬ (op ≡ Sub) → (x f y g : ℤ) → g ≡ f
+    → binary_value op (wrapped x) (wrapped (f *ℤ y)) ≡ wrapped (x +ℤ g *ℤ y)
+added_sign Add is other x f y g e = term_added x (f *ℤ y) ∙ ap (λ (z : ℤ). wrapped (x +ℤ z *ℤ y)) (sym e)
+added_sign Sub is other x f y g e = absurd (other refl)
+added_sign Mul is other x f y g e = absurd (true≢false (sym is))
+added_sign Min is other x f y g e = absurd (true≢false (sym is))
+added_sign Max is other x f y g e = absurd (true≢false (sym is))
+
+pub subtracted_sign : (op : BinaryOp) → op ≡ Sub → (x f y g : ℤ) → g ≡ neg_ℤ f
+    → binary_value op (wrapped x) (wrapped (f *ℤ y)) ≡ wrapped (x +ℤ g *ℤ y)
+subtracted_sign op is x f y g e =
+    subst (λ (o : BinaryOp). binary_value o (wrapped x) (wrapped (f *ℤ y)) ≡ wrapped (x +ℤ g *ℤ y)) (sym is) (term_subtracted x f y g e)
+
+-- a function with cases is no mix
+pub cases_no_mix : (ps : List KeptCase) (o : Option Formula) → 0 < length ps → is_mix (map case_view ps) o ≡ false
+cases_no_mix [] o some = absurd (omega arith)
+cases_no_mix (p ∷ ps) o some = refl
+
+-- a term alone, which is what it adds to 0
+pub term_alone : (z t : ℤ) → wrapped (wrapped (pos 0) +ℤ wrapped z) ≡ wrapped (pos 0 +ℤ t) → wrapped z ≡ wrapped t
+term_alone z t e =
+    let start : (v : ℤ) → pos 0 +ℤ v ≡ v = λ v. omega (arith, ints) in
+    sym (term_added (pos 0) z ∙ ap wrapped (start z)) ∙ e ∙ ap wrapped (start t)
+
+-- ---- a mix at a point
+
+module _ (mix : NarrowMix) (r c : ℤ) where
+  abbrev of_sum : NarrowMixSum → Formula
+  of_sum s = ternary Clamp (literal Shr (mix_sum s) mix.make.bits) (number mix.make.low) (number mix.make.high)
+
+  abbrev IsRead : (ℕ → ℤ → ℤ → Type 0) → NarrowMixTerm → Type 0
+  IsRead has t = has t.stage (index_at t.row.now r) (index_at t.col.now c)
+
+  abbrev term_value : Valuation → NarrowMixTerm → ℤ
+  term_value env t = formula_value env (mix_product t) r c
+
+  -- what it reads is available
+  pub two_read : (has : ℕ → ℤ → ℤ → Type 0) (a : NarrowMixTerm) (op : BinaryOp) (b : NarrowMixTerm) → mix.sum ≡ Two a op b
+      → EachRead has (mix_formula mix) r c → IsRead has a × IsRead has b
+  two_read has a op b is h =
+      let each : EachRead has (of_sum (Two a op b)) r c = subst (λ (s : NarrowMixSum). EachRead has (of_sum s) r c) is h in
+      let other = point a.stage a.row.now a.col.now in
+      (each 0 other (omega arith), each 1 other (omega arith))
+
+  pub three_read : (has : ℕ → ℤ → ℤ → Type 0) (a : NarrowMixTerm) (op : BinaryOp) (b : NarrowMixTerm) (last : BinaryOp) (d : NarrowMixTerm)
+      → mix.sum ≡ Three a op b last d → EachRead has (mix_formula mix) r c → IsRead has a × IsRead has b × IsRead has d
+  three_read has a op b last d is h =
+      let each : EachRead has (of_sum (Three a op b last d)) r c = subst (λ (s : NarrowMixSum). EachRead has (of_sum s) r c) is h in
+      let other = point a.stage a.row.now a.col.now in
+      (each 0 other (omega arith), each 1 other (omega arith), each 2 other (omega arith))
+
+  -- the value by those of its terms
+  pub two_value : (env : Valuation) (a : NarrowMixTerm) (op : BinaryOp) (b : NarrowMixTerm) → mix.sum ≡ Two a op b → (s t y : ℤ)
+      → binary_value Add (wrapped (pos 0)) (term_value env a) ≡ wrapped (pos 0 +ℤ s)
+      → ((x : ℤ) → binary_value op (wrapped x) (term_value env b) ≡ wrapped (x +ℤ t))
+      → y ≡ clamped_shift mix.make (wrapped (s +ℤ t)) → y ≡ formula_value env (mix_formula mix) r c
+  two_value env a op b is s t y first second e =
+      e ∙ sym (
+      ap (λ (x : NarrowMixSum). formula_value env (of_sum x) r c) is
+      ∙ ap (clamped_shift mix.make) (ap (λ (v : ℤ). binary_value op v (term_value env b)) (term_alone _ s first) ∙ second s)
+      )
+
+  pub three_value : (env : Valuation) (a : NarrowMixTerm) (op : BinaryOp) (b : NarrowMixTerm) (last : BinaryOp) (d : NarrowMixTerm)
+      → mix.sum ≡ Three a op b last d → (s t u y : ℤ)
+      → binary_value Add (wrapped (pos 0)) (term_value env a) ≡ wrapped (pos 0 +ℤ s)
+      → ((x : ℤ) → binary_value op (wrapped x) (term_value env b) ≡ wrapped (x +ℤ t))
+      → ((x : ℤ) → binary_value last (wrapped x) (term_value env d) ≡ wrapped (x +ℤ u))
+      → y ≡ clamped_shift mix.make (wrapped (s +ℤ t +ℤ u)) → y ≡ formula_value env (mix_formula mix) r c
+  three_value env a op b last d is s t u y first second third e =
+      let front = ap (λ (v : ℤ). binary_value op v (term_value env b)) (term_alone _ s first) ∙ second s in
+      e ∙ sym (
+      ap (λ (x : NarrowMixSum). formula_value env (of_sum x) r c) is
+      ∙ ap (clamped_shift mix.make) (ap (λ (v : ℤ). binary_value last v (term_value env d)) front ∙ third (s +ℤ t))
+      )

@@ -1,0 +1,17 @@
+use Rattle.std.proofs.Common.{sym, subst, List}
+use Rattle.std.specs.Prelude.{All}
+use Rattle.operators.specs.declared.point_test.PointTest.{PointTest as KeptTest}
+use Rattle.job.specs.WellFormed.{IsTest}
+use Rattle.job.specs.Views.{test_view}
+use Rattle.job.proofs.Steps.{All-from_map}
+use Rattle.narrow_eval.proofs.narrow_points.NarrowPoints.find_narrow_case_interval_where_earlier_fails.Goals as goal
+
+pub find_row_mask-passed-requires : goal.find_row_mask-passed-requires
+find_row_mask-passed-requires g c =
+    subst (λ (ts : List KeptTest). All (λ t. IsTest (test_view t)) ts) (sym c.tests.ensures)
+    (All-from_map IsTest test_view c.args.case.now.tests.items c.requires.tests)
+
+pub find_row_mask-requires : goal.find_row_mask-requires
+find_row_mask-requires g c =
+    subst (λ (ts : List KeptTest). All (λ t. IsTest (test_view t)) ts) (sym c.tests-then-second-to.ensures)
+    (All-from_map IsTest test_view c.args.before.now.tests.items c.requires.first)

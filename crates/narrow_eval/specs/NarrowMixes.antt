@@ -1,0 +1,92 @@
+-- Functions that are mixes: sums of two or three reads, each times a factor, that are shifted to the right and clamped.
+use Rattle.std.specs.Prelude.{◌≡◌, ◌<◌, pos, negsuc, ◌≤ℤ◌, int_le, nat_lt, Bool, true, false, ◌&&◌, ◌||◌, Option, Some, List, []}
+use Rattle.std.specs.Ordering.{int_eq}
+use Rattle.operators.specs.declared.operator.BinaryOp.{BinaryOp}
+use Rattle.operators.specs.declared.operator.BinaryOp.TheVariants.{Add, Sub, Mul}
+use Rattle.operators.specs.declared.operator.TernaryOp.TheVariants.{Clamp}
+use Rattle.operators.specs.declared.operator.LiteralOp.TheVariants.{Shr}
+use Rattle.job.specs.Formula.{Formula, number, read, binary, ternary, literal}
+use Rattle.job.specs.Pipeline.{JobCase}
+use Rattle.narrow_eval.specs.declared.narrow_mixes.NarrowMixTerm.{NarrowMixTerm}
+use Rattle.narrow_eval.specs.declared.narrow_mixes.NarrowMixSum.{NarrowMixSum}
+use Rattle.narrow_eval.specs.declared.narrow_mixes.NarrowMixSum.TheVariants.{Two, Three}
+use Rattle.narrow_eval.specs.declared.narrow_mixes.NarrowMix.{NarrowMix}
+
+-- ---- which functions are mixes
+
+-- a number of the text that fits in 16 bits
+abbrev pub is_mix_number : Formula → Bool
+is_mix_number (number n) = int_le (negsuc 32767) n && int_le n (pos 32767)
+is_mix_number f = false
+
+-- so does the number of the other sign
+abbrev pub is_mix_factor : Formula → Bool
+is_mix_factor (number n) = int_le (negsuc 32766) n && int_le n (pos 32767)
+is_mix_factor f = false
+
+-- a read that takes adjacent columns to adjacent columns
+abbrev pub is_mix_read : Formula → Bool
+is_mix_read (read g i j) = int_eq j.mul (pos 1) && int_eq j.div (pos 1)
+is_mix_read f = false
+
+-- a factor times a read
+abbrev pub is_mix_term : Formula → Bool
+is_mix_term (binary Mul a b) = is_mix_factor a && is_mix_read b
+is_mix_term f = false
+
+abbrev pub is_mix_operator : BinaryOp → Bool
+is_mix_operator Add = true
+is_mix_operator Sub = true
+is_mix_operator op = false
+
+-- two terms, or three
+abbrev pub is_mix_pair : Formula → Bool
+is_mix_pair (binary op a b) = is_mix_operator op && is_mix_term a && is_mix_term b
+is_mix_pair f = false
+
+abbrev pub is_mix_sum : Formula → Bool
+is_mix_sum (binary op a b) = is_mix_pair (binary op a b) || (is_mix_operator op && is_mix_pair a && is_mix_term b)
+is_mix_sum f = false
+
+abbrev pub is_mix_shift : Formula → Bool
+is_mix_shift (literal Shr a n) = nat_lt n 32 && is_mix_sum a
+is_mix_shift f = false
+
+abbrev pub is_mix_clamp : (value low high : Formula) → Bool
+is_mix_clamp value low high = is_mix_shift value && is_mix_number low && is_mix_number high
+
+abbrev pub is_mix_formula : Formula → Bool
+is_mix_formula (ternary Clamp value low high) = is_mix_clamp value low high
+is_mix_formula f = false
+
+-- a function without cases
+abbrev pub is_mix : List JobCase → Option Formula → Bool
+is_mix [] (Some f) = is_mix_formula f
+is_mix ps o = false
+
+-- ---- the formulas of their parts
+
+abbrev pub mix_product : NarrowMixTerm → Formula
+mix_product t = binary Mul (number t.factor) (read t.stage t.row.now t.col.now)
+
+abbrev pub mix_sum : NarrowMixSum → Formula
+mix_sum (Two a second b) = binary second (mix_product a) (mix_product b)
+mix_sum (Three a second b third c) = binary third (binary second (mix_product a) (mix_product b)) (mix_product c)
+
+abbrev pub mix_formula : NarrowMix → Formula
+mix_formula mix = ternary Clamp (literal Shr (mix_sum mix.sum) mix.make.bits) (number mix.make.low) (number mix.make.high)
+
+-- ---- what can be computed of them
+
+-- the factor of the other sign fits too, and the index of the column only adds
+abbrev pub IsRightTerm : NarrowMixTerm → Type 0
+IsRightTerm t = (negsuc 32766 ≤ℤ t.factor) × (t.col.now.mul ≡ pos 1) × (t.col.now.div ≡ pos 1)
+
+-- terms are added or subtracted
+abbrev pub IsRightSum : NarrowMixSum → Type 0
+IsRightSum (Two a second b) = IsRightTerm a × (is_mix_operator second ≡ true) × IsRightTerm b
+IsRightSum (Three a second b third c) =
+    IsRightTerm a × (is_mix_operator second ≡ true) × IsRightTerm b × (is_mix_operator third ≡ true) × IsRightTerm c
+
+abbrev pub IsRightMix : NarrowMix → Type 0
+IsRightMix mix = IsRightSum mix.sum × (mix.make.bits < 32)
