@@ -9,6 +9,7 @@ ghost use Rattle.job.specs.Answers.{sample_of};
 ghost use Rattle.raw_rows.specs.Lines.{line_samples, pixel_count, plane_count, AreEven};
 
 use crate::lines::RawRowLines;
+use crate::numbers::RawRowNumbers;
 
 /// How many bytes a row of `cols` pixels takes in `planes` planes, if no sample is above `max`.
 pub fn count_raw_row_bytes(planes: usize, cols: usize, max: u16) -> usize
@@ -30,89 +31,108 @@ pub fn encode_raw_row(out: &mut [u8], lines: RawRowLines<'_>, max: u16)
     ensures { out.new ≡ raw_raster max (line_samples max lines.entry) }
 {
     match lines {
-        RawRowLines::Grey(line) => {
-            if max < 256 {
-                encode_grey_raw_row_in_bytes(out, line, max);
-            } else {
-                encode_grey_raw_row_in_pairs(out, line, max);
-            }
-        },
-        RawRowLines::Colour(red, green, blue) => {
-            if max < 256 {
-                encode_colour_raw_row_in_bytes(out, red, green, blue, max);
-            } else {
-                encode_colour_raw_row_in_pairs(out, red, green, blue, max);
-            }
+        RawRowLines::Grey(line) => encode_grey_raw_row(out, line, max),
+        RawRowLines::Colour(red, green, blue) => encode_colour_raw_row(out, red, green, blue, max),
+        RawRowLines::NarrowGrey(line) => encode_grey_raw_row(out, line, max),
+        RawRowLines::NarrowColour(red, green, blue) => {
+            encode_colour_raw_row(out, red, green, blue, max)
         },
     }
 }
 
+// A grey row.
+fn encode_grey_raw_row<V: RawRowNumbers>(out: &mut [u8], line: V, max: u16)
+    requires { length out.old ≡ width_of max * length (V.numbers line) }
+    ensures { out.new ≡ raw_raster max (map (sample_of max) (V.numbers line)) }
+{
+    if max < 256 {
+        encode_grey_raw_row_in_bytes(out, line, max);
+    } else {
+        encode_grey_raw_row_in_pairs(out, line, max);
+    }
+}
+
 // A grey row of one byte a sample.
-fn encode_grey_raw_row_in_bytes(out: &mut [u8], line: &[i32], max: u16)
+fn encode_grey_raw_row_in_bytes<V: RawRowNumbers>(out: &mut [u8], line: V, max: u16)
     requires max { max < 256 }
-    requires len { length out.old ≡ length line.now }
-    ensures { out.new ≡ map (sample_of max) line.now }
+    requires len { length out.old ≡ length (V.numbers line) }
+    ensures { out.new ≡ map (sample_of max) (V.numbers line) }
 {
     for k in 0..out.len() {
-        out[k] = clamp_raw_row_number(line, k, max) as u8;
+        out[k] = line.clamp_raw_row_number(k, max) as u8;
     }
 }
 
 // A grey row of two bytes a sample.
 #[tactic(auto, using(crate::proofs::Encoded::pairs_of_line))]
-fn encode_grey_raw_row_in_pairs(out: &mut [u8], line: &[i32], max: u16)
-    requires { length out.old ≡ 2 * length line.now }
-    ensures { out.new ≡ flat_map two_bytes (map (sample_of max) line.now) }
+fn encode_grey_raw_row_in_pairs<V: RawRowNumbers>(out: &mut [u8], line: V, max: u16)
+    requires { length out.old ≡ 2 * length (V.numbers line) }
+    ensures { out.new ≡ flat_map two_bytes (map (sample_of max) (V.numbers line)) }
 {
-    for k in 0..line.len() {
-        let sample = clamp_raw_row_number(line, k, max);
+    for k in 0..out.len() / 2 {
+        let sample = line.clamp_raw_row_number(k, max);
         out[2 * k] = (sample / 256) as u8;
         out[2 * k + 1] = (sample % 256) as u8;
     }
 }
 
+// A row of three colours.
+fn encode_colour_raw_row<V: RawRowNumbers>(out: &mut [u8], red: V, green: V, blue: V, max: u16)
+    requires green { length (V.numbers green) ≡ length (V.numbers red) }
+    requires blue { length (V.numbers blue) ≡ length (V.numbers red) }
+    requires len { length out.old ≡ width_of max * (3 * length (V.numbers red)) }
+    ensures { out.new ≡ raw_raster max (woven (map (sample_of max) (V.numbers red))
+        (map (sample_of max) (V.numbers green)) (map (sample_of max) (V.numbers blue))) }
+{
+    if max < 256 {
+        encode_colour_raw_row_in_bytes(out, red, green, blue, max);
+    } else {
+        encode_colour_raw_row_in_pairs(out, red, green, blue, max);
+    }
+}
+
 // A row of three colours and one byte a sample.
 #[tactic(auto, using(crate::proofs::Encoded::bytes_of_lines))]
-fn encode_colour_raw_row_in_bytes(
+fn encode_colour_raw_row_in_bytes<V: RawRowNumbers>(
     out: &mut [u8],
-    red: &[i32],
-    green: &[i32],
-    blue: &[i32],
+    red: V,
+    green: V,
+    blue: V,
     max: u16,
 )
     requires max { max < 256 }
-    requires green { length green.now ≡ length red.now }
-    requires blue { length blue.now ≡ length red.now }
-    requires len { length out.old ≡ 3 * length red.now }
-    ensures { out.new ≡ woven (map (sample_of max) red.now) (map (sample_of max) green.now)
-        (map (sample_of max) blue.now) }
+    requires green { length (V.numbers green) ≡ length (V.numbers red) }
+    requires blue { length (V.numbers blue) ≡ length (V.numbers red) }
+    requires len { length out.old ≡ 3 * length (V.numbers red) }
+    ensures { out.new ≡ woven (map (sample_of max) (V.numbers red))
+        (map (sample_of max) (V.numbers green)) (map (sample_of max) (V.numbers blue)) }
 {
-    for k in 0..red.len() {
-        out[3 * k] = clamp_raw_row_number(red, k, max) as u8;
-        out[3 * k + 1] = clamp_raw_row_number(green, k, max) as u8;
-        out[3 * k + 2] = clamp_raw_row_number(blue, k, max) as u8;
+    for k in 0..out.len() / 3 {
+        out[3 * k] = red.clamp_raw_row_number(k, max) as u8;
+        out[3 * k + 1] = green.clamp_raw_row_number(k, max) as u8;
+        out[3 * k + 2] = blue.clamp_raw_row_number(k, max) as u8;
     }
 }
 
 // A row of three colours and two bytes a sample.
 #[tactic(auto, using(crate::proofs::Encoded::pairs_of_lines))]
-fn encode_colour_raw_row_in_pairs(
+fn encode_colour_raw_row_in_pairs<V: RawRowNumbers>(
     out: &mut [u8],
-    red: &[i32],
-    green: &[i32],
-    blue: &[i32],
+    red: V,
+    green: V,
+    blue: V,
     max: u16,
 )
-    requires green { length green.now ≡ length red.now }
-    requires blue { length blue.now ≡ length red.now }
-    requires len { length out.old ≡ 6 * length red.now }
-    ensures { out.new ≡ flat_map two_bytes (woven (map (sample_of max) red.now)
-        (map (sample_of max) green.now) (map (sample_of max) blue.now)) }
+    requires green { length (V.numbers green) ≡ length (V.numbers red) }
+    requires blue { length (V.numbers blue) ≡ length (V.numbers red) }
+    requires len { length out.old ≡ 6 * length (V.numbers red) }
+    ensures { out.new ≡ flat_map two_bytes (woven (map (sample_of max) (V.numbers red))
+        (map (sample_of max) (V.numbers green)) (map (sample_of max) (V.numbers blue))) }
 {
-    for k in 0..red.len() {
-        write_raw_row_pair(out, 6 * k, clamp_raw_row_number(red, k, max));
-        write_raw_row_pair(out, 6 * k + 2, clamp_raw_row_number(green, k, max));
-        write_raw_row_pair(out, 6 * k + 4, clamp_raw_row_number(blue, k, max));
+    for k in 0..out.len() / 6 {
+        write_raw_row_pair(out, 6 * k, red.clamp_raw_row_number(k, max));
+        write_raw_row_pair(out, 6 * k + 2, green.clamp_raw_row_number(k, max));
+        write_raw_row_pair(out, 6 * k + 4, blue.clamp_raw_row_number(k, max));
     }
 }
 
@@ -125,13 +145,4 @@ fn write_raw_row_pair(out: &mut [u8], place: usize, sample: u16)
 {
     out[place] = (sample / 256) as u8;
     out[place + 1] = (sample % 256) as u8;
-}
-
-// The sample of a number of a row: the number clamped to 0 and the greatest sample.
-fn clamp_raw_row_number(line: &[i32], k: usize, max: u16) -> u16
-    requires { k < length line.now }
-    ensures value { result ≡ sample_of max (slice_index_or line.now k (pos 0)) }
-    ensures most { result ≤ max }
-{
-    line[k].clamp(0, i32::from(max)) as u16
 }

@@ -6,6 +6,7 @@
 mod encoding;
 pub mod laws;
 mod lines;
+mod numbers;
 
 pub use encoding::{count_raw_row_bytes, encode_raw_row};
 pub use lines::RawRowLines;

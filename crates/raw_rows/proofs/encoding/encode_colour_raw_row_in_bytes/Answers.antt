@@ -5,7 +5,7 @@ use Rattle.raw_rows.proofs.Encoded.{bytes_kept, bytes_set}
 use Rattle.raw_rows.proofs.encoding.encode_colour_raw_row_in_bytes.Goals as goal
 
 pub loop-k-preserved : goal.loop-k-preserved
-loop-k-preserved c =
+loop-k-preserved g c =
     let n = c.loop-k.k in
     let red = c.clamp_raw_row_number.ensures.value in
     let green = c.clamp_raw_row_number-in-loop-k.ensures.value in

@@ -5,7 +5,7 @@ use Rattle.raw_rows.proofs.Encoded.{pair_is, pair_kept, pairs_kept}
 use Rattle.raw_rows.proofs.encoding.encode_colour_raw_row_in_pairs.Goals as goal
 
 pub loop-k-preserved : goal.loop-k-preserved
-loop-k-preserved c =
+loop-k-preserved g c =
     let n = c.loop-k.k in
     let one = c.write_raw_row_pair.ensures in
     let two = c.write_raw_row_pair-in-loop-k.ensures in

@@ -5,7 +5,8 @@ use Rattle.raw_rows.proofs.Encoded.{ArePairsAt}
 use Rattle.raw_rows.proofs.encoding.encode_colour_raw_row_in_pairs.Given as goal
 
 abbrev pub invariant-loop-k : goal.invariant-loop-k
-invariant-loop-k l =
+invariant-loop-k g l =
+    let numbers = g.V.RawRowNumbers.numbers in
     (k : ℕ) → k < l.k
-    → ArePairsAt l.out (6 * k) (sample_of l.max (get_or l.red k (pos 0))) (sample_of l.max (get_or l.green k (pos 0)))
-    (sample_of l.max (get_or l.blue k (pos 0)))
+    → ArePairsAt l.out (6 * k) (sample_of l.max (get_or (numbers l.red) k (pos 0))) (sample_of l.max (get_or (numbers l.green) k (pos 0)))
+    (sample_of l.max (get_or (numbers l.blue) k (pos 0)))
