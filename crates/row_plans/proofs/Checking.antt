@@ -1,14 +1,14 @@
 -- What a check finds is what a plan needs.
-use Rattle.std.proofs.Common.{ℕ, ◌≡◌, refl, ap, ◌∙◌, List, slice_get, slice_set, Some}
+use Rattle.std.proofs.Common.{ℕ, zero, suc, ◌+◌, ◌≡◌, pos, ◌+ℤ◌, refl, sym, ap, ◌∙◌, List, [], ◌∷◌, get_or, slice_get, slice_set, Some}
 use Rattle.std.specs.Option.{option_map}
-use Rattle.std.proofs.lemmas.Option.{slice_get-map, slice_get_within, get_or_from_slice_get}
+use Rattle.std.proofs.lemmas.Option.{same_Some, slice_get-map, slice_get_within, get_or_from_slice_get}
 use Rattle.std.proofs.lemmas.List.Elements.{All-get_or}
 use Rattle.domains.specs.declared.area.Area.{Area}
 use Rattle.job.specs.Pipeline.{Pipeline}
 use Rattle.job.specs.Views.{stage_view}
-use Rattle.row_plans.specs.Checks.{AreStagesRead, IsNextReady, IsPlaceKept}
+use Rattle.row_plans.specs.Checks.{AreStagesRead, AreStatesOf, IsNextReady}
 use Rattle.row_plans.specs.Plans.{CanMake, IsOutputKept, states_after}
-use Rattle.row_plans.specs.Rows.{next_row}
+use Rattle.row_plans.specs.Rows.{IsKeptRow, next_row, one_row_more}
 use Rattle.row_plans.specs.Taken.{AreRowsReadOf}
 use Rattle.row_plans.specs.declared.row_state.RowState.{RowState}
 use Rattle.row_plans.specs.declared.stage_rows_read.StageRowsRead.{StageRowsRead}
@@ -32,36 +32,63 @@ read_stage_covered job list g x all is =
     rw (get_or_from_slice_get list g x x is) at (All-get_or (λ x. AreRowsReadOf (stage_view x.stage.now) x.reads.items) list g x (slice_get_within list g x is) all.covered)
 
 -- a row can be made that was found ready
-pub ready_can_be_made : (job : Pipeline) (list : List StageRowsRead) (states : List RowState) (g : ℕ) (x : StageRowsRead) (after : RowState)
-    → AreStagesRead job list → slice_get list g ≡ Some x → IsNextReady states g x after → CanMake job states g
-ready_can_be_made job list states g x after all is ready =
+pub ready_can_be_made : (job : Pipeline) (list : List StageRowsRead) (states : List RowState) (g : ℕ) (x : StageRowsRead)
+    → AreStagesRead job list → AreStatesOf list states → slice_get list g ≡ Some x → IsNextReady states g x → CanMake job states g
+ready_can_be_made job list states g x all areas is ready =
     let covered = read_stage_covered job list g x all is in
+    let has = areas.each g ready.state ready.own in
     record {
       stage = stage_view x.stage.now;
       there = read_stage_there job list g x all is;
       valued = covered.valued;
       state = ready.state;
       own = ready.own;
-      area = ready.area;
+      area = rw (same_Some has.read x (sym has.there ∙ is)) at has.area;
       begun = ready.begun;
       left = ready.left;
       some = ready.some;
       reads = covered.covered states g (next_row ready.state) ready.reads;
     }
 
--- the states once it is made
-pub ready_states_after : (states : List RowState) (g : ℕ) (x : StageRowsRead) (after : RowState) → IsNextReady states g x after
-    → slice_set states g after ≡ states_after states g
-ready_states_after states g x after ready = rw (ready.own, ready.made) refl
+-- a state after a row is made has the area of the one before it
+same_area_after : (states : List RowState) (g k : ℕ) (y s : RowState) → slice_get states g ≡ Some y → slice_get (slice_set states g (one_row_more y)) k ≡ Some s
+    → (t : RowState) × (slice_get states k ≡ Some t) × (s.area ≡ t.area)
+same_area_after [] g k y s own there = cc
+same_area_after (x ∷ xs) zero zero y s own there = (y, own, ap (λ t. t.area) (sym (same_Some (one_row_more y) s there)))
+same_area_after (x ∷ xs) zero (suc k) y s own there = (s, there, refl)
+same_area_after (x ∷ xs) (suc g) zero y s own there = (s, there, refl)
+same_area_after (x ∷ xs) (suc g) (suc k) y s own there = same_area_after xs g k y s own there
 
--- a row can be output that was found kept
-pub kept_can_be_output : (job : Pipeline) (list : List StageRowsRead) (states : List RowState) (y g : ℕ) (x : StageRowsRead)
-    → AreStagesRead job list → slice_get list g ≡ Some x → IsPlaceKept states g x y → IsOutputKept job states y g
-kept_can_be_output job list states y g x all is kept = record {
-  stage = stage_view x.stage.now;
-  there = read_stage_there job list g x all is;
-  state = kept.state;
-  own = kept.own;
-  area = kept.area;
-  kept = kept.kept;
-}
+-- the states keep the areas of their stages
+pub areas_after : (list : List StageRowsRead) (states : List RowState) (g : ℕ) (y : RowState) → AreStatesOf list states → slice_get states g ≡ Some y
+    → AreStatesOf list (states_after states g)
+areas_after list states g y areas own = rw own (record {
+  each = λ k s there.
+      let before = same_area_after states g k y s own there in
+      let has = areas.each k before.0 before.1 in
+      record { read = has.read; there = has.there; area = before.2 ∙ has.area };
+})
+
+-- the states once the row is made that was found ready, as the program writes them
+pub made_states_after : (states : List RowState) (g : ℕ) {x : StageRowsRead} (d e : RowState) → IsNextReady states g x
+    → slice_set states g (record { area = (get_or states g d).area; kept = (get_or states g d).kept; first = (get_or states g d).first; next = (get_or states g e).next + 1 })
+    ≡ states_after states g
+made_states_after states g d e ready =
+    let first : get_or states g d ≡ ready.state = get_or_from_slice_get states g ready.state d ready.own in
+    let second : get_or states g e ≡ ready.state = get_or_from_slice_get states g ready.state e ready.own in
+    rw (first, second, ready.own) refl
+
+-- a row can be output that is kept
+pub kept_can_be_output : (job : Pipeline) (list : List StageRowsRead) (states : List RowState) (y g : ℕ) (state : RowState)
+    → AreStagesRead job list → AreStatesOf list states → slice_get states g ≡ Some state → IsKeptRow state (state.area.rows.lo +ℤ pos y)
+    → IsOutputKept job states y g
+kept_can_be_output job list states y g state all areas own kept =
+    let has = areas.each g state own in
+    record {
+      stage = stage_view has.read.stage.now;
+      there = read_stage_there job list g has.read all has.there;
+      state = state;
+      own = own;
+      area = has.area;
+      kept = kept;
+    }

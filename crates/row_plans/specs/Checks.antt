@@ -1,9 +1,9 @@
 -- What the steps of a check of a plan find.
-use Rattle.std.specs.Prelude.{ℕ, ◌<◌, ◌≤◌, ◌≡◌, pos, ◌+ℤ◌, List, All, Some, map, slice_get}
+use Rattle.std.specs.Prelude.{ℕ, ◌<◌, ◌≤◌, ◌≡◌, List, All, Some, map, slice_get}
 use Rattle.domains.specs.Span.{len_of}
 use Rattle.job.specs.Pipeline.{Pipeline}
 use Rattle.job.specs.Views.{stage_view}
-use Rattle.row_plans.specs.Rows.{IsKeptRow, next_row, one_row_more}
+use Rattle.row_plans.specs.Rows.{next_row}
 use Rattle.row_plans.specs.Taken.{AreRowsReadOf, AreTakenKept}
 use Rattle.row_plans.specs.declared.row_state.RowState.{RowState}
 use Rattle.row_plans.specs.declared.stage_rows_read.StageRowsRead.{StageRowsRead}
@@ -13,20 +13,22 @@ pub record AreStagesRead (job : Pipeline) (list : List StageRowsRead) : Type 0 w
   pub stages : map (λ x. stage_view x.stage.now) list ≡ job.stages
   pub covered : All (λ x. AreRowsReadOf (stage_view x.stage.now) x.reads.items) list
 
--- the next row of stage g can be made, and this is its state then
-pub record IsNextReady (states : List RowState) (g : ℕ) (x : StageRowsRead) (after : RowState) : Type 0 where
+-- the state of stage g has the domain of the stage of its number
+pub record HasStage (list : List StageRowsRead) (g : ℕ) (state : RowState) : Type 0 where
+  pub read : StageRowsRead
+  pub there : slice_get list g ≡ Some read
+  pub area : state.area ≡ read.stage.now.domain
+
+-- and so has each state
+pub record AreStatesOf (list : List StageRowsRead) (states : List RowState) : Type 0 where
+  pub each : (g : ℕ) (state : RowState) → slice_get states g ≡ Some state → HasStage list g state
+
+-- the next row of stage g can be made
+pub record IsNextReady (states : List RowState) (g : ℕ) (x : StageRowsRead) : Type 0 where
   pub state : RowState
   pub own : slice_get states g ≡ Some state
-  pub area : state.area ≡ x.stage.now.domain
   pub begun : state.first ≤ state.next
   pub left : state.next < len_of state.area.rows
+  pub few : state.next < 2097153
   pub some : 0 < state.kept
   pub reads : All (AreTakenKept states g (next_row state)) x.reads.items
-  pub made : after ≡ one_row_more state
-
--- the row at this place of stage g is kept
-pub record IsPlaceKept (states : List RowState) (g : ℕ) (x : StageRowsRead) (place : ℕ) : Type 0 where
-  pub state : RowState
-  pub own : slice_get states g ≡ Some state
-  pub area : state.area ≡ x.stage.now.domain
-  pub kept : IsKeptRow state (state.area.rows.lo +ℤ pos place)

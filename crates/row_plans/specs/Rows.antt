@@ -1,5 +1,5 @@
 -- Which rows of stages are kept.
-use Rattle.std.specs.Prelude.{ℕ, ◌+◌, ◌<◌, ◌≤◌, ◌≡◌, ℤ, pos, ◌+ℤ◌, Some, List, slice_get}
+use Rattle.std.specs.Prelude.{ℕ, ◌+◌, ◌<◌, ◌≤◌, ◌≡◌, ℤ, pos, negsuc, ◌+ℤ◌, ◌≤ℤ◌, Some, List, slice_get}
 use Rattle.std.specs.Int.{int_gap}
 use Rattle.domains.specs.Span.{Holds}
 use Rattle.row_plans.specs.declared.row_state.RowState.{RowState}
@@ -14,6 +14,10 @@ pub record IsKeptRow (s : RowState) (r : ℤ) : Type 0 where
   pub begun : s.first ≤ int_gap s.area.rows.lo r
   pub made : int_gap s.area.rows.lo r < s.next
   pub kept : s.next ≤ int_gap s.area.rows.lo r + s.kept
+
+-- the number lies within 1,048,576 of 0, as those of the rows of domains do
+abbrev pub IsDomainRow : ℤ → Type 0
+IsDomainRow r = (negsuc 1048575 ≤ℤ r) × (r ≤ℤ pos 1048576)
 
 -- row r of stage g is kept
 abbrev pub IsKeptAt : List RowState → ℕ → ℤ → Type 0

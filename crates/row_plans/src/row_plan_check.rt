@@ -1,10 +1,10 @@
 #![tactic(auto)]
 //! Checks of plans: whether each row is made of rows that are kept, and no row is output that is not kept.
 
-ghost use Rattle.std.specs.Prelude.{◌≡◌, true, List, All, IfOk, IfSome, slice_set, ◌∷◌};
+ghost use Rattle.std.specs.Prelude.{◌≡◌, ◌+◌, ◌<◌, ℕ, true, List, All, IfOk, IfSome, Some, length, slice_get, slice_set, ◌∷◌};
 ghost use Rattle.job.specs.Kept.{pipeline_in};
 ghost use Rattle.row_plans.specs.Plans.{CanMake, IsOutputKept, IsRunnable, states_after};
-ghost use Rattle.row_plans.specs.Checks.{AreStagesRead, IsNextReady, IsPlaceKept};
+ghost use Rattle.row_plans.specs.Checks.{AreStagesRead, AreStatesOf, IsNextReady};
 ghost use Rattle.row_plans.specs.declared.plan.PlanStep.{PlanStep};
 
 use crate::plan::{PlanStep, RowPlan};
@@ -21,48 +21,41 @@ impl<'a> StageRowsRead<'a> {
         state.has_area(&self.area())
     }
 
-    /// The state of the stage once its next row is made, if the row can be made.
-    fn find_state_after_next_row(&self, states: &[RowState], stage: usize) -> Option<RowState>
-        ensures { IfSome result (λ after. IsNextReady states.now stage self.now after) }
+    // Whether the next row of the stage can be made.
+    #[inline]
+    fn has_next_row_ready(&self, states: &[RowState], stage: usize) -> bool
+        ensures { result ≡ true → IsNextReady states.now stage self.now }
     {
-        let state = states.get(stage)?;
-        if !self.has_area_of_row_state(state) || state.first > state.next || state.kept == 0 {
-            return None;
+        let Some(state) = states.get(stage) else {
+            return false;
+        };
+        if !state.has_next_row() {
+            return false;
         }
-        let row = state.find_next_row()?;
-        if !self.are_rows_read_kept(states, stage, row) {
-            return None;
-        }
-        Some(RowState {
-            next: state.next + 1,
-            ..*state
-        })
-    }
-
-    /// Whether the row at this place of the stage's domain is kept.
-    fn has_row_kept_in_row_states(&self, states: &[RowState], stage: usize, place: usize) -> bool
-        ensures { result ≡ true → IsPlaceKept states.now stage self.now place }
-    {
-        match states.get(stage) {
-            Some(state) => self.has_area_of_row_state(state) && state.keeps_row_of_place(place),
-            None => false,
-        }
+        self.are_rows_read_kept(states, stage, state.find_next_row())
     }
 }
 
-// The state of a stage once its next row is made, if the row can be made.
-fn find_planned_row_state(
+// Takes the step that makes the next row of a stage, and returns whether the row can be made.
+fn take_plan_step_of_stage(
     job: &Job,
     rows: &[StageRowsRead],
-    states: &[RowState],
+    states: &mut [RowState],
     stage: usize,
-) -> Option<RowState>
-    requires { AreStagesRead (pipeline_in job.now) rows.now }
-    ensures make { IfSome result (λ _. CanMake (pipeline_in job.now) states.now stage) }
-    ensures after { IfSome result (λ after. slice_set states.now stage after
-        ≡ states_after states.now stage) }
+) -> bool
+    requires read { AreStagesRead (pipeline_in job.now) rows.now }
+    requires areas { AreStatesOf rows.now states.old }
+    ensures make { result ≡ true → CanMake (pipeline_in job.now) states.old stage }
+    ensures after { result ≡ true → states.new ≡ states_after states.old stage }
 {
-    rows.get(stage)?.find_state_after_next_row(states, stage)
+    let Some(read) = rows.get(stage) else {
+        return false;
+    };
+    if stage >= states.len() || !read.has_next_row_ready(states, stage) {
+        return false;
+    }
+    states[stage].next += 1;
+    true
 }
 
 // Whether a row of the picture is kept in a plane.
@@ -73,11 +66,12 @@ fn is_planned_row_kept_for_output(
     row: usize,
     output: usize,
 ) -> bool
-    requires { AreStagesRead (pipeline_in job.now) rows.now }
+    requires read { AreStagesRead (pipeline_in job.now) rows.now }
+    requires areas { AreStatesOf rows.now states.now }
     ensures { result ≡ true → IsOutputKept (pipeline_in job.now) states.now row output }
 {
-    match rows.get(output) {
-        Some(read) => read.has_row_kept_in_row_states(states, output, row),
+    match states.get(output) {
+        Some(state) => state.keeps_row_of_place(row),
         None => false,
     }
 }
@@ -90,7 +84,8 @@ fn is_planned_row_kept_for_all_outputs(
     row: usize,
     outputs: &[usize],
 ) -> bool
-    requires { AreStagesRead (pipeline_in job.now) rows.now }
+    requires read { AreStagesRead (pipeline_in job.now) rows.now }
+    requires areas { AreStatesOf rows.now states.now }
     ensures { result ≡ true
         → All (IsOutputKept (pipeline_in job.now) states.now row) outputs.now }
 {
@@ -102,29 +97,45 @@ fn is_planned_row_kept_for_all_outputs(
     true
 }
 
+// Whether each state has the domain of the stage of its number.
+fn are_row_states_of_stages(rows: &[StageRowsRead], states: &[RowState]) -> bool
+    ensures { result ≡ true → AreStatesOf rows.now states.now }
+{
+    if rows.len() != states.len() {
+        return false;
+    }
+    for stage in 0..rows.len() {
+        if !rows[stage].has_area_of_row_state(&states[stage]) {
+            return false;
+        }
+    }
+    true
+}
+
 // Takes a step of a plan, and returns the next row of the picture. None if the step cannot be taken.
 fn take_plan_step(
     job: &Job,
     rows: &[StageRowsRead],
-    states: &mut Vec<RowState>,
+    states: &mut [RowState],
     step: PlanStep,
     outputs: &[usize],
     row: usize,
     end: usize,
 ) -> Option<usize>
-    requires { AreStagesRead (pipeline_in job.now) rows.now }
-    ensures { IfSome result (λ next. (steps : List PlanStep)
-        → IsRunnable (pipeline_in job.now) outputs.now end next states.new.items steps
-        → IsRunnable (pipeline_in job.now) outputs.now end row states.old.items (step ∷ steps)) }
+    requires read { AreStagesRead (pipeline_in job.now) rows.now }
+    requires areas { AreStatesOf rows.now states.old }
+    ensures runnable { IfSome result (λ next. (steps : List PlanStep)
+        → IsRunnable (pipeline_in job.now) outputs.now end next states.new steps
+        → IsRunnable (pipeline_in job.now) outputs.now end row states.old (step ∷ steps)) }
+    ensures areas { IfSome result (λ _. AreStatesOf rows.now states.new) }
 {
     match step {
         PlanStep::Make(stage) => {
-            let stage = stage as usize;
-            let after = find_planned_row_state(job, rows, states, stage)?;
-            if stage < states.len() {
-                states[stage] = after;
+            if take_plan_step_of_stage(job, rows, states, stage as usize) {
+                Some(row)
+            } else {
+                None
             }
-            Some(row)
         }
         PlanStep::Output => {
             if row < end && is_planned_row_kept_for_all_outputs(job, rows, states, row, outputs) {
@@ -154,6 +165,9 @@ pub(crate) fn is_row_plan_runnable(
     ensures { IfOk result (λ runs. runs ≡ true → IsRunnable (pipeline_in job.now) outputs.now end first
         plan.now.states.items plan.now.steps.items) }
 {
+    if !are_row_states_of_stages(rows, &plan.states) {
+        return Ok(false);
+    }
     let mut states = plan.states.as_slice().to_vec(alloc)?;
     let mut row = first;
     for step in &plan.steps {

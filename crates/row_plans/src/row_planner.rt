@@ -1,11 +1,17 @@
 #![tactic(auto)]
 //! Plans of rows by demand. No clause specifies them: each plan is checked before it is returned.
+//!
+//! Far from borders the steps of some rows of the picture, a period, are those of the next ones also. Then they are copied. What is
+//! planned so is what demand would plan: each row that is compared with another has moved as far as that one.
 
 use crate::plan::{PlanStep, RowPlan};
 use crate::row_state::RowState;
 use crate::stage_rows_read::StageRowsRead;
 use domains::Area;
 use std::alloc::{AllocError, Global};
+
+// The most rows of the picture of a period. With each level of a pyramid they double.
+const MOST_PERIOD: usize = 16;
 
 /// Which rows of a stage are planned, by their numbers.
 #[derive(Clone, Copy)]
@@ -18,6 +24,8 @@ struct PlannedRows {
     wanted: i32,
     // How many rows are kept.
     kept: i32,
+    // The row that was made next when the period began.
+    begun: i32,
 }
 
 impl PlannedRows {
@@ -28,7 +36,24 @@ impl PlannedRows {
             next: i32::MAX,
             wanted: i32::MIN,
             kept: 0,
+            begun: i32::MAX,
         }
+    }
+
+    // Begins a period.
+    fn begin_period(&mut self) {
+        self.begun = self.next;
+    }
+
+    // How many rows are made in the period.
+    fn count_rows_of_period(&self) -> i32 {
+        self.next.saturating_sub(self.begun)
+    }
+
+    // Makes as many rows again as in the period, so many times.
+    fn repeat_period(&mut self, times: i32) {
+        let rows = self.count_rows_of_period().saturating_mul(times);
+        self.next = self.next.saturating_add(rows);
     }
 
     // Wants rows, from the first up to the last. The first one of all is made first.
@@ -120,10 +145,96 @@ impl<'a> RowPlanner<'a> {
     ) -> Result<RowPlan, AllocError> {
         self.request_output_rows(first, end.saturating_sub(1));
         self.request_rows_read_by_all_stages();
-        for row in first..end {
-            self.plan_output_row(row)?;
+        let mut row = first;
+        let mut height = 1;
+        for _ in first..end {
+            if row >= end {
+                break;
+            }
+            row = self.plan_periods(alloc, row, end, height)?;
+            height = if height < MOST_PERIOD { height * 2 } else { 1 };
         }
         self.into_row_plan(alloc)
+    }
+
+    // Plans so many rows of the picture from this row on, and all that repeat them. Returns the row of the picture after them.
+    fn plan_periods(
+        &mut self,
+        alloc: Global,
+        row: usize,
+        end: usize,
+        height: usize,
+    ) -> Result<usize, AllocError> {
+        let from = self.steps.len();
+        for planned in &mut self.planned {
+            planned.begin_period();
+        }
+        let after = row.saturating_add(height).min(end);
+        for each in row..after {
+            self.plan_output_row(each)?;
+        }
+        let rows = i32::try_from(after.saturating_sub(row)).unwrap_or(0);
+        let left = i32::try_from(end.saturating_sub(after)).unwrap_or(0);
+        let times = self.count_repeats_of_period(rows, left);
+        self.repeat_period(alloc, from, times)?;
+        Ok(after.saturating_add(usize::try_from(times.saturating_mul(rows)).unwrap_or(0)))
+    }
+
+    // How often the steps of the period, of so many rows of the picture, can be copied while so many rows are left.
+    fn count_repeats_of_period(&self, rows: i32, left: i32) -> i32 {
+        let mut times = left.checked_div(rows).unwrap_or(0);
+        for output in self.outputs {
+            if self.find_planned_rows(*output).count_rows_of_period() != rows {
+                times = 0;
+            }
+        }
+        for (read, planned) in self.rows.iter().zip(&self.planned) {
+            times = times.min(self.count_repeats_of_stage(read, planned));
+        }
+        times
+    }
+
+    // How often the rows of a stage can be made again, so that what they read has moved as far as they have.
+    fn count_repeats_of_stage(&self, read: &StageRowsRead, planned: &PlannedRows) -> i32 {
+        let mut times = i32::MAX;
+        for rows in read.reads() {
+            let moved = self.find_planned_rows(rows.stage()).count_rows_of_period();
+            times = times.min(rows.count_repeats(planned.begun, planned.next, moved));
+        }
+        times
+    }
+
+    // Makes the rows of the period again, so many times, whose steps begin at this one.
+    fn repeat_period(&mut self, alloc: Global, from: usize, times: i32) -> Result<(), AllocError> {
+        let steps = self.steps.len().saturating_sub(from);
+        self.copy_steps(
+            alloc,
+            from,
+            steps.saturating_mul(usize::try_from(times).unwrap_or(0)),
+        )?;
+        for planned in &mut self.planned {
+            planned.repeat_period(times);
+        }
+        Ok(())
+    }
+
+    // Adds so many steps, which repeat those from this one on. Each copy doubles what is copied next.
+    fn copy_steps(&mut self, alloc: Global, from: usize, count: usize) -> Result<(), AllocError> {
+        self.steps.reserve(count)?;
+        let mut left = count;
+        for _ in 0..usize::BITS {
+            let end = self.steps.len().min(from.saturating_add(left));
+            let Some(copied) = self.steps.as_slice().get(from..end) else {
+                return Ok(());
+            };
+            if copied.is_empty() {
+                return Ok(());
+            }
+            let copied = copied.to_vec(alloc)?;
+            self.steps.extend_from_slice(&copied)?;
+            left = left.saturating_sub(copied.len());
+        }
+        Ok(())
     }
 
     // Wants what the rows read that are wanted, of each stage before those that it reads.

@@ -45,16 +45,46 @@ impl RowState {
         place < self.area.rows.len() as usize && self.keeps_row_at_place(place)
     }
 
-    /// The number of the row that is made next; none if all rows are made.
-    pub(crate) fn find_next_row(&self) -> Option<i32>
-        ensures next { IfSome result (λ row. row ≡ next_row self.now) }
-        ensures left { IfSome result (λ _. self.now.next < len_of self.now.area.rows) }
-        ensures few { IfSome result (λ _. self.now.next < 2097153) }
+    /// Whether all rows from row `first` to row `last` are kept, and there is one.
+    #[inline]
+    pub(crate) fn keeps_rows(&self, first: i32, last: i32) -> bool
+        ensures { result ≡ true
+            → (row : ℤ) → first ≤ℤ row → row ≤ℤ last → IsKeptRow self.now row }
     {
-        if self.next >= self.area.rows.len() as usize {
-            return None;
+        if first < self.area.rows.lo() || last < first || self.area.rows.hi() < last {
+            return false;
         }
-        Some(self.area.rows.lo() + self.next as i32)
+        self.keeps_places(self.find_place_of_row(first), self.find_place_of_row(last))
+    }
+
+    // Whether the rows at these places are kept.
+    #[inline]
+    fn keeps_places(&self, first: usize, last: usize) -> bool
+        requires { first ≤ last }
+        ensures { result ≡ true → (self.now.first ≤ first) × (last < self.now.next)
+            × (self.now.next ≤ first + self.now.kept) }
+    {
+        self.first <= first && last < self.next && self.next - first <= self.kept
+    }
+
+    /// Whether a row is left that is made next, and is to be kept.
+    #[inline]
+    pub(crate) fn has_next_row(&self) -> bool
+        ensures begun { result ≡ true → self.now.first ≤ self.now.next }
+        ensures left { result ≡ true → self.now.next < len_of self.now.area.rows }
+        ensures few { result ≡ true → self.now.next < 2097153 }
+        ensures some { result ≡ true → 0 < self.now.kept }
+    {
+        self.first <= self.next && self.next < self.area.rows.len() as usize && self.kept > 0
+    }
+
+    /// The number of the row that is made next.
+    #[inline]
+    pub(crate) fn find_next_row(&self) -> i32
+        requires { self.now.next < len_of self.now.area.rows }
+        ensures { result ≡ next_row self.now }
+    {
+        self.area.rows.lo() + self.next as i32
     }
 
     // The place of a row of the domain.
@@ -109,7 +139,7 @@ pub(crate) fn are_row_state_rows_kept(
         → (row : ℤ) → first ≤ℤ row → row ≤ℤ last → IsKeptAt states.now stage row }
 {
     match states.get(stage) {
-        Some(state) => state.keeps_row(first) && state.keeps_row(last),
+        Some(state) => state.keeps_rows(first, last),
         None => false,
     }
 }

@@ -1,11 +1,12 @@
 #![tactic(auto)]
 //! Which rows of other stages a row of a stage is made of.
 
-ghost use Rattle.std.specs.Prelude.{◌≡◌, ◌<◌, ◌+ℤ◌, ◌≤ℤ◌, ℕ, ℤ, pos, negsuc, true, List, IfSome};
+ghost use Rattle.std.specs.Prelude.{◌≡◌, ◌<◌, ◌↔◌, ◌+ℤ◌, ◌≤ℤ◌, ℕ, ℤ, pos, negsuc, true, List, IfSome, IsTrue};
 ghost use Rattle.domains.specs.Index.{index_at};
 ghost use Rattle.domains.specs.Span.{Holds};
 ghost use Rattle.job.specs.ReadViews.{read_view};
 ghost use Rattle.operators.specs.Values.{under};
+ghost use Rattle.row_plans.specs.Rows.{IsDomainRow};
 ghost use Rattle.row_plans.specs.Taken.{middle_row, AreTakenKept, IsKeptFor, IsReadKept};
 ghost use Rattle.row_plans.specs.declared.row_state.RowState.{RowState};
 
@@ -119,24 +120,25 @@ impl RowsRead {
     }
 
     // The row from which those that are read are counted.
+    #[inline]
     fn find_middle_row_read(&self, row: i32) -> Option<i32>
+        requires { IsDomainRow row }
         ensures middle { IfSome result (λ middle. middle ≡ middle_row self.now row) }
         ensures least { IfSome result (λ middle. negsuc 1048575 ≤ℤ middle) }
         ensures most { IfSome result (λ middle. middle ≤ℤ pos 1048576) }
     {
-        if row < -32_767 || row > 32_768 {
-            return None;
-        }
         match self.index {
-            Some(index) => Some(index.at(row)),
             None => Some(row),
+            Some(index) => find_row_read_at_index(&index, row),
         }
     }
 
     /// The first and the last row that are read for this row of the reader. None if its number is beyond those of domains.
+    #[inline]
     pub(crate) fn find_first_and_last_row_read(&self, row: i32) -> Option<(i32, i32)>
-        ensures { IfSome result (λ ends. (ends.0 ≡ middle_row self.now row +ℤ self.now.first)
-            × (ends.1 ≡ middle_row self.now row +ℤ self.now.last)) }
+        requires { IsDomainRow row }
+        ensures first { IfSome result (λ ends. ends.0 ≡ middle_row self.now row +ℤ self.now.first) }
+        ensures last { IfSome result (λ ends. ends.1 ≡ middle_row self.now row +ℤ self.now.last) }
     {
         let middle = self.find_middle_row_read(row)?;
         Some((
@@ -145,9 +147,18 @@ impl RowsRead {
         ))
     }
 
+    // Whether any rows are read for this row of the reader.
+    #[inline]
+    fn has_rows_read_at(&self, row: i32) -> bool
+        ensures held { IsTrue result ↔ Holds self.now.rows row }
+        ensures number { result ≡ true → IsDomainRow row }
+    {
+        self.rows.lo() <= row && row <= self.rows.hi()
+    }
+
     /// The first and the last row that are read for this row of the reader, if it is one for which any are read.
     pub(crate) fn find_rows_read_at(&self, row: i32) -> Option<(i32, i32)> {
-        if self.rows.holds(row) {
+        if self.has_rows_read_at(row) {
             self.find_first_and_last_row_read(row)
         } else {
             None
@@ -170,11 +181,43 @@ impl RowsRead {
         Some((first, last))
     }
 
+    /// How often the rows of the reader from `begun` up to before `next` can be made again, if each time so many rows more of the stage
+    /// that is read are made, so that they read what lies as far from the row that is made next.
+    pub(crate) fn count_repeats(&self, begun: i32, next: i32, moved: i32) -> i32 {
+        let made = next.saturating_sub(begun);
+        if made <= 0 || begun > self.rows.hi() {
+            i32::MAX
+        } else if next <= self.rows.lo() {
+            self.rows
+                .lo()
+                .saturating_sub(next)
+                .checked_div(made)
+                .unwrap_or(0)
+        } else if begun >= self.rows.lo() && self.moves_with_rows(made, moved) {
+            let end = self.rows.hi() + 1;
+            end.saturating_sub(next)
+                .max(0)
+                .checked_div(made)
+                .unwrap_or(0)
+        } else {
+            0
+        }
+    }
+
+    // Whether what is read moves by so many rows if the reader's row does.
+    fn moves_with_rows(&self, made: i32, moved: i32) -> bool {
+        match self.index {
+            Some(index) => { index.mul().saturating_mul(made) == index.div().saturating_mul(moved) }
+            None => made == moved,
+        }
+    }
+
     /// Whether the rows that are read for this row of the reader are kept, and are of another stage.
+    #[inline]
     pub(crate) fn are_rows_read_kept(&self, states: &[RowState], reader: usize, row: i32) -> bool
         ensures { result ≡ true → AreTakenKept states.now reader row self.now }
     {
-        if !self.rows.holds(row) {
+        if !self.has_rows_read_at(row) {
             return true;
         }
         match self.find_first_and_last_row_read(row) {
@@ -184,6 +227,18 @@ impl RowsRead {
             None => false,
         }
     }
+}
+
+// The row at an index. None if the number is beyond those of which indices are taken.
+fn find_row_read_at_index(index: &Index, row: i32) -> Option<i32>
+    ensures middle { IfSome result (λ middle. middle ≡ index_at index.now row) }
+    ensures least { IfSome result (λ middle. negsuc 1048575 ≤ℤ middle) }
+    ensures most { IfSome result (λ middle. middle ≤ℤ pos 1048576) }
+{
+    if row < -32_767 || row > 32_768 {
+        return None;
+    }
+    Some(index.at(row))
 }
 
 // The row that lies so far below another.
