@@ -1,9 +1,12 @@
 pub mod Places
 pub mod Areas
+pub mod LeastBounds
 pub mod Taking
 pub mod Values
 pub mod Turning
 pub mod Stages
+pub mod Stepping
+pub mod Made
 pub mod Given
 pub mod Points
 pub mod Begun

@@ -1,15 +1,31 @@
 -- Places of numbers along a row that is kept.
-use Rattle.std.proofs.Common.{arith, ℕ, ℤ, pos, ◌≡◌, ◌+◌, ◌-◌, ◌<◌, ◌+ℤ◌, ◌≤ℤ◌, List, ◌++◌, length, take, drop, ap, ◌∙◌, sym, subst}
+use Rattle.std.proofs.Common.{arith, ℕ, ℤ, pos, ◌≡◌, ◌+◌, ◌-◌, ◌<◌, ◌≤◌, ◌⊎◌, inl, inr, ◌+ℤ◌, ◌≤ℤ◌, true, List, ◌++◌, Some, get_or, slice_get, length, take, drop, ap, ◌∙◌, sym, subst}
+use Rattle.std.specs.Prelude.{slice_index_or}
 use Rattle.std.specs.Int.{int_gap}
 use Rattle.std.proofs.Math.IntN.{+ℤ_idr}
+use Rattle.std.proofs.Math.Dec.{ltb}
+use Rattle.std.proofs.lemmas.Bool.{cases_lt, ltb-true}
 use Rattle.std.proofs.lemmas.Grind.{common_steps}
 use Rattle.std.proofs.lemmas.Int.{ints}
+use Rattle.std.proofs.lemmas.Option.{slice_get-get_or}
 use Rattle.domains.proofs.Lengths.{gap_is}
 use Rattle.domains.specs.Index.{Scale, IsIndex, index_at}
 use Rattle.domains.specs.Span.{Ends, Holds}
 use Rattle.row_kernels.specs.Columns.{column_gap}
 use Rattle.row_kernels.proofs.Columns.{gap_goes}
 use Rattle.row_loops.specs.Rows.{EachPlace, at}
+
+-- what a list has at a place within it
+pub found_at : {X : Type 0} (xs : List X) (n : ℕ) (x : X) → true ≡ ltb n (length xs) → x ≡ get_or xs n x → slice_get xs n ≡ Some x
+found_at xs n x within is = slice_get-get_or xs n x (ltb-true n (length xs) (sym within)) ∙ ap Some (sym is)
+
+-- what holds of the first n numbers and of n
+pub each_more : (P : ℕ → Type 0) (n : ℕ) → ((g : ℕ) → g < n → P g) → P n → (g : ℕ) → g < n + 1 → P g
+each_more P n each last g h = by (cases_lt g n)
+  where
+    by : (g < n) ⊎ (n ≤ g) → P g
+    by (inl below) = each g below
+    by (inr above) = let same : n ≡ g = omega arith in subst P same last
 
 -- a number that lies k further on
 pub gap_along : (a b : ℤ) (k : ℕ) → a ≤ℤ b → int_gap a (b +ℤ pos k) ≡ int_gap a b + k
@@ -25,8 +41,9 @@ pub gap_nth : (a : ℤ) (k : ℕ) → int_gap a (a +ℤ pos k) ≡ k
 gap_nth a k = omega (arith, gap_along a a k (le_same a), gap_none a)
 
 -- a part of a line
-pub at_part : (line : List ℤ) (from n k : ℕ) → k < n → at (take (from + n - from) (drop from line)) k ≡ at line (from + k)
-at_part line from n k h = grind (arith, common_steps)
+pub number_part : {T : Type 0} (d : T) (line : List T) (from n k : ℕ) → k < n
+    → slice_index_or (take (from + n - from) (drop from line)) k d ≡ slice_index_or line (from + k) d
+number_part d line from n k h = grind (arith, common_steps)
 
 -- a line that is written anew
 pub at_refilled : (out rest : List ℤ) (n k : ℕ) → k < length out → k < n → at (take n (out ++ rest)) k ≡ at out k
@@ -35,11 +52,11 @@ at_refilled out rest n k h l = grind (arith, common_steps)
 pub refilled : (out line : List ℤ) (n : ℕ) → length out ≡ n → n ≡ length line → length (take n (out ++ drop (length out) line)) ≡ length line
 refilled out line n h e = grind (arith, common_steps)
 
-pub part_is : (line : List ℤ) (low first : ℤ) (from n k : ℕ) → low ≤ℤ first → from ≡ int_gap low first → k < n
-    → at (take (from + n - from) (drop from line)) k ≡ at line (int_gap low (first +ℤ pos k))
-part_is line low first from n k le is h =
+pub part_is : {T : Type 0} (d : T) (line : List T) (low first : ℤ) (from n k : ℕ) → low ≤ℤ first → from ≡ int_gap low first → k < n
+    → slice_index_or (take (from + n - from) (drop from line)) k d ≡ slice_index_or line (int_gap low (first +ℤ pos k)) d
+part_is d line low first from n k le is h =
     let along : from + k ≡ int_gap low (first +ℤ pos k) = omega (arith, is, gap_along low first k le) in
-    at_part line from n k h ∙ ap (at line) along
+    number_part d line from n k h ∙ ap (λ p. slice_index_or line p d) along
 
 -- the places of the columns that an index takes
 pub gathered_place : (cols : Ends) (x : Scale) (c : ℤ) (n from : ℕ) → IsIndex x → from ≡ int_gap cols.lo (index_at x c)

@@ -4,11 +4,11 @@ use Rattle.std.specs.Prelude.{slice_index_or}
 use Rattle.std.proofs.lemmas.Option.{same_Some, slice_get_read, slice_get_within}
 use Rattle.domains.specs.Span.{Holds}
 use Rattle.row_plans.specs.Rows.{IsKeptRow}
-use Rattle.row_rings.specs.RingRows.{ring_value, sample_in, IsKeptPoint}
+use Rattle.row_rings.specs.RingRows.{number_at, number_in, IsKeptPoint}
 use Rattle.row_rings.specs.declared.ring.RowRing.{RowRing}
 use Rattle.row_rings.proofs.Stages.{ring_sample}
 
-module _ (rings : List RowRing) (g : ℕ) (ring : RowRing) (is : ring ≡ slice_index_or rings g ring) where
+module _ {T : Type 0} (rings : List (RowRing T)) (g : ℕ) (ring : RowRing T) (is : ring ≡ slice_index_or rings g ring) where
   pub ring_there : g < length rings → slice_get rings g ≡ Some ring
   ring_there within = slice_get_read rings (length rings) g ring refl within is
 
@@ -20,10 +20,10 @@ module _ (rings : List RowRing) (g : ℕ) (ring : RowRing) (is : ring ≡ slice_
     same = same_Some k.ring ring (sym k.there ∙ ring_there within)
 
     pub point_row : IsKeptRow ring.state r
-    point_row = subst (λ (a : RowRing). IsKeptRow a.state r) same k.row
+    point_row = subst (λ (a : RowRing T). IsKeptRow a.state r) same k.row
 
     pub point_column : Holds ring.state.area.cols c
-    point_column = subst (λ (a : RowRing). Holds a.state.area.cols c) same k.column
+    point_column = subst (λ (a : RowRing T). Holds a.state.area.cols c) same k.column
 
-    pub point_sample : ring_value ring r c ≡ sample_in rings g r c
-    point_sample = sym (ring_sample rings g ring r c (ring_there within))
+    pub point_sample : (d : T) → number_at d ring r c ≡ number_in d rings g r c
+    point_sample d = sym (ring_sample d rings g ring r c (ring_there within))

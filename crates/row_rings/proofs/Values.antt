@@ -1,9 +1,10 @@
 -- The next row of a ring has the values of its stage.
-use Rattle.std.proofs.Common.{arith, ℕ, ℤ, pos, ◌≡◌, ◌<◌, ◌+ℤ◌, List, Option, Some, slice_get, subst, sym, ap, ◌∙◌}
+use Rattle.std.proofs.Common.{arith, ℕ, ℤ, pos, ◌≡◌, ◌<◌, ◌+ℤ◌, List, Option, Some, false, slice_get, subst, refl, sym, ap, ◌∙◌}
 use Rattle.std.specs.Prelude.{All}
 use Rattle.std.proofs.Math.IntN.{+ℤ_idl}
 use Rattle.std.proofs.lemmas.Int.{ints}
 use Rattle.std.proofs.lemmas.Option.{same_Some}
+use Rattle.domains.proofs.Lengths.{len_is}
 use Rattle.domains.specs.Area.{HoldsPoint, IsSubarea}
 use Rattle.domains.specs.Span.{Ends, Holds, IsSpan, len_of}
 use Rattle.domains.specs.declared.area.Area.{Area}
@@ -13,16 +14,22 @@ use Rattle.job.specs.Formula.{Formula}
 use Rattle.job.specs.Pipeline.{Body, JobCase, Stage, Pipeline, plane, function}
 use Rattle.job.specs.Reads.{SameAt, BodyReads, formulas_of}
 use Rattle.job.specs.Values.{body_value, sample_at, value}
-use Rattle.job.specs.WellFormed.{InDomainRange, IsBody, IsFormula, IsJob, IsStage, picture_area}
+use Rattle.job.specs.WellFormed.{InDomainRange, IsBody, IsFormula, IsFunction, IsJob, IsStage, picture_area}
 use Rattle.job.proofs.Solving.{body_value-agrees_there, ranked_is, value_solves}
 use Rattle.row_loops.specs.Rows.{EachPlace, at}
 use Rattle.row_plans.specs.Rows.{next_row}
 use Rattle.row_plans.specs.declared.row_state.RowState.{RowState}
+use Rattle.narrow_eval.specs.NarrowCases.{IsNarrowComputable}
+use Rattle.narrow_eval.specs.NarrowMixes.{is_mix}
+use Rattle.tile_eval.specs.Reading.{HasFunctionRoom}
+use Rattle.value_ranges.specs.Narrow.{Fits16}
+use Rattle.value_ranges.specs.Ranges.{IsNarrowBody}
 use Rattle.tile_eval.specs.Cases.{function_value, IsComputable}
 use Rattle.tile_eval.proofs.Rasters.{nth_held}
 use Rattle.row_rings.specs.RingRows.{sample_in, IsKeptPoint}
-use Rattle.row_rings.specs.TrueRings.{AreTrueRings}
-use Rattle.row_rings.specs.inside.Making.{row_area, IsPictureRow, IsMakeable, IsValueRow}
+use Rattle.row_rings.specs.NarrowRings.{IsFittingStage, IsNarrowlyMade, is_mix_body}
+use Rattle.row_rings.specs.TrueRings.{AreTrueRings, HasBodyRoom, HasStageRoom}
+use Rattle.row_rings.specs.inside.Making.{row_area, IsFittingRow, IsPictureRow, IsMakeable, IsValueRow}
 use Rattle.row_rings.specs.declared.ring.RowRing.{RowRing}
 use Rattle.row_rings.proofs.Areas.{span_short, side}
 use Rattle.row_rings.proofs.Taking.{reads_both}
@@ -41,7 +48,7 @@ alone_range s v is holds =
 alone_is : (v r : ℤ) → Holds (record { lo = v; hi = v }) r → r ≡ v
 alone_is v r holds = let low = holds.0 in let high = holds.1 in omega (arith, ints)
 
-module _ (job : Pipeline) (h : IsJob job) (rings : List RowRing) (g : ℕ) (state : RowState) (can : IsMakeable job rings g state) where
+module _ (job : Pipeline) (h : IsJob job) (rings : List (RowRing ℤ)) (g : ℕ) (state : RowState) (can : IsMakeable job rings g state) where
   own : IsStage job can.stage
   own = h.stages g can.stage can.there
 
@@ -57,6 +64,26 @@ module _ (job : Pipeline) (h : IsJob job) (rings : List RowRing) (g : ℕ) (stat
       let left = can.left in
       omega (arith, left, span_short state.area.rows (subst (λ (a : Area). IsSpan a.rows) (sym can.area) own.rows.span))
 
+  pub rows_range : InDomainRange state.area.rows
+  rows_range = subst (λ (a : Area). InDomainRange a.rows) (sym can.area) own.rows
+
+  pub cols_range : InDomainRange state.area.cols
+  cols_range = subst (λ (a : Area). InDomainRange a.cols) (sym can.area) own.cols
+
+  pub columns_some : 0 < len_of state.area.cols
+  columns_some =
+      let cols : IsSpan state.area.cols = subst (λ (a : Area). IsSpan a.cols) (sym can.area) own.cols.span in
+      let ordered = cols.ordered in omega (arith, ints, len_is state.area.cols cols, ordered)
+
+  -- the body has the values of the stage
+  solved : (body : Body) → can.stage.body ≡ body → (k : ℕ) → k < len_of state.area.cols
+      → body_value job.picture (value job) body (next_row state) (state.area.cols.lo +ℤ pos k)
+      ≡ value job g (next_row state) (state.area.cols.lo +ℤ pos k)
+  solved body is k l =
+      let c : ℤ = state.area.cols.lo +ℤ pos k in
+      ap (λ (b : Body). body_value job.picture (value job) b (next_row state) c) (sym is)
+      ∙ sym (value_solves job (ranked_is job h) g can.stage can.there can.valued (next_row state) c (row_in k l))
+
   -- a body that has the values of what is kept has those of the job
   pub values_made : AreTrueRings job rings → (body : Body) → can.stage.body ≡ body → (line : List ℤ)
       → EachPlace (len_of state.area.cols)
@@ -71,7 +98,7 @@ module _ (job : Pipeline) (h : IsJob job) (rings : List RowRing) (g : ℕ) (stat
       ∙ body_value-agrees_there job.picture (sample_in rings) (value job) can.stage.domain can.stage.body (next_row state) c own.boxes inside
       (reads_both (IsKeptPoint rings) (IsKeptPoint rings) (SameAt (sample_in rings) (value job)) (λ m q d x y. right m q d x) can.stage.body
       (next_row state) c reads reads)
-      ∙ sym (value_solves job (ranked_is job h) g can.stage can.there can.valued (next_row state) c inside)
+      ∙ solved can.stage.body refl k l
 
   -- ---- the stage of this number is a function or a plane
 
@@ -112,6 +139,46 @@ module _ (job : Pipeline) (h : IsJob job) (rings : List RowRing) (g : ℕ) (stat
         inside r c at =
             subst (λ (a : Area). HoldsPoint a r c) can.area (subst (Holds state.area.rows) (sym (alone_is row r at.0)) held, at.1)
 
+    pub narrow_made : (cases : List JobCase) (otherwise : Option Formula) → s.body ≡ function cases otherwise → (line : List ℤ)
+        → EachPlace (len_of state.area.cols)
+        (λ k. at line k ≡ function_value (value job) cases otherwise (next_row state) (state.area.cols.lo +ℤ pos k))
+        → IsValueRow job g state.area (next_row state) line
+    narrow_made cases otherwise is line each k l =
+        each k l ∙ solved (function cases otherwise) (same_body (function cases otherwise) is) k l
+
+    pub narrow_reads : (cases : List JobCase) (otherwise : Option Formula) → s.body ≡ function cases otherwise → (n : ℕ)
+        → n ≡ len_of state.area.cols
+        → EachPlace n (λ k. BodyReads (IsKeptPoint rings) (function cases otherwise) (next_row state) (state.area.cols.lo +ℤ pos k))
+    narrow_reads cases otherwise is n long k l =
+        subst (λ (b : Body). BodyReads (IsKeptPoint rings) b (next_row state) (state.area.cols.lo +ℤ pos k))
+        (same_body (function cases otherwise) is) (can.reads _ (row_in k (subst (λ m. k < m) long l)))
+
+    pub narrow_computable : (cases : List JobCase) (otherwise : Option Formula) → s.body ≡ function cases otherwise
+        → IsNarrowlyMade job g → is_mix cases otherwise ≡ false → (room : ℕ) → HasStageRoom job g (len_of state.area.cols) room → (n : ℕ) → n ≡ len_of state.area.cols
+        → IsNarrowComputable (IsKeptPoint rings) (value job) (next_row state) state.area.cols.lo n room cases otherwise
+    narrow_computable cases otherwise is narrow plain room has n long = record {
+      tests = subst (IsBody job.picture can.stage.domain) body own.body;
+      formulas = subst (λ (b : Body). All IsFormula (formulas_of b)) body own.formulas;
+      domain = can.stage.domain;
+      inside = inside;
+      boxes = subst (AreBoxed can.stage.domain) body own.boxes;
+      reads = narrow_reads cases otherwise is n long;
+      narrow = λ k l.
+          subst (λ (b : Body). IsNarrowBody (value job) b (next_row state) (state.area.cols.lo +ℤ pos k)) is
+          (narrow s there (subst IsFunction (sym is) tt) (ap is_mix_body is ∙ plain) (next_row state) _
+          (subst (λ (t : Stage). HoldsPoint t.domain (next_row state) (state.area.cols.lo +ℤ pos k))
+          (same_Some can.stage s (sym can.there ∙ there)) (inside k l)));
+      capacity =
+          subst (λ m. HasFunctionRoom m room cases otherwise) (sym long)
+          (subst (HasBodyRoom (len_of state.area.cols) room) is (has s there));
+    }
+      where
+        body : can.stage.body ≡ function cases otherwise
+        body = same_body (function cases otherwise) is
+
+        inside : EachPlace n (λ k. HoldsPoint can.stage.domain (next_row state) (state.area.cols.lo +ℤ pos k))
+        inside k l = row_in k (subst (λ m. k < m) long l)
+
     module _ (n : ℕ) (is : s.body ≡ plane n) (picture : Image) (same : picture ≡ job.picture) where
       in_picture : IsBody job.picture can.stage.domain (plane n)
       in_picture = subst (IsBody job.picture can.stage.domain) (same_body (plane n) is) own.body
@@ -127,11 +194,21 @@ module _ (job : Pipeline) (h : IsJob job) (rings : List RowRing) (g : ℕ) (stat
             long ∙ ap (λ (a : Area). len_of a.cols) area ∙ side job.picture.cols,
           )
 
-      pub plane_made : AreTrueRings job rings → (line : List ℤ)
+      plane_value : (k : ℕ) → k < len_of state.area.cols
+          → sample_at picture n (pos state.next) (pos k) ≡ value job g (next_row state) (state.area.cols.lo +ℤ pos k)
+      plane_value k l =
+          ap (λ (p : Image). sample_at p n (pos state.next) (pos k)) same
+          ∙ (λ i. sample_at job.picture n (sym (+ℤ_idl (pos state.next)) i) (sym (+ℤ_idl (pos k)) i))
+          ∙ ap (λ (a : Area). sample_at job.picture n (a.rows.lo +ℤ pos state.next) (a.cols.lo +ℤ pos k)) (sym area)
+          ∙ solved (plane n) (same_body (plane n) is) k l
+
+      pub plane_fits : IsFittingStage job g → IsFittingRow picture n state.next
+      plane_fits fits k l =
+          let long : k < len_of state.area.cols =
+          subst (λ m. k < m) (ap (λ (p : Image). p.cols) same ∙ sym (ap (λ (a : Area). len_of a.cols) area ∙ side job.picture.cols)) l in
+          subst Fits16 (sym (plane_value k long)) (fits can.stage can.there can.valued (next_row state) _ (row_in k long))
+
+      pub plane_made : (line : List ℤ)
           → EachPlace (len_of state.area.cols) (λ k. at line k ≡ sample_at picture n (pos state.next) (pos k))
           → IsValueRow job g state.area (next_row state) line
-      plane_made right line each =
-          values_made right (plane n) (same_body (plane n) is) line (λ k l.
-          each k l ∙ ap (λ (p : Image). sample_at p n (pos state.next) (pos k)) same
-          ∙ (λ i. sample_at job.picture n (sym (+ℤ_idl (pos state.next)) i) (sym (+ℤ_idl (pos k)) i))
-          ∙ ap (λ (a : Area). sample_at job.picture n (a.rows.lo +ℤ pos state.next) (a.cols.lo +ℤ pos k)) (sym area))
+      plane_made line each k l = each k l ∙ plane_value k l

@@ -1,10 +1,9 @@
 -- There is room in one way: any two proofs of it are equal.
-use Rattle.std.specs.Prelude.{ℕ, List}
+use Rattle.std.specs.Prelude.{ℕ, Bool, List}
 use Rattle.std.proofs.Props.{props}
 use Rattle.job.specs.Formula.{Formula, number, coordinate, read, unary, binary, ternary, literal, lookup, select, stencil}
 use Rattle.job.specs.Pipeline.{Body, plane, function, accumulator, Pipeline}
-use Rattle.row_rings.specs.TrueRings.{HasBodyRoom, AreRoomyRings}
-use Rattle.row_rings.specs.declared.ring.RowRing.{RowRing}
+use Rattle.row_rings.specs.TrueRings.{HasBodyRoom, AreRoomy}
 use Rattle.tile_eval.specs.Reading.{HasRoom}
 
 HasRoom-prop : (f : Formula) (n room : ℕ) → IsProp (HasRoom f n room)
@@ -25,5 +24,5 @@ HasBodyRoom-prop n room (plane m) = hlevel props
 HasBodyRoom-prop n room (function cases otherwise) = hlevel (HasRoom-prop, props)
 HasBodyRoom-prop n room (accumulator fold bins value bin) = hlevel props
 
-pub AreRoomyRings-prop : (job : Pipeline) (rings : List RowRing) (temps : ℕ) → IsProp (AreRoomyRings job rings temps)
-AreRoomyRings-prop job rings temps = hlevel (HasBodyRoom-prop, props)
+pub AreRoomy-prop : (job : Pipeline) (computed : List Bool) (narrow : Bool) (room : ℕ) → IsProp (AreRoomy job computed narrow room)
+AreRoomy-prop job computed narrow room = hlevel (HasBodyRoom-prop, props)

@@ -1,2 +1,4 @@
 -- What clauses of inner functions cite, and no public clause does.
 pub mod Making
+pub mod Places
+pub mod Converting

@@ -1,44 +1,62 @@
 #![tactic(auto)]
 //! The rings of a job.
 
-ghost use Rattle.std.specs.Prelude.{ℕ, ℤ, ◌≡◌, ◌<◌, ◌≢◌, length, All, IfOk, Some, slice_get, slice_set};
+ghost use Rattle.std.specs.Prelude.{ℕ, ℤ, ◌≡◌, ◌<◌, ◌≢◌, length, true, false, All, IfOk, Some, slice_get, slice_set, slice_index_or, if◌then◌else◌};
 ghost use Rattle.std.proofs.Props.{props};
 ghost use Rattle.job.specs.Kept.{pipeline_in};
 ghost use Rattle.raw_rows.specs.Rows.{row_values};
 ghost use Rattle.row_plans.specs.Plans.{states_after, CanMake, IsOutputKept};
-ghost use Rattle.row_rings.specs.RingRows.{IsKeptPoint};
-ghost use Rattle.row_rings.specs.TrueRings.{AreTrueRings, ArePlacedRings, AreRoomyRings};
-ghost use Rattle.row_rings.specs.RoomOnce.{AreRoomyRings-prop};
+ghost use Rattle.row_rings.specs.NarrowRings.{AreNarrowlyMade};
+ghost use Rattle.row_rings.specs.RingForms.{AreRightForms};
+ghost use Rattle.row_rings.specs.RingRows.{IsKeptPoint, ring_states};
+ghost use Rattle.row_rings.specs.TrueRings.{AreTrueRings, ArePlacedRings, AreRoomy};
+ghost use Rattle.row_rings.specs.RoomOnce.{AreRoomy-prop};
 
 use crate::new_rings::{allocate_rings, find_greatest_ring_room};
 use crate::ring::{RowRing, RowRings};
+use crate::ring_forms::{find_ring_forms, is_computed_narrow_ring};
 use job::Job;
 use row_plans::RowState;
 use std::alloc::{AllocError, Global};
 use std::mem;
 
-/// The rings of all stages of a job, with room for the numbers that are needed to make a row. What they have is true.
+/// The rings of all stages of a job, with room for the numbers that are needed to make a row. What they have is true. A stage whose
+/// formulas allow it is computed in 16 bits. Its rows are kept in the forms in which they are read.
 #[derive(Drop)]
 pub struct JobRings<'a> {
     alloc: Global,
     pub(crate) job: &'a Job,
-    pub(crate) known: RowRings,
+    // Which rows are kept.
+    pub(crate) states: Vec<RowState>,
+    pub(crate) wide: RowRings<i32>,
+    pub(crate) narrow: RowRings<i16>,
+    // Whether the rows of each stage are computed in 16 bits.
+    computed_narrow: Vec<bool>,
+    // Whether rows of outputs are kept as numbers of 16 bits, and not of 32.
+    pub(crate) narrow_outputs: bool,
     temps: Vec<i32>,
-    ghost right: { AreTrueRings (pipeline_in job.now) known.rings.items } by { Prim.hlevel props },
-    ghost placed: { ArePlacedRings (pipeline_in job.now) known.rings.items } by { Prim.hlevel props },
-    ghost roomy: { AreRoomyRings (pipeline_in job.now) known.rings.items (length temps.items) } by { AreRoomyRings-prop (pipeline_in job.now) known.rings.items (length temps.items) },
+    narrow_temps: Vec<i16>,
+    ghost forms: { AreRightForms (pipeline_in job.now) states.items (ring_states wide.rings.items)
+        (ring_states narrow.rings.items) computed_narrow.items } by { Prim.hlevel props },
+    ghost made: { ∥ AreNarrowlyMade (pipeline_in job.now) states.items computed_narrow.items ∥₁ },
+    ghost right: { AreTrueRings (pipeline_in job.now) wide.rings.items } by { Prim.hlevel props },
+    ghost right_narrow: { AreTrueRings (pipeline_in job.now) narrow.rings.items } by { Prim.hlevel props },
+    ghost placed: { ArePlacedRings (pipeline_in job.now) wide.rings.items } by { Prim.hlevel props },
+    ghost placed_narrow: { ArePlacedRings (pipeline_in job.now) narrow.rings.items } by { Prim.hlevel props },
+    ghost roomy: { AreRoomy (pipeline_in job.now) computed_narrow.items false (length temps.items) } by { AreRoomy-prop (pipeline_in job.now) computed_narrow.items false (length temps.items) },
+    ghost roomy_narrow: { AreRoomy (pipeline_in job.now) computed_narrow.items true (length narrow_temps.items) } by { AreRoomy-prop (pipeline_in job.now) computed_narrow.items true (length narrow_temps.items) },
 }
 
-impl RowRings {
+impl<T> RowRings<T> {
     // Takes the ring of a stage out. In its place stands one in which nothing is kept.
-    fn take_out_ring(&mut self, alloc: Global, stage: usize) -> RowRing
+    fn take_out_ring(&mut self, alloc: Global, stage: usize) -> RowRing<T>
         requires { stage < length self.old.rings.items }
         ensures ring { slice_get self.old.rings.items stage ≡ Some result }
         ensures place { stage < length self.new.rings.items }
         ensures none { (r c : ℤ) → ¬ (IsKeptPoint self.new.rings.items stage r c) }
         ensures others { (h : ℕ) → h ≢ stage
             → slice_get self.new.rings.items h ≡ slice_get self.old.rings.items h }
-        ensures back { (ring : RowRing) → slice_set self.new.rings.items stage ring
+        ensures back { (ring : RowRing T) → slice_set self.new.rings.items stage ring
             ≡ slice_set self.old.rings.items stage ring }
     {
         let RowState { area, .. } = self.rings[stage].state;
@@ -50,32 +68,47 @@ impl RowRings {
                 next: 0,
             },
             rows: Vec::new(alloc),
-            room: 0,
         };
         mem::replace(&mut self.rings[stage], none)
     }
 }
 
 impl<'a> JobRings<'a> {
-    ghost use Rattle.row_rings.specs.Rings.{states_in};
+    ghost use Rattle.row_rings.specs.Rings.{states_in, IsWideIn, IsNarrowIn, IsOutputForm};
 
-    /// Rings for these states, in which nothing is made.
+    /// Rings for these states, in which nothing is made. The rows of `outputs` are kept as numbers of 16 bits if all of them are
+    /// computed so, else of 32 bits.
     ///
     /// # Errors
     ///
     /// Fails only where memory is refused.
-    pub fn new(alloc: Global, job: &'a Job, states: &[RowState]) -> Result<JobRings<'a>, AllocError>
+    pub fn new(
+        alloc: Global,
+        job: &'a Job,
+        states: &[RowState],
+        outputs: &[usize],
+    ) -> Result<JobRings<'a>, AllocError>
         requires { All (λ state. state.next ≡ state.first) states.now }
         ensures job { IfOk result (λ rings. rings.job.now ≡ job.now) }
         ensures states { IfOk result (λ rings. states_in rings ≡ states.now) }
+        ensures outputs { IfOk result (λ rings. All (IsOutputForm rings) outputs.now) }
     {
-        let rings = allocate_rings(alloc, job, states)?;
-        let temps = vec![in alloc; 0; find_greatest_ring_room(&rings)]?;
+        let forms = find_ring_forms(alloc, job, states, outputs)?;
+        let room = find_greatest_ring_room(job, &forms.computed_narrow, false)?;
+        let narrow_room = find_greatest_ring_room(job, &forms.computed_narrow, true)?;
+        let states = states.to_vec(alloc)?;
+        let wide = allocate_rings(alloc, 0, &forms.wide)?;
+        let narrow = allocate_rings(alloc, 0, &forms.narrow)?;
         Ok(JobRings {
             alloc,
             job,
-            known: RowRings { rings },
-            temps,
+            states,
+            wide: RowRings { rings: wide },
+            narrow: RowRings { rings: narrow },
+            computed_narrow: forms.computed_narrow,
+            narrow_outputs: forms.narrow_outputs,
+            temps: vec![in alloc; 0; room]?,
+            narrow_temps: vec![in alloc; 0; narrow_room]?,
         })
     }
 
@@ -84,17 +117,75 @@ impl<'a> JobRings<'a> {
         requires { CanMake (pipeline_in self.old.job.now) (states_in self.old) stage }
         ensures job { self.new.job ≡ self.old.job }
         ensures states { states_in self.new ≡ states_after (states_in self.old) stage }
+        ensures wide { (g : ℕ) → IsWideIn self.old g → IsWideIn self.new g }
+        ensures narrow { (g : ℕ) → IsNarrowIn self.old g → IsNarrowIn self.new g }
+        ensures outputs { self.new.narrow_outputs ≡ self.old.narrow_outputs }
     {
-        let mut ring = self.known.take_out_ring(self.alloc, stage);
-        ring.make_next_row(self.job, stage, &self.known, &mut self.temps);
-        self.known.rings[stage] = ring;
+        if is_computed_narrow_ring(&self.computed_narrow, stage) {
+            self.make_next_narrow_ring_row(stage);
+        } else {
+            self.make_next_wide_ring_row(stage);
+        }
+    }
+
+    // Makes the next row of a stage in 32 bits.
+    fn make_next_wide_ring_row(&mut self, stage: usize)
+        requires can { CanMake (pipeline_in self.old.job.now) (states_in self.old) stage }
+        requires form { slice_index_or self.old.computed_narrow.items stage false ≡ false }
+        ensures job { self.new.job ≡ self.old.job }
+        ensures states { states_in self.new ≡ states_after (states_in self.old) stage }
+        ensures wide { (g : ℕ) → IsWideIn self.old g → IsWideIn self.new g }
+        ensures narrow { (g : ℕ) → IsNarrowIn self.old g → IsNarrowIn self.new g }
+        ensures outputs { self.new.narrow_outputs ≡ self.old.narrow_outputs }
+    {
+        let mut ring = self.wide.take_out_ring(self.alloc, stage);
+        ring.make_next_row(self.job, stage, &self.wide, &mut self.temps);
+        let line = ring.borrow_counted_row(self.states[stage].next);
+        self.narrow.push_narrowed_ring_row(stage, line);
+        self.wide.rings[stage] = ring;
+        self.states[stage].next += 1;
+    }
+
+    // Makes the next row of a stage in 16 bits.
+    fn make_next_narrow_ring_row(&mut self, stage: usize)
+        requires can { CanMake (pipeline_in self.old.job.now) (states_in self.old) stage }
+        requires form { slice_index_or self.old.computed_narrow.items stage false ≡ true }
+        ensures job { self.new.job ≡ self.old.job }
+        ensures states { states_in self.new ≡ states_after (states_in self.old) stage }
+        ensures wide { (g : ℕ) → IsWideIn self.old g → IsWideIn self.new g }
+        ensures narrow { (g : ℕ) → IsNarrowIn self.old g → IsNarrowIn self.new g }
+        ensures outputs { self.new.narrow_outputs ≡ self.old.narrow_outputs }
+    {
+        let mut ring = self.narrow.take_out_ring(self.alloc, stage);
+        ring.make_next_row_of_narrow_ring(self.job, stage, &self.narrow, &mut self.narrow_temps);
+        let line = ring.borrow_counted_row(self.states[stage].next);
+        self.wide.push_widened_ring_row(stage, line);
+        self.narrow.rings[stage] = ring;
+        self.states[stage].next += 1;
     }
 
     /// The values of a stage in a row, counted from the first row of its domain.
     pub fn borrow_ring_row(&self, stage: usize, row: usize) -> &[i32]
-        requires { IsOutputKept (pipeline_in self.now.job.now) (states_in self.now) row stage }
+        requires kept { IsOutputKept (pipeline_in self.now.job.now) (states_in self.now) row stage }
+        requires wide { IsWideIn self.now stage }
         ensures { result.now ≡ row_values (pipeline_in self.now.job.now) row stage }
     {
-        self.known.rings[stage].borrow_counted_row(row)
+        self.wide.rings[stage].borrow_counted_row(row)
+    }
+
+    /// The same as numbers of 16 bits.
+    pub fn borrow_narrow_ring_row(&self, stage: usize, row: usize) -> &[i16]
+        requires kept { IsOutputKept (pipeline_in self.now.job.now) (states_in self.now) row stage }
+        requires narrow { IsNarrowIn self.now stage }
+        ensures { result.now ≡ row_values (pipeline_in self.now.job.now) row stage }
+    {
+        self.narrow.rings[stage].borrow_counted_row(row)
+    }
+
+    /// Whether the rows of outputs are kept as numbers of 16 bits, and not of 32.
+    pub fn has_narrow_output_rings(&self) -> bool
+        ensures { result ≡ self.now.narrow_outputs }
+    {
+        self.narrow_outputs
     }
 }

@@ -1,17 +1,18 @@
 #![tactic(auto)]
 //! The rows that a ring keeps.
 
-ghost use Rattle.std.specs.Prelude.{◌≡◌, ◌<◌, ◌≤◌, ◌+◌, ◌+ℤ◌, pos, length};
+ghost use Rattle.std.specs.Prelude.{◌≡◌, ◌<◌, ◌≤◌, ◌+◌, ◌+ℤ◌, pos, length, slice_index_or};
 ghost use Rattle.std.specs.Int.{int_gap};
 ghost use Rattle.domains.specs.Index.{index_at};
 ghost use Rattle.domains.specs.Span.{Holds, len_of};
-ghost use Rattle.row_loops.specs.Rows.{EachPlace, at};
+ghost use Rattle.row_kernels.specs.Columns.{column_gap};
+ghost use Rattle.row_loops.specs.Rows.{EachPlace};
 ghost use Rattle.row_plans.specs.Rows.{IsKeptRow};
-ghost use Rattle.row_rings.specs.RingRows.{row_at, ring_row, ring_value};
+ghost use Rattle.row_rings.specs.RingRows.{row_at, ring_row, number_at, number_in, IsKeptPoint};
+ghost use Rattle.row_rings.specs.inside.Places.{IsGatheredLine};
 
-use crate::ring::RowRing;
+use crate::ring::{RowRing, RowRings};
 use domains::{Index, Span};
-use row_kernels::gather_index_columns;
 use tile_eval::RowSpan;
 
 // How far a number of a span lies after the first.
@@ -23,9 +24,9 @@ fn count_ring_steps(span: &Span, v: i32) -> usize
     (v - span.lo()) as usize
 }
 
-impl RowRing {
+impl<T> RowRing<T> {
     // The numbers of a row that is kept, which is counted from the first one of the domain.
-    pub(crate) fn borrow_counted_row(&self, row: usize) -> &[i32]
+    pub(crate) fn borrow_counted_row(&self, row: usize) -> &[T]
         requires made { row < self.now.state.next }
         requires kept { self.now.state.next ≤ row + self.now.state.kept }
         ensures numbers { result.now ≡ row_at self.now row }
@@ -35,7 +36,7 @@ impl RowRing {
     }
 
     // The numbers of the row of this number.
-    fn borrow_row_of_number(&self, row: i32) -> &[i32]
+    fn borrow_row_of_number(&self, row: i32) -> &[T]
         requires { IsKeptRow self.now.state row }
         ensures numbers { result.now ≡ ring_row self.now row }
         ensures count { length result.now ≡ len_of self.now.state.area.cols }
@@ -44,32 +45,51 @@ impl RowRing {
     }
 
     // `count` numbers of a row that is kept, from a column on.
-    pub(crate) fn slice_kept_row(&self, row: i32, first: i32, count: usize) -> &[i32]
+    fn slice_kept_row(&self, row: i32, first: i32, count: usize) -> &[T]
         requires row { IsKeptRow self.now.state row }
         requires some { 0 < count }
         requires columns { EachPlace count
             (λ k. Holds self.now.state.area.cols (first +ℤ pos k)) }
         ensures count { length result.now ≡ count }
-        ensures values { EachPlace count
-            (λ k. at result.now k ≡ ring_value self.now row (first +ℤ pos k)) }
+        ensures values { (d : T) → EachPlace count
+            (λ k. slice_index_or result.now k d ≡ number_at d self.now row (first +ℤ pos k)) }
     {
         let line = self.borrow_row_of_number(row);
         let from = count_ring_steps(&self.state.area.cols, first);
         &line[from..from + count]
     }
 
-    // Writes the numbers of a row that is kept, at the columns that an index takes at the columns of some points.
-    pub(crate) fn gather_kept_row(&self, row: i32, col: &Index, points: &RowSpan, out: &mut [i32])
+    // A row that is kept, and the place in it of the column that an index takes at the first of some points.
+    pub(crate) fn borrow_gathered_row(
+        &self,
+        row: i32,
+        col: &Index,
+        points: &RowSpan,
+    ) -> (&[T], usize)
         requires row { IsKeptRow self.now.state row }
-        requires some { 0 < length out.old }
-        requires fits { length out.old ≡ points.now.len }
-        requires columns { EachPlace (length out.old)
+        requires some { 0 < points.now.len }
+        requires columns { EachPlace points.now.len
             (λ k. Holds self.now.state.area.cols (index_at col.now (points.now.col +ℤ pos k))) }
-        ensures { EachPlace (length out.old) (λ k. at out.new k
-            ≡ ring_value self.now row (index_at col.now (points.now.col +ℤ pos k))) }
+        ensures { IsGatheredLine self.now row col.now points.now.col points.now.len result.0.now result.1 }
     {
         let line = self.borrow_row_of_number(row);
         let from = count_ring_steps(&self.state.area.cols, col.at(points.col));
-        gather_index_columns(line, from, col, points, out);
+        (line, from)
+    }
+}
+
+impl<T> RowRings<T> {
+    // `count` numbers of a row of a stage, from a column on.
+    pub(crate) fn slice_ring_row(&self, stage: usize, row: i32, first: i32, count: usize) -> &[T]
+        requires { EachPlace count
+            (λ k. IsKeptPoint self.now.rings.items stage row (first +ℤ pos k)) }
+        ensures count { length result.now ≡ count }
+        ensures values { (d : T) → EachPlace count (λ k. slice_index_or result.now k d
+            ≡ number_in d self.now.rings.items stage row (first +ℤ pos k)) }
+    {
+        if count == 0 {
+            return &[];
+        }
+        self.rings[stage].slice_kept_row(row, first, count)
     }
 }

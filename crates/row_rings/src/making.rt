@@ -34,7 +34,7 @@ fn write_samples_to_ring(picture: &Picture, plane: usize, row: usize, out: &mut 
 
 // Writes a row of a function. The contents of the operands' buffer have no meaning.
 fn write_function_row_to_ring(
-    known: &RowRings,
+    known: &RowRings<i32>,
     function: &Function,
     area: &Area,
     row: i32,
@@ -64,7 +64,7 @@ fn write_stage_row_to_ring(
     job: &Job,
     stage: usize,
     state: &RowState,
-    known: &RowRings,
+    known: &RowRings<i32>,
     out: &mut [i32],
     temps: &mut [i32],
 )
@@ -88,13 +88,13 @@ fn write_stage_row_to_ring(
     }
 }
 
-impl RowRing {
+impl RowRing<i32> {
     // Makes the next row, in place of the oldest one.
     pub(crate) fn make_next_row(
         &mut self,
         job: &Job,
         stage: usize,
-        known: &RowRings,
+        known: &RowRings<i32>,
         temps: &mut [i32],
     )
         requires can { IsMakeable (pipeline_in job.now) known.now.rings.items stage self.old.state }

@@ -1,91 +1,104 @@
 #![tactic(auto)]
 //! Rings in which nothing is made.
 
-ghost use Rattle.std.specs.Prelude.{ℕ, ◌≡◌, ◌≤◌, length, All, IfOk, Some, slice_get};
+ghost use Rattle.std.specs.Prelude.{ℕ, ◌≡◌, length, All, IfOk, slice_index_or, false};
 ghost use Rattle.domains.specs.Span.{len_of};
 ghost use Rattle.job.specs.Kept.{pipeline_in};
 ghost use Rattle.row_rings.specs.RingRows.{ring_states};
-ghost use Rattle.row_rings.specs.TrueRings.{HasStageRoom};
+ghost use Rattle.row_rings.specs.TrueRings.{HasOwnRoom};
 
 use crate::ring::RowRing;
+use crate::ring_forms::is_computed_narrow_ring;
 use job::{Body, Job};
 use row_plans::RowState;
 use std::alloc::{AllocError, Global};
 use tile_eval::compute_operand_capacity_of_function;
 
-// How many numbers are needed beside a row of `width` points of a stage to make it.
-fn compute_ring_room(job: &Job, stage: usize, width: usize) -> Result<usize, AllocError>
-    ensures { IfOk result (λ room. HasStageRoom (pipeline_in job.now) stage width room) }
+// How many numbers are needed beside a row of a stage to make it.
+fn compute_ring_room(job: &Job, stage: usize) -> Result<usize, AllocError>
+    ensures { IfOk result (λ room. HasOwnRoom (pipeline_in job.now) stage room) }
 {
     let Some(found) = job.stage(stage) else {
         return Ok(0);
     };
     match found.body() {
-        Body::Function(function) => compute_operand_capacity_of_function(function, width).ok_or(
-            AllocError,
-        ),
+        Body::Function(function) => compute_operand_capacity_of_function(
+            function,
+            found.domain().cols.len() as usize,
+        ).ok_or(AllocError),
         Body::Plane(_) | Body::Accumulator(_) => Ok(0),
     }
 }
 
+// The same, or 0 if the stage is computed in the other form.
+fn compute_ring_room_in_form(
+    job: &Job,
+    computed_narrow: &[bool],
+    narrow: bool,
+    stage: usize,
+) -> Result<usize, AllocError>
+    ensures { IfOk result (λ room. slice_index_or computed_narrow.now stage false ≡ narrow
+        → HasOwnRoom (pipeline_in job.now) stage room) }
+{
+    if is_computed_narrow_ring(computed_narrow, stage) != narrow {
+        return Ok(0);
+    }
+    compute_ring_room(job, stage)
+}
+
+// How many numbers are needed beside a row of any stage that is computed in 16 bits, or of any other one.
+pub(crate) fn find_greatest_ring_room(
+    job: &Job,
+    computed_narrow: &[bool],
+    narrow: bool,
+) -> Result<usize, AllocError>
+    ensures { IfOk result (λ room. (g : ℕ) → slice_index_or computed_narrow.now g false ≡ narrow
+        → HasOwnRoom (pipeline_in job.now) g room) }
+{
+    let mut room = 0;
+    for stage in 0..job.stages().len() {
+        room = compute_ring_room_in_form(job, computed_narrow, narrow, stage)?.max(room);
+    }
+    Ok(room)
+}
+
 // `count` rows of `width` numbers.
-fn allocate_ring_rows(
+fn allocate_ring_rows<T: Copy>(
     alloc: Global,
+    zero: T,
     count: usize,
     width: usize,
-) -> Result<Vec<Vec<i32>>, AllocError>
+) -> Result<Vec<Vec<T>>, AllocError>
     ensures count { IfOk result (λ rows. length rows.items ≡ count) }
     ensures width { IfOk result (λ rows. All (λ row. length row.items ≡ width) rows.items) }
 {
     let mut rows = Vec::with_capacity(alloc, count)?;
     for _ in 0..count {
-        rows.push(vec![in alloc; 0; width]?)?;
+        rows.push(vec![in alloc; zero; width]?)?;
     }
     Ok(rows)
 }
 
-// A ring of a stage, in this state.
-fn allocate_ring(
-    alloc: Global,
-    job: &Job,
-    stage: usize,
-    state: RowState,
-) -> Result<RowRing, AllocError>
-    ensures state { IfOk result (λ ring. ring.state ≡ state) }
-    ensures room { IfOk result (λ ring. HasStageRoom (pipeline_in job.now) stage
-        (len_of state.area.cols) ring.room) }
+// A ring in this state.
+fn allocate_ring<T: Copy>(alloc: Global, zero: T, state: RowState) -> Result<RowRing<T>, AllocError>
+    ensures { IfOk result (λ ring. ring.state ≡ state) }
 {
     let width = state.area.cols.len() as usize;
-    let room = compute_ring_room(job, stage, width)?;
-    let rows = allocate_ring_rows(alloc, state.kept, width)?;
-    Ok(RowRing { state, rows, room })
+    let rows = allocate_ring_rows(alloc, zero, state.kept, width)?;
+    Ok(RowRing { state, rows })
 }
 
-// The rings of all stages, in these states.
-pub(crate) fn allocate_rings(
+// Rings in these states. Before its rows are made a ring has this number everywhere.
+pub(crate) fn allocate_rings<T: Copy>(
     alloc: Global,
-    job: &Job,
+    zero: T,
     states: &[RowState],
-) -> Result<Vec<RowRing>, AllocError>
-    ensures states { IfOk result (λ rings. ring_states rings.items ≡ states.now) }
-    ensures room { IfOk result (λ rings. (g : ℕ) (ring : RowRing)
-        → slice_get rings.items g ≡ Some ring
-        → HasStageRoom (pipeline_in job.now) g (len_of ring.state.area.cols) ring.room) }
+) -> Result<Vec<RowRing<T>>, AllocError>
+    ensures { IfOk result (λ rings. ring_states rings.items ≡ states.now) }
 {
     let mut rings = Vec::with_capacity(alloc, states.len())?;
-    for (stage, state) in states.iter().enumerate() {
-        rings.push(allocate_ring(alloc, job, stage, *state)?)?;
+    for state in states {
+        rings.push(allocate_ring(alloc, zero, *state)?)?;
     }
     Ok(rings)
-}
-
-// The greatest room that a ring needs.
-pub(crate) fn find_greatest_ring_room(rings: &[RowRing]) -> usize
-    ensures { (g : ℕ) (ring : RowRing) → slice_get rings.now g ≡ Some ring → ring.room ≤ result }
-{
-    let mut room = 0;
-    for ring in rings {
-        room = ring.room.max(room);
-    }
-    room
 }

@@ -6,24 +6,29 @@ use Rattle.domains.specs.declared.area.Area.{Area}
 use Rattle.netpbm.specs.Image.{Image}
 use Rattle.job.specs.Pipeline.{Stage, Pipeline}
 use Rattle.job.specs.Reads.{BodyReads}
-use Rattle.job.specs.Values.{value}
+use Rattle.job.specs.Values.{value, sample_at}
 use Rattle.job.specs.WellFormed.{IsValued}
 use Rattle.row_loops.specs.Rows.{EachPlace, at}
 use Rattle.row_plans.specs.Rows.{next_row, one_row_more}
 use Rattle.row_plans.specs.declared.row_state.RowState.{RowState}
 use Rattle.row_rings.specs.RingRows.{row_at, IsKeptPoint}
 use Rattle.row_rings.specs.declared.ring.RowRing.{RowRing}
+use Rattle.value_ranges.specs.Narrow.{Fits16}
 
 -- row y of a picture that has plane n, counted from the first one, has so many samples
 abbrev pub IsPictureRow : Image → ℕ → ℕ → ℕ → Type 0
 IsPictureRow picture n y count = (n < length picture.planes) × (y < picture.rows) × (count ≡ picture.cols)
+
+-- its samples fit in 16 bits
+abbrev pub IsFittingRow : Image → ℕ → ℕ → Type 0
+IsFittingRow picture n y = EachPlace picture.cols (λ k. Fits16 (sample_at picture n (pos y) (pos k)))
 
 -- row r of an area alone
 abbrev pub row_area : Area → ℤ → Area
 row_area area r = record { rows = record { lo = r; hi = r }; cols = area.cols }
 
 -- the next row of stage g is one of its domain, and all that it reads is kept
-pub record IsMakeable (job : Pipeline) (rings : List RowRing) (g : ℕ) (state : RowState) : Type 0 where
+pub record IsMakeable (job : Pipeline) (rings : List (RowRing ℤ)) (g : ℕ) (state : RowState) : Type 0 where
   pub stage : Stage
   pub there : slice_get job.stages g ≡ Some stage
   pub valued : IsValued stage.body
@@ -36,8 +41,7 @@ abbrev pub IsValueRow : Pipeline → ℕ → Area → ℤ → List ℤ → Type 
 IsValueRow job g area r line = EachPlace (len_of area.cols) (λ k. at line k ≡ value job g r (area.cols.lo +ℤ pos k))
 
 -- a ring of stage g once its next row is made: as many of the rows before it as are kept stay as they are
-pub record HasOneRowMore (job : Pipeline) (g : ℕ) (old new : RowRing) : Type 0 where
+pub record HasOneRowMore (job : Pipeline) (g : ℕ) (old new : RowRing ℤ) : Type 0 where
   pub state : new.state ≡ one_row_more old.state
-  pub room : new.room ≡ old.room
   pub older : (y : ℕ) → y < old.state.next → old.state.next < y + old.state.kept → row_at new y ≡ row_at old y
   pub made : IsValueRow job g old.state.area (next_row old.state) (row_at new old.state.next)

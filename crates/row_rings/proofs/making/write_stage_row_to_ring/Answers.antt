@@ -34,7 +34,7 @@ pub returns-in-Plane : goal.returns-in-Plane
 returns-in-Plane c =
     plane_made (pipeline_in c.args.job.now) c.args.job.now.well c.args.known.now.rings.items c.args.stage c.args.state.now c.requires.can
     (stage_view c.in-Some.found.now) (sym c.in-Some.ensures) c.in-Plane.plane (ap body_view (sym c.body.ensures ∙ c.in-Plane.is))
-    c.picture.result.now c.picture.ensures c.requires.right c.write_samples_to_ring.new.out (λ k h.
+    c.picture.result.now c.picture.ensures c.write_samples_to_ring.new.out (λ k h.
     c.write_samples_to_ring.ensures k (omega (arith, h, c.requires.count)))
 
 pub returns-in-Function : goal.returns-in-Function

@@ -1,19 +1,23 @@
-use Rattle.std.proofs.Common.{arith, ◌<◌, ◌≤◌, length, refl}
+use Rattle.std.proofs.Common.{arith, ℕ, ◌≡◌, ◌<◌, false, length, ap, sym}
+use Rattle.std.specs.Prelude.{slice_index_or}
+use Rattle.std.proofs.lemmas.List.{length-map}
 use Rattle.std.proofs.lemmas.Option.{slice_get_within}
-use Rattle.domains.proofs.Places.{here_is, all_more}
-use Rattle.row_rings.specs.declared.ring.RowRing.{RowRing}
+use Rattle.job.specs.Kept.{pipeline_in}
+use Rattle.job.specs.Views.{stage_view}
+use Rattle.row_rings.specs.TrueRings.{HasOwnRoom}
+use Rattle.row_rings.proofs.Places.{each_more}
+use Rattle.row_rings.proofs.Rooms.{own_more}
 use Rattle.row_rings.proofs.new_rings.find_greatest_ring_room.Goals as goal
 
-pub loop-ring-preserved : goal.loop-ring-preserved
-loop-ring-preserved c =
-    let rings = c.args.rings.now in
-    let i = c.loop-ring.ring-index in
-    let ring = c.ring-item.result in
-    all_more (λ n (other : RowRing). other.room ≤ c.max-room.result) rings i ring
-    (here_is rings rings i ring refl c.loop-ring-test.true c.ring-item.is) (omega (arith, c.max-room.ensures))
-    (λ g other h at. let before = c.loop-ring.invariant g other h at in omega (arith, before, c.max-room.ensures))
+pub loop-stage-preserved : goal.loop-stage-preserved
+loop-stage-preserved c =
+    let job = pipeline_in c.args.job.now in
+    each_more (λ g. slice_index_or c.args.computed_narrow.now g false ≡ c.args.narrow → HasOwnRoom job g c.max-room.result) c.loop-stage.stage
+    (λ g h flag. own_more job g c.loop-stage.room c.max-room.result (omega (arith, c.max-room.ensures)) (c.loop-stage.invariant g h flag))
+    (λ flag. own_more job c.loop-stage.stage _ c.max-room.result (omega (arith, c.max-room.ensures)) (c.in_ok-compute_ring_room_in_form.ensures flag))
 
 pub returns : goal.returns
-returns c = λ g ring at.
-    let within : g < length c.args.rings.now = slice_get_within c.args.rings.now g ring at in
-    c.loop-ring.invariant g ring (omega (arith, within, c.loop-ring-test.false)) at
+returns c = λ g flag s there.
+    let within : g < length (pipeline_in c.args.job.now).stages = slice_get_within (pipeline_in c.args.job.now).stages g s there in
+    c.loop-stage.invariant g
+    (omega (arith, within, c.loop-stage-test.false, ap length c.stages-stage-end.ensures, length-map c.stages-stage-end.result.now stage_view)) flag s there

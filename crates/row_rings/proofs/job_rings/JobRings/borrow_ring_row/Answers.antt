@@ -1,9 +1,10 @@
 use Rattle.job.specs.Kept.{pipeline_in}
+use Rattle.row_rings.specs.Rings.{states_in}
 use Rattle.row_rings.proofs.Given.{row_given}
 use Rattle.row_rings.proofs.job_rings.JobRings.borrow_ring_row.Goals as goal
 
 pub returns : goal.returns
 returns c =
-    row_given (pipeline_in c.args.self.now.job.now) c.args.self.now.known.rings.items c.args.row c.args.stage c.requires
-    c.index.result.now c.index.ensures c.args.self.now.right c.borrow_counted_row.result.now c.borrow_counted_row.ensures.numbers
-    c.borrow_counted_row.ensures.count
+    row_given (pipeline_in c.args.self.now.job.now) (states_in c.args.self.now) c.args.self.now.wide.rings.items c.args.row c.args.stage
+    c.requires.kept c.requires.wide c.index.result.now c.index.ensures c.args.self.now.right c.borrow_counted_row.result.now
+    c.borrow_counted_row.ensures.numbers c.borrow_counted_row.ensures.count

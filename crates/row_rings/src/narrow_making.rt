@@ -1,0 +1,136 @@
+#![tactic(auto)]
+//! The next row of a ring of 16 bits, from the rows of others.
+
+ghost use Rattle.std.specs.Prelude.{◌≡◌, ◌<◌, ◌+ℤ◌, false, pos, length, map};
+ghost use Rattle.std.specs.Option.{option_map};
+ghost use Rattle.domains.specs.Span.{len_of};
+ghost use Rattle.job.specs.Kept.{pipeline_in};
+ghost use Rattle.job.specs.Pipeline.{function as function_body};
+ghost use Rattle.job.specs.Reads.{BodyReads};
+ghost use Rattle.job.specs.Values.{value, sample_at};
+ghost use Rattle.job.specs.WellFormed.{InDomainRange};
+ghost use Rattle.job.specs.Views.{case_view, formula_view};
+ghost use Rattle.row_loops.specs.Rows.{EachPlace, at};
+ghost use Rattle.row_plans.specs.Rows.{next_row};
+ghost use Rattle.row_rings.specs.RingRows.{IsKeptPoint};
+ghost use Rattle.row_rings.specs.NarrowRings.{IsFittingStage, IsNarrowlyMade};
+ghost use Rattle.row_rings.specs.TrueRings.{AreTrueRings, HasStageRoom};
+ghost use Rattle.row_rings.specs.inside.Making.{IsFittingRow, IsMakeable, IsPictureRow, IsValueRow, HasOneRowMore};
+ghost use Rattle.narrow_eval.specs.NarrowCases.{IsNarrowComputable};
+ghost use Rattle.narrow_eval.specs.NarrowMixes.{is_mix};
+ghost use Rattle.tile_eval.specs.Cases.{function_value};
+
+use crate::narrow_ring_source::NarrowRingSource;
+use crate::ring::{RowRing, RowRings};
+use domains::Area;
+use job::{Body, Function, Job};
+use narrow_eval::{evaluate_narrow_function, try_narrow_mix};
+use narrow_kernels::convert_samples_to_narrow_row;
+use netpbm::Picture;
+use row_plans::RowState;
+use tile_eval::RowSpan;
+
+// Writes a row of a plane, which is counted from the first one of the picture. Its samples fit in 16 bits.
+fn write_samples_to_narrow_ring(picture: &Picture, plane: usize, row: usize, out: &mut [i16])
+    requires row { IsPictureRow picture.now plane row (length out.old) }
+    requires fits { IsFittingRow picture.now plane row }
+    ensures { EachPlace (length out.old)
+        (λ k. at out.new k ≡ sample_at picture.now plane (pos row) (pos k)) }
+{
+    convert_samples_to_narrow_row(&picture.samples(plane), row * out.len(), out);
+}
+
+// Writes a row of a function, which is counted from the first one of its domain. The contents of the operands' buffer have no
+// meaning.
+fn write_function_row_to_narrow_ring(
+    job: &Job,
+    known: &RowRings<i16>,
+    function: &Function,
+    area: &Area,
+    row: usize,
+    out: &mut [i16],
+    temps: &mut [i16],
+)
+    requires right { AreTrueRings (pipeline_in job.now) known.now.rings.items }
+    requires rows { InDomainRange area.now.rows }
+    requires cols { InDomainRange area.now.cols }
+    requires row { row < len_of area.now.rows }
+    requires count { length out.old ≡ len_of area.now.cols }
+    requires some { 0 < length out.old }
+    requires reads { EachPlace (length out.old) (λ k. BodyReads (IsKeptPoint known.now.rings.items)
+        (function_body (map case_view function.now.cases.items)
+        (option_map formula_view function.now.otherwise)) (area.now.rows.lo +ℤ pos row)
+        (area.now.cols.lo +ℤ pos k)) }
+    requires function { is_mix (map case_view function.now.cases.items)
+        (option_map formula_view function.now.otherwise) ≡ false
+        → IsNarrowComputable (IsKeptPoint known.now.rings.items)
+        (value (pipeline_in job.now)) (area.now.rows.lo +ℤ pos row) area.now.cols.lo (length out.old)
+        (length temps.old) (map case_view function.now.cases.items)
+        (option_map formula_view function.now.otherwise) }
+    ensures { EachPlace (length out.old) (λ k. at out.new k
+        ≡ function_value (value (pipeline_in job.now)) (map case_view function.now.cases.items)
+        (option_map formula_view function.now.otherwise) (area.now.rows.lo +ℤ pos row)
+        (area.now.cols.lo +ℤ pos k)) }
+{
+    let points = RowSpan::from_area_row(area, row);
+    let source = NarrowRingSource { job, known };
+    if try_narrow_mix(&source, function, &points, out) {
+        return;
+    }
+    evaluate_narrow_function(&source, function, &points, out, temps);
+}
+
+// Writes the next row of a stage, from the rows that it reads.
+fn write_stage_row_to_narrow_ring(
+    job: &Job,
+    stage: usize,
+    state: &RowState,
+    known: &RowRings<i16>,
+    out: &mut [i16],
+    temps: &mut [i16],
+)
+    requires can { IsMakeable (pipeline_in job.now) known.now.rings.items stage state.now }
+    requires right { AreTrueRings (pipeline_in job.now) known.now.rings.items }
+    requires fits { IsFittingStage (pipeline_in job.now) stage }
+    requires narrow { IsNarrowlyMade (pipeline_in job.now) stage }
+    requires count { length out.old ≡ len_of state.now.area.cols }
+    requires room { HasStageRoom (pipeline_in job.now) stage (len_of state.now.area.cols)
+        (length temps.old) }
+    ensures { IsValueRow (pipeline_in job.now) stage state.now.area (next_row state.now) out.new }
+{
+    let Some(found) = job.stage(stage) else {
+        return;
+    };
+    match found.body() {
+        Body::Plane(plane) => write_samples_to_narrow_ring(job.picture(), *plane, state.next, out),
+        Body::Function(function) => {
+            let row = state.next;
+            write_function_row_to_narrow_ring(job, known, function, &state.area, row, out, temps);
+        }
+        Body::Accumulator(_) => {}
+    }
+}
+
+impl RowRing<i16> {
+    // Makes the next row, in place of the oldest one.
+    pub(crate) fn make_next_row_of_narrow_ring(
+        &mut self,
+        job: &Job,
+        stage: usize,
+        known: &RowRings<i16>,
+        temps: &mut [i16],
+    )
+        requires can { IsMakeable (pipeline_in job.now) known.now.rings.items stage self.old.state }
+        requires some { 0 < self.old.state.kept }
+        requires right { AreTrueRings (pipeline_in job.now) known.now.rings.items }
+        requires fits { IsFittingStage (pipeline_in job.now) stage }
+        requires narrow { IsNarrowlyMade (pipeline_in job.now) stage }
+        requires room { HasStageRoom (pipeline_in job.now) stage (len_of self.old.state.area.cols)
+            (length temps.old) }
+        ensures { HasOneRowMore (pipeline_in job.now) stage self.old self.new }
+    {
+        write_stage_row_to_narrow_ring(job, stage, &self.state, known, &mut self.rows[0], temps);
+        self.rows.rotate_left(1);
+        self.state.next += 1;
+    }
+}
