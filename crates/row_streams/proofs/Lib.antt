@@ -1,3 +1,4 @@
+pub mod Forms
 pub mod Lines
 pub mod MadeInOrder
 pub mod Steps

@@ -2,6 +2,7 @@
 //! Rows of a picture, one after the other.
 
 ghost use Rattle.std.specs.Prelude.{◌≡◌, ◌<◌, ◌≤◌, ◌+◌, ◌-◌, ◌*◌, length, drop, slice_get, Some, All, IfOk, IfSome};
+ghost use Rattle.std.proofs.Props.{props};
 ghost use Rattle.job.specs.Kept.{pipeline_in};
 ghost use Rattle.job.specs.Views.{output_view};
 ghost use Rattle.job.specs.WellFormed.{IsOutput};
@@ -9,7 +10,7 @@ ghost use Rattle.netpbm.specs.Raw.{raw_raster, width_of};
 ghost use Rattle.raw_rows.specs.Lines.{line_samples, AreEven, plane_count, pixel_count};
 ghost use Rattle.raw_rows.specs.Rows.{bytes_per_row, raw_row, raw_rows};
 ghost use Rattle.row_plans.specs.Plans.{IsOutputKept, IsRunnable};
-ghost use Rattle.row_rings.specs.Rings.{states_in};
+ghost use Rattle.row_rings.specs.Rings.{states_in, IsWideIn, IsNarrowIn, IsOutputForm};
 ghost use Rattle.row_streams.specs.Once.{IsOutput-prop, IsRunnable-prop};
 
 use job::{Job, Output};
@@ -35,6 +36,7 @@ pub struct RowStream<'a> {
     row_len: usize,
     ghost own: { rings.job.now ≡ job.now },
     ghost formed: { IsOutput (pipeline_in job.now) (output_view output.now) } by { IsOutput-prop (pipeline_in job.now) (output_view output.now) },
+    ghost formed_rings: { All (IsOutputForm rings) (output_view output.now).stages } by { Prim.hlevel props },
     ghost wide: { row_len ≡ bytes_per_row (pipeline_in job.now) (output_view output.now) },
     ghost runnable: { IsRunnable (pipeline_in job.now) (output_view output.now).stages end row
         (states_in rings) (drop at steps.items) } by { IsRunnable-prop (pipeline_in job.now) (output_view output.now).stages end row
@@ -67,7 +69,7 @@ impl<'a> RowStream<'a> {
         let Some(plan) = make_row_plan(alloc, job, output.stages(), first, end)? else {
             return Ok(None);
         };
-        let rings = JobRings::new(alloc, job, &plan.states)?;
+        let rings = JobRings::new(alloc, job, &plan.states, output.stages())?;
         let row_len = count_raw_row_bytes(
             output.stages().len(),
             area.cols.len() as usize,
@@ -159,6 +161,46 @@ impl<'a> RowStream<'a> {
     fn borrow_streamed_row_lines(&self) -> RawRowLines<'_>
         requires { All (IsOutputKept (pipeline_in self.now.job.now) (states_in self.now.rings)
             self.now.row) (output_view self.now.output.now).stages }
+        ensures even { AreEven result }
+        ensures len { bytes_per_row (pipeline_in self.now.job.now) (output_view self.now.output.now)
+            ≡ width_of self.now.output.now.max * (plane_count result * pixel_count result) }
+        ensures bytes { raw_raster self.now.output.now.max (line_samples self.now.output.now.max result)
+            ≡ raw_row (pipeline_in self.now.job.now) (output_view self.now.output.now) self.now.row }
+    {
+        if self.rings.has_narrow_output_rings() {
+            self.borrow_narrow_streamed_row_lines()
+        } else {
+            self.borrow_wide_streamed_row_lines()
+        }
+    }
+
+    // The same, if they are kept as numbers of 16 bits.
+    fn borrow_narrow_streamed_row_lines(&self) -> RawRowLines<'_>
+        requires kept { All (IsOutputKept (pipeline_in self.now.job.now) (states_in self.now.rings)
+            self.now.row) (output_view self.now.output.now).stages }
+        requires narrow { All (IsNarrowIn self.now.rings) (output_view self.now.output.now).stages }
+        ensures even { AreEven result }
+        ensures len { bytes_per_row (pipeline_in self.now.job.now) (output_view self.now.output.now)
+            ≡ width_of self.now.output.now.max * (plane_count result * pixel_count result) }
+        ensures bytes { raw_raster self.now.output.now.max (line_samples self.now.output.now.max result)
+            ≡ raw_row (pipeline_in self.now.job.now) (output_view self.now.output.now) self.now.row }
+    {
+        match self.output.stages() {
+            [grey] => RawRowLines::NarrowGrey(self.rings.borrow_narrow_ring_row(*grey, self.row)),
+            [red, green, blue] => RawRowLines::NarrowColour(
+                self.rings.borrow_narrow_ring_row(*red, self.row),
+                self.rings.borrow_narrow_ring_row(*green, self.row),
+                self.rings.borrow_narrow_ring_row(*blue, self.row),
+            ),
+            _ => unreachable!(),
+        }
+    }
+
+    // The same, if they are kept as numbers of 32 bits.
+    fn borrow_wide_streamed_row_lines(&self) -> RawRowLines<'_>
+        requires kept { All (IsOutputKept (pipeline_in self.now.job.now) (states_in self.now.rings)
+            self.now.row) (output_view self.now.output.now).stages }
+        requires wide { All (IsWideIn self.now.rings) (output_view self.now.output.now).stages }
         ensures even { AreEven result }
         ensures len { bytes_per_row (pipeline_in self.now.job.now) (output_view self.now.output.now)
             ≡ width_of self.now.output.now.max * (plane_count result * pixel_count result) }

@@ -19,6 +19,7 @@ invariant_of-self c =
     let lt : self.row < self.end = omega arith in record {
       own = self.own;
       formed = self.formed;
+      formed_rings = self.formed_rings;
       wide = self.wide;
       runnable =
           (from_output (pipeline_in self.job.now) self.output.now.stages.items self.end self.row (states_in self.rings) self.steps.items self.at

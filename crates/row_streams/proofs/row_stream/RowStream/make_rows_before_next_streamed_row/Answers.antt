@@ -1,11 +1,13 @@
 use Rattle.std.proofs.Common.{◌<◌, ◌+◌, List, drop, sym, ap, subst, ◌∙◌, arith}
+use Rattle.std.proofs.lemmas.List.Elements.{All-weaker}
 use Rattle.std.proofs.lemmas.Option.{slice_get-get_or}
 use Rattle.std.specs.Prelude.{Some}
 use Rattle.job.specs.Kept.{pipeline_in}
 use Rattle.row_plans.specs.Plans.{IsRunnable}
 use Rattle.row_plans.specs.declared.plan.PlanStep.TheVariants.{Make}
 use Rattle.row_plans.specs.declared.row_state.RowState.{RowState}
-use Rattle.row_rings.specs.Rings.{states_in}
+use Rattle.row_rings.specs.Rings.{states_in, IsOutputForm}
+use Rattle.row_streams.proofs.Forms.{output_form_stays}
 use Rattle.row_streams.proofs.Steps.{from_step, step_left}
 use Rattle.row_streams.proofs.row_stream.RowStream.make_rows_before_next_streamed_row.Goals as goal
 
@@ -21,6 +23,10 @@ invariant_of-self c =
     c.index.ensures c.in-Make.is self.runnable in record {
       own = ap (λ kept. kept.now) c.make_next_ring_row.ensures.job ∙ self.own;
       formed = self.formed;
+      formed_rings =
+          All-weaker (IsOutputForm self.rings) (IsOutputForm c.make_next_ring_row.new.self)
+          (output_form_stays self.rings c.make_next_ring_row.new.self c.make_next_ring_row.ensures.wide
+          c.make_next_ring_row.ensures.narrow c.make_next_ring_row.ensures.outputs) outputs self.formed_rings;
       wide = self.wide;
       runnable =
           subst (λ (states : List RowState). IsRunnable job outputs self.end self.row states (drop (self.at + 1) self.steps.items))

@@ -1,0 +1,24 @@
+use Rattle.std.proofs.Common.{rules, arith, ◌≡◌, ◌-◌, ◌++◌, length, take, drop, sym, ap, ◌∙◌}
+use Rattle.std.proofs.Math.Seq.{take-append_seam}
+use Rattle.job.specs.Kept.{pipeline_in}
+use Rattle.job.specs.Views.{output_view}
+use Rattle.raw_rows.specs.Rows.{raw_rows}
+use Rattle.row_streams.specs.Strips.{row_count, strip_end, strip_start}
+use Rattle.row_streams.proofs.strip_streams.StripStreamMaker.make_strip_stream.Goals as goal
+
+pub returns : goal.returns
+returns c =
+    let self = c.args.self.now in
+    let height = row_count (pipeline_in self.job.now) (output_view self.output.now) in
+    let stream = c.in-Some.stream in
+    let out = c.encode_next_streamed_rows.new.out in
+    let long : length out ≡ c.in_ok-bytes.bytes.len = omega (arith, c.encode_next_streamed_rows.auto.out, c.deref_mut.ensures.len) in
+    let job : stream.job.now ≡ self.job.now = search rules in
+    let output : stream.output.now ≡ self.output.now = search rules in
+    let first : c.min-first.result ≡ strip_start height self.len c.args.number = search rules in
+    let end : c.min-end.result ≡ strip_end height self.len c.args.number = search rules in
+    let row : stream.row ≡ c.min-first.result = search rules in
+    ap (λ n. take n (out ++ drop (length out) c.in_ok-bytes.bytes.items)) (sym long)
+    ∙ take-append_seam out (drop (length out) c.in_ok-bytes.bytes.items)
+    ∙ c.encode_next_streamed_rows.ensures.bytes
+    ∙ (λ i. raw_rows (pipeline_in (job i)) (output_view (output i)) ((row ∙ first) i) (end i - first i))
