@@ -4,8 +4,8 @@
 use job::Job;
 use tile_run::count_point_run_work;
 
-/// Least work at which several threads pay off, in reads and operators: about three milliseconds.
-const WORK_WORTH_STRIPS: u64 = 8_388_608;
+/// Least work at which several threads pay off, in reads and operators: three to eight milliseconds of one thread.
+const WORK_WORTH_STRIPS: u64 = 67_108_864;
 
 // The work of all stages at all their points, as far as it can be counted.
 fn estimate_work_of_streamed_result(job: &Job) -> u64 {
