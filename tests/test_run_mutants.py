@@ -145,6 +145,13 @@ class Judged(Crate):
         self.assertEqual(lines[-1], "1 mutants apply, 1 do not")
         self.assertIn("mutants: small/text_is_not_there.edit: BAD EDIT: an 'old:' text is in src/lib.rt 0 times, and not once", lines)
 
+    def test_names_that_a_crate_lacks_are_told_without_the_prover(self):
+        self.mutant("calls_the_third", "next(next(a))", "small::third(next(a))")
+        self.mutant("calls_the_fifth", "next(next(a))", "small::fifth(next(a))")
+        status, lines = self.told("--read")
+        self.assertEqual((status, lines[-1]), (1, "1 mutants apply, 1 do not"))
+        self.assertIn("mutants: small/calls_the_fifth.edit: BAD EDIT: there is no small::fifth", lines)
+
     def test_what_the_clock_leaves_is_skipped_and_fails_nothing(self):
         for name in ("next_adds_three", "third_adds_four"):
             self.mutant(name, *MUTANTS[name][:2])
