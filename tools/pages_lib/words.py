@@ -1,4 +1,5 @@
 """The words of the crates, and the crate that the name of a function leads to."""
+import functools
 import re
 from typing import Iterator
 
@@ -15,6 +16,7 @@ def parted(said: str) -> tuple[str, list[str]]:
     return (found[1], [it.strip() for it in found[2].split(",")]) if found else (said, [])
 
 
+@functools.cache
 def parts_of(name: str) -> list[str]:
     """The parts of a name, each in the singular: those of `TileRows::find_box` are `tile`, `row`, `find` and `box`."""
     small = re.sub(r"(?<=[a-z0-9])(?=[A-Z])", "_", name.replace("::", "_")).lower()
