@@ -40,7 +40,9 @@ impl<'a> StreamedPieces<'a> {
     ) -> Result<StreamedPieces<'a>, AllocError>
         ensures { IfOk result (λ pieces. pieces.stream ≡ stream.entry) }
     {
-        let rows = (PIECE / stream.count_bytes_of_streamed_rows(1).max(1)).clamp(1, 4096);
+        let rows = (PIECE / stream.count_bytes_of_streamed_rows(1).max(1))
+            .min(stream.count_streamed_rows_left())
+            .clamp(1, 4096);
         let buffer = vec![in alloc; 0u8; stream.count_bytes_of_streamed_rows(rows)]?;
         Ok(StreamedPieces {
             stream,

@@ -15,10 +15,9 @@ ghost use Rattle.streamed_results.specs.StreamedBytes.{rows_bytes, streamed_byte
 
 use crate::header::make_result_header;
 use crate::pieces::StreamedPieces;
-use crate::work::is_streamed_result_worth_strips;
+use crate::work::count_streamed_result_threads;
 use domains::Area;
 use job::{Body, Job, Output};
-use rayon::current_num_threads;
 use row_streams::{RowStream, make_strip_streams};
 use std::alloc::{AllocError, Global};
 use std::thread::Threads;
@@ -96,8 +95,9 @@ impl<'a> StreamedResultRows<'a> {
             ≡ raw_rows (pipeline_in job.now) (output_view output.now) 0 (len_of area.now.rows))) }
     {
         let height = area.rows.len() as usize;
-        if current_num_threads(rt) > 1 && is_streamed_result_worth_strips(job) {
-            let len = height.div_ceil(current_num_threads(rt).max(1)).max(1);
+        let threads = count_streamed_result_threads(rt, job);
+        if threads > 1 {
+            let len = height.div_ceil(threads).max(1);
             let Some(strips) = make_strip_streams(rt, alloc, job, output, len)? else {
                 return Ok(None);
             };
