@@ -70,9 +70,7 @@ fn encode_grey_raw_row_in_pairs<V: RawRowNumbers>(out: &mut [u8], line: V, max: 
     ensures { out.new ≡ flat_map two_bytes (map (sample_of max) (V.numbers line)) }
 {
     for k in 0..out.len() / 2 {
-        let sample = line.clamp_raw_row_number(k, max);
-        out[2 * k] = (sample / 256) as u8;
-        out[2 * k + 1] = (sample % 256) as u8;
+        write_raw_row_pair(out, 2 * k, line.clamp_raw_row_number(k, max));
     }
 }
 
@@ -136,13 +134,24 @@ fn encode_colour_raw_row_in_pairs<V: RawRowNumbers>(
     }
 }
 
+// Writes the two bytes of a sample. (They are stored at once, so that vector code exchanges bytes of whole vectors.)
+#[inline]
+fn write_raw_row_sample(pair: &mut [u8], sample: u16)
+    requires { length pair.old ≡ 2 }
+    ensures { pair.new ≡ two_bytes sample }
+{
+    if let Some(bytes) = pair.as_mut_array::<2>() {
+        *bytes = sample.to_be_bytes();
+    }
+}
+
 // Writes the two bytes of a sample from a place on.
+#[inline]
 fn write_raw_row_pair(out: &mut [u8], place: usize, sample: u16)
     requires { place + 1 < length out.old }
     ensures high { slice_index_or out.new place 0 ≡ sample / 256 }
     ensures low { slice_index_or out.new (place + 1) 0 ≡ sample % 256 }
     ensures before { (k : ℕ) → k < place → slice_index_or out.new k 0 ≡ slice_index_or out.old k 0 }
 {
-    out[place] = (sample / 256) as u8;
-    out[place + 1] = (sample % 256) as u8;
+    write_raw_row_sample(&mut out[place..place + 2], sample);
 }

@@ -16,12 +16,13 @@ pub(crate) trait RawRowNumbers: Copy {
         ensures most { result ≤ max };
 }
 
+// Numbers are first clamped to 16 bits without a sign, for which vector code has one operation.
 impl<'a> RawRowNumbers for &'a [i32] {
     ghost numbers = { λ line. line.now };
 
     #[inline]
     fn clamp_raw_row_number(&self, k: usize, max: u16) -> u16 {
-        self[k].max(0).min(i32::from(max)) as u16
+        (self[k].max(0).min(65535) as u16).min(max)
     }
 }
 
