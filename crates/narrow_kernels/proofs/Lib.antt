@@ -5,3 +5,4 @@ pub mod NarrowColumns
 pub mod NarrowMasks
 pub mod NarrowAffine
 pub mod NarrowClamps
+pub mod NarrowCenters

@@ -5,3 +5,5 @@ pub mod NarrowDifferences
 pub mod NarrowSources
 pub mod NarrowReciprocals
 pub mod NarrowAffine
+pub mod NarrowCenters
+pub mod NarrowNearTaps

@@ -10,6 +10,7 @@
 mod narrow_affine;
 mod narrow_affine_map;
 mod narrow_affine_steps;
+mod narrow_centers;
 mod narrow_clamped_sums;
 mod narrow_conversions;
 mod narrow_differences;
@@ -29,6 +30,9 @@ mod narrow_triples;
 
 pub use narrow_affine::write_narrow_affine_values;
 pub use narrow_affine_map::NarrowAffineMap;
+pub use narrow_centers::{
+    NarrowCenter, add_centered_narrow_tap_sums, write_centered_narrow_tap_sums,
+};
 pub use narrow_clamped_sums::{
     NarrowClampedShift, write_narrow_clamped_sums_of_three_taps,
     write_narrow_clamped_sums_of_two_taps,

@@ -1,0 +1,157 @@
+-- Sums of clamped differences from a center, as they are computed.
+use Rattle.std.proofs.Common.{arith, ℕ, suc, ◌+◌, ◌*◌, ℤ, pos, neg_ℤ, ◌≡◌, negsuc, ◌≤◌, ◌<◌, ◌-◌, ◌≤ℤ◌, ◌+ℤ◌, ◌-ℤ◌, ◌*ℤ◌, List, [], ◌∷◌, ◌++◌, get_or, length, take, drop, w16, FitsSigned, ap, sym, refl, ◌∙◌}
+use Rattle.std.specs.Prelude.{slice_index_or}
+use Rattle.std.proofs.Math.IntN.{+ℤ_assoc, +ℤ_idr, *ℤ_comm, *ℤ-negsuc, zero-*ℤ}
+use borrow.Author.Differences.{sum_is_lem}
+use Rattle.std.specs.Int.{int_wrap, saturate_signed}
+use Rattle.std.proofs.lemmas.Int.{ints, clamps, int_wrap-add_left, int_wrap-mul_left}
+use Rattle.domains.specs.Arithmetic.{clamped}
+use Rattle.row_loops.specs.Rows.{at}
+use Rattle.narrow_kernels.specs.declared.narrow_taps.NarrowTap.{NarrowTap}
+use Rattle.narrow_kernels.specs.declared.narrow_centers.NarrowCenter.{NarrowCenter}
+use Rattle.narrow_kernels.specs.NarrowCenters.{centered_tap_at, centered_tap_sum}
+use Rattle.std.proofs.lemmas.List.{take_more}
+use Rattle.narrow_kernels.proofs.NarrowWraps.{wrapped_left}
+use Rattle.narrow_kernels.proofs.NarrowSums.{sum_of_one, sum_of_two, sum_of_three, sum_of_four, sum_with_four}
+use Rattle.narrow_kernels.specs.NarrowNearTaps.{near_tap_at, near_tap_sum, factor_sum}
+
+-- ---- numbers between bounds that are saturated at 16 bits
+
+pub saturated_is : (z : ℤ) → saturate_signed w16 z ≡ clamped z (negsuc 32767) (pos 32767)
+saturated_is (pos n) = omega (arith, ints, clamps)
+saturated_is (negsuc n) = omega (arith, ints, clamps)
+
+nearest_between : (a c low high lo hi : ℤ) → FitsSigned w16 a → FitsSigned w16 c → low ≤ℤ pos 0 → pos 0 ≤ℤ high
+    → lo ≡ clamped (c +ℤ low) (negsuc 32767) (pos 32767) → hi ≡ clamped (c +ℤ high) (negsuc 32767) (pos 32767)
+    → clamped a lo hi ≡ c +ℤ clamped (a -ℤ c) low high
+nearest_between a c low high lo hi fa fc l h e f = omega (arith, ints, clamps, e, f)
+
+pub nearest_number : (a c low high lo hi : ℤ) → FitsSigned w16 a → FitsSigned w16 c → low ≤ℤ pos 0 → pos 0 ≤ℤ high
+    → lo ≡ saturate_signed w16 (c +ℤ low) → hi ≡ saturate_signed w16 (c +ℤ high) → clamped a lo hi ≡ c +ℤ clamped (a -ℤ c) low high
+nearest_number a c low high lo hi fa fc l h e f =
+    nearest_between a c low high lo hi fa fc l h (e ∙ saturated_is (c +ℤ low)) (f ∙ saturated_is (c +ℤ high))
+
+-- ---- products of sums
+
+over_natural : (j k : ℤ) (m : ℕ) → (j +ℤ k) *ℤ pos m ≡ j *ℤ pos m +ℤ k *ℤ pos m
+over_natural j k m =
+    let sum = ap (λ (x : ℕ). x * m) (sum_is_lem j k) in
+    omega (arith, ints, sum)
+
+sum_times : (j k m : ℤ) → (j +ℤ k) *ℤ m ≡ j *ℤ m +ℤ k *ℤ m
+sum_times j k (pos n) = over_natural j k n
+sum_times j k (negsuc n) =
+    *ℤ-negsuc (j +ℤ k) n ∙ ap neg_ℤ (over_natural j k (suc n)) ∙ negated (j *ℤ pos (suc n)) (k *ℤ pos (suc n))
+    ∙ (λ i. sym (*ℤ-negsuc j n) i +ℤ sym (*ℤ-negsuc k n) i)
+  where
+    negated : (a b : ℤ) → neg_ℤ (a +ℤ b) ≡ neg_ℤ a +ℤ neg_ℤ b
+    negated a b = omega (arith, ints)
+
+times_sum : (m j k : ℤ) → m *ℤ (j +ℤ k) ≡ m *ℤ j +ℤ m *ℤ k
+times_sum m j k = *ℤ_comm m (j +ℤ k) ∙ sum_times j k m ∙ (λ i. *ℤ_comm j m i +ℤ *ℤ_comm k m i)
+
+-- ---- the taps and the center
+
+joined : (n s x y z w v : ℤ) → n ≡ s +ℤ y → x ≡ z +ℤ w → v ≡ z +ℤ y → x +ℤ n ≡ (w +ℤ s) +ℤ v
+joined n s x y z w v e f g = omega (arith, ints, e, f, g)
+
+-- what the taps are, but for the center times their factors
+near_taps_are : (center : NarrowCenter) (taps : List NarrowTap) (k : ℕ)
+    → near_tap_sum center taps k ≡ centered_tap_sum center taps k +ℤ factor_sum taps *ℤ at center.line.now k
+near_taps_are center [] k = sym (ap (λ (z : ℤ). pos 0 +ℤ z) (zero-*ℤ (at center.line.now k)))
+near_taps_are center (tap ∷ taps) k =
+    let own = at center.line.now k in
+    joined (near_tap_sum center taps k) (centered_tap_sum center taps k) (near_tap_at center tap k) (factor_sum taps *ℤ own) (tap.factor *ℤ own)
+    (centered_tap_at center tap k) ((tap.factor +ℤ factor_sum taps) *ℤ own) (near_taps_are center taps k) (times_sum tap.factor own _)
+    (sum_times tap.factor (factor_sum taps) own)
+
+without_own : (s t f c : ℤ) → neg_ℤ f *ℤ c +ℤ (s +ℤ (t +ℤ f *ℤ c)) ≡ s +ℤ t
+without_own s t f c = opposite (neg_ℤ f *ℤ c) (f *ℤ c) (sym (sum_times (neg_ℤ f) f c) ∙ ap (λ (z : ℤ). z *ℤ c) (none f) ∙ zero-*ℤ c)
+  where
+    none : (f : ℤ) → neg_ℤ f +ℤ f ≡ pos 0
+    none f = omega (arith, ints)
+
+    opposite : (a b : ℤ) → a +ℤ b ≡ pos 0 → a +ℤ (s +ℤ (t +ℤ b)) ≡ s +ℤ t
+    opposite a b e = omega (arith, ints, e)
+
+same_own : (own f c rest : ℤ) → own ≡ int_wrap w16 (neg_ℤ f) → int_wrap w16 (own *ℤ c +ℤ rest) ≡ int_wrap w16 (neg_ℤ f *ℤ c +ℤ rest)
+same_own own f c rest e =
+    sym (int_wrap-add_left w16 (own *ℤ c) rest)
+    ∙ ap (λ (z : ℤ). int_wrap w16 (z +ℤ rest)) (ap (λ (z : ℤ). int_wrap w16 (z *ℤ c)) e ∙ int_wrap-mul_left w16 (neg_ℤ f) c)
+    ∙ int_wrap-add_left w16 (neg_ℤ f *ℤ c) rest
+
+-- with the center times their factors, taken away
+pub centered_taps_are : (center : NarrowCenter) (taps : List NarrowTap) (k : ℕ) (own s : ℤ) → own ≡ int_wrap w16 (neg_ℤ (factor_sum taps))
+    → int_wrap w16 (s +ℤ (own *ℤ at center.line.now k +ℤ near_tap_sum center taps k)) ≡ int_wrap w16 (s +ℤ centered_tap_sum center taps k)
+centered_taps_are center taps k own s e =
+    ap (int_wrap w16) (moved s (own *ℤ at center.line.now k) (near_tap_sum center taps k))
+    ∙ same_own own (factor_sum taps) (at center.line.now k) (s +ℤ near_tap_sum center taps k) e
+    ∙ ap (λ (z : ℤ). int_wrap w16 (neg_ℤ (factor_sum taps) *ℤ at center.line.now k +ℤ (s +ℤ z))) (near_taps_are center taps k)
+    ∙ ap (int_wrap w16) (without_own s (centered_tap_sum center taps k) (factor_sum taps) (at center.line.now k))
+  where
+    moved : (s a b : ℤ) → s +ℤ (a +ℤ b) ≡ a +ℤ (s +ℤ b)
+    moved s a b = omega (arith, ints)
+
+-- ---- sums of few taps
+
+pub near_taps_of_none : (center : NarrowCenter) (taps : List NarrowTap) (k : ℕ) (x : ℤ) → length taps < 1 → x ≡ x +ℤ near_tap_sum center taps k
+near_taps_of_none center [] k x h = sym (+ℤ_idr x)
+near_taps_of_none center (tap ∷ taps) k x h = absurd (omega arith)
+
+pub near_taps_of_one : (center : NarrowCenter) (taps : List NarrowTap) (k : ℕ) (d : NarrowTap) → 1 ≤ length taps → length taps < 2
+    → near_tap_sum center taps k ≡ near_tap_at center (slice_index_or taps 0 d) k
+near_taps_of_one center taps k d =
+    sum_of_one (λ (tap : NarrowTap). near_tap_at center tap k) (λ taps. near_tap_sum center taps k) refl (λ x xs. refl) taps d
+
+pub near_taps_of_two : (center : NarrowCenter) (taps : List NarrowTap) (k : ℕ) (d : NarrowTap) → 2 ≤ length taps → length taps < 3
+    → near_tap_sum center taps k ≡ near_tap_at center (slice_index_or taps 0 d) k +ℤ near_tap_at center (slice_index_or taps 1 d) k
+near_taps_of_two center taps k d =
+    sum_of_two (λ (tap : NarrowTap). near_tap_at center tap k) (λ taps. near_tap_sum center taps k) refl (λ x xs. refl) taps d
+
+pub near_taps_of_three : (center : NarrowCenter) (taps : List NarrowTap) (k : ℕ) (d : NarrowTap) → 3 ≤ length taps → length taps < 4
+    → near_tap_sum center taps k ≡ near_tap_at center (slice_index_or taps 0 d) k
+    +ℤ (near_tap_at center (slice_index_or taps 1 d) k +ℤ near_tap_at center (slice_index_or taps 2 d) k)
+near_taps_of_three center taps k d =
+    sum_of_three (λ (tap : NarrowTap). near_tap_at center tap k) (λ taps. near_tap_sum center taps k) refl (λ x xs. refl) taps d
+
+pub near_taps_of_four : (center : NarrowCenter) (taps : List NarrowTap) (k : ℕ) (d : NarrowTap) → 4 ≤ length taps → length taps ≤ 4
+    → near_tap_sum center taps k ≡ near_tap_at center (slice_index_or taps 0 d) k
+    +ℤ (near_tap_at center (slice_index_or taps 1 d) k
+    +ℤ (near_tap_at center (slice_index_or taps 2 d) k +ℤ near_tap_at center (slice_index_or taps 3 d) k))
+near_taps_of_four center taps k d some few =
+    sum_of_four (λ (tap : NarrowTap). near_tap_at center tap k) (λ taps. near_tap_sum center taps k) refl (λ x xs. refl) taps d some
+    (omega (arith, few))
+
+-- the first four, and the others
+pub near_taps_from_four : (center : NarrowCenter) (taps : List NarrowTap) (k : ℕ) (d : NarrowTap) (own s : ℤ) → 4 ≤ length taps
+    → s +ℤ ((own +ℤ (near_tap_at center (slice_index_or taps 0 d) k
+    +ℤ (near_tap_at center (slice_index_or taps 1 d) k
+    +ℤ (near_tap_at center (slice_index_or taps 2 d) k +ℤ near_tap_at center (slice_index_or taps 3 d) k))))
+    +ℤ near_tap_sum center (take (length taps - 4) (drop 4 taps)) k)
+    ≡ s +ℤ (own +ℤ near_tap_sum center taps k)
+near_taps_from_four center taps k d own s some =
+    ap (λ (z : ℤ). s +ℤ z)
+    (+ℤ_assoc own _ _
+    ∙ ap (λ (z : ℤ). own +ℤ z)
+    (sym (sum_with_four (λ (tap : NarrowTap). near_tap_at center tap k) (λ taps. near_tap_sum center taps k) refl (λ x xs. refl) taps d some)))
+
+-- ---- the factors, one after another
+
+factors_end : (taps : List NarrowTap) (tap : NarrowTap) → factor_sum (taps ++ tap ∷ []) ≡ factor_sum taps +ℤ tap.factor
+factors_end [] tap = omega (arith, ints)
+factors_end (x ∷ taps) tap = let e = factors_end taps tap in omega (arith, ints, e)
+
+pub one_more_factor : (taps : List NarrowTap) (i : ℕ) (d : NarrowTap) (sum : ℤ) → i < length taps
+    → sum ≡ int_wrap w16 (neg_ℤ (factor_sum (take i taps)))
+    → int_wrap w16 (sum -ℤ (get_or taps i d).factor) ≡ int_wrap w16 (neg_ℤ (factor_sum (take (i + 1) taps)))
+one_more_factor taps i d sum l e =
+    ap (int_wrap w16) (less sum (get_or taps i d).factor)
+    ∙ wrapped_left sum (neg_ℤ (factor_sum (take i taps))) (neg_ℤ (get_or taps i d).factor) e
+    ∙ ap (int_wrap w16) (negated (factor_sum (take i taps)) (get_or taps i d).factor)
+    ∙ ap (λ (z : ℤ). int_wrap w16 (neg_ℤ z)) (sym (ap factor_sum (take_more taps i d l) ∙ factors_end (take i taps) (get_or taps i d)))
+  where
+    less : (a b : ℤ) → a -ℤ b ≡ a +ℤ neg_ℤ b
+    less a b = omega (arith, ints)
+
+    negated : (a b : ℤ) → neg_ℤ a +ℤ neg_ℤ b ≡ neg_ℤ (a +ℤ b)
+    negated a b = omega (arith, ints)

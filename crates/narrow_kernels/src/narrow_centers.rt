@@ -1,0 +1,143 @@
+#![tactic(auto)]
+//! Sums of clamped differences of lines of numbers of 16 bits from one line, their center, wrapped at 16 bits, eight of them in one pass.
+
+ghost use Rattle.std.specs.Prelude.{◌≡◌, ◌≤◌, ◌<◌, ◌≤ℤ◌, ◌+ℤ◌, ◌-ℤ◌, ◌*ℤ◌, ℤ, pos, neg_ℤ, length};
+ghost use Rattle.std.specs.Int.{w16, int_wrap};
+ghost use Rattle.domains.specs.Arithmetic.{clamped};
+ghost use Rattle.narrow_kernels.specs.NarrowTaps.{HaveTapLines};
+ghost use Rattle.narrow_kernels.specs.NarrowCenters.{centered_tap_sum, IsCenter};
+ghost use Rattle.narrow_kernels.specs.NarrowNearTaps.{near_tap_at, near_tap_sum, factor_sum};
+ghost use Rattle.row_loops.specs.Rows.{EachPlace, at};
+
+use crate::narrow_loops::fill_narrow_row;
+use crate::narrow_taps::NarrowTap;
+use crate::narrow_terms::{
+    NarrowTerm, NarrowTermPair, add_narrow_term, multiply_wrapping_narrow_numbers,
+    subtract_wrapping_narrow_numbers,
+};
+
+/// A line, and the bounds of how far numbers of other lines count as lying from its own.
+#[derive(Clone, Copy, Debug)]
+pub struct NarrowCenter<'a> {
+    pub line: &'a [i16],
+    pub low: i16,
+    pub high: i16,
+}
+
+// The number that lies nearest to another one, within bounds around a center. (Where a bound is saturated, no number lies beyond it.)
+#[inline]
+fn find_nearest_narrow_number(number: i16, center: i16, low: i16, high: i16) -> i16
+    requires low { low ≤ℤ pos 0 }
+    requires high { pos 0 ≤ℤ high }
+    ensures { result ≡ center +ℤ clamped (number -ℤ center) low high }
+{
+    number
+        .max(center.saturating_add(low))
+        .min(center.saturating_add(high))
+}
+
+/// A tap whose line counts as lying no further from a center than its bounds.
+#[derive(Clone, Copy)]
+struct NarrowNearTap<'a>(NarrowCenter<'a>, NarrowTap<'a>);
+
+impl<'a> NarrowTerm for NarrowNearTap<'a> {
+    ghost has = { λ t k. (k < length t.0.line.now) × (k < length t.1.line.now) × (t.0.low ≤ℤ pos 0) × (pos 0 ≤ℤ t.0.high) };
+
+    ghost exact = { λ t k. near_tap_at t.0 t.1 k };
+
+    #[inline]
+    fn compute_narrow_term_at_place(&self, k: usize) -> i16 {
+        let NarrowCenter { line, low, high } = self.0;
+        let near = find_nearest_narrow_number(self.1.line[k], line[k], low, high);
+        multiply_wrapping_narrow_numbers(self.1.factor, near)
+    }
+}
+
+// The sum of the factors of taps with the other sign, wrapped at 16 bits.
+fn negate_sum_of_narrow_tap_factors(taps: &[NarrowTap<'_>]) -> i16
+    ensures { result ≡ int_wrap w16 (neg_ℤ (factor_sum taps.now)) }
+{
+    let mut sum = 0;
+    for tap in taps {
+        sum = subtract_wrapping_narrow_numbers(sum, tap.factor);
+    }
+    sum
+}
+
+// Adds a term and up to four taps that are near a center.
+fn add_near_narrow_taps_to_term<T: NarrowTerm>(
+    out: &mut [i16],
+    term: T,
+    center: NarrowCenter<'_>,
+    taps: &[NarrowTap<'_>],
+)
+    requires term { EachPlace (length out.old) (T.has term) }
+    requires count { length taps.now ≤ 4 }
+    requires center { IsCenter (length out.old) center }
+    requires taps { HaveTapLines (length out.old) taps.now }
+    ensures { EachPlace (length out.old) (λ k. (s : ℤ) → at out.old k ≡ int_wrap w16 s
+        → at out.new k ≡ int_wrap w16 (s +ℤ (T.exact term k +ℤ near_tap_sum center.entry taps.now k))) }
+{
+    match taps {
+        [] => add_narrow_term(out, term),
+        [a] => add_narrow_term(out, NarrowTermPair(term, NarrowNearTap(center, *a))),
+        [a, b] => {
+            let back = NarrowTermPair(NarrowNearTap(center, *a), NarrowNearTap(center, *b));
+            add_narrow_term(out, NarrowTermPair(term, back));
+        }
+        [a, b, c] => {
+            let back = NarrowTermPair(NarrowNearTap(center, *b), NarrowNearTap(center, *c));
+            let all = NarrowTermPair(NarrowNearTap(center, *a), back);
+            add_narrow_term(out, NarrowTermPair(term, all));
+        }
+        [a, b, c, d, ..] => {
+            let back = NarrowTermPair(NarrowNearTap(center, *c), NarrowNearTap(center, *d));
+            let rest = NarrowTermPair(NarrowNearTap(center, *b), back);
+            let all = NarrowTermPair(NarrowNearTap(center, *a), rest);
+            add_narrow_term(out, NarrowTermPair(term, all));
+        }
+    }
+}
+
+/// Adds the sums of the clamped differences of up to eight taps from a center, wrapped at 16 bits.
+pub fn add_centered_narrow_tap_sums(
+    out: &mut [i16],
+    center: NarrowCenter<'_>,
+    taps: &[NarrowTap<'_>],
+)
+    requires count { length taps.now ≤ 8 }
+    requires center { IsCenter (length out.old) center }
+    requires taps { HaveTapLines (length out.old) taps.now }
+    ensures { EachPlace (length out.old) (λ k. (s : ℤ) → at out.old k ≡ int_wrap w16 s
+        → at out.new k ≡ int_wrap w16 (s +ℤ centered_tap_sum center.entry taps.now k)) }
+{
+    let own = NarrowTap {
+        line: center.line,
+        factor: negate_sum_of_narrow_tap_factors(taps),
+    };
+    match taps {
+        [a, b, c, d, more @ ..] => {
+            let back = NarrowTermPair(NarrowNearTap(center, *c), NarrowNearTap(center, *d));
+            let rest = NarrowTermPair(NarrowNearTap(center, *b), back);
+            let all = NarrowTermPair(NarrowNearTap(center, *a), rest);
+            add_near_narrow_taps_to_term(out, NarrowTermPair(own, all), center, more);
+        }
+        _ => add_near_narrow_taps_to_term(out, own, center, taps),
+    }
+}
+
+/// Writes the sums of the clamped differences of up to eight taps from a center, wrapped at 16 bits.
+pub fn write_centered_narrow_tap_sums(
+    out: &mut [i16],
+    center: NarrowCenter<'_>,
+    taps: &[NarrowTap<'_>],
+)
+    requires count { length taps.now ≤ 8 }
+    requires center { IsCenter (length out.old) center }
+    requires taps { HaveTapLines (length out.old) taps.now }
+    ensures { EachPlace (length out.old)
+        (λ k. at out.new k ≡ int_wrap w16 (centered_tap_sum center.entry taps.now k)) }
+{
+    fill_narrow_row(out, 0);
+    add_centered_narrow_tap_sums(out, center, taps);
+}
