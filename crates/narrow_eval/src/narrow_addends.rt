@@ -122,7 +122,7 @@ impl<'a, S: NarrowSource> NarrowPoints<'a, S> {
 
     // Adds a factor times a read or a clamped difference of two to a sum, if the formula is one. Returns whether it is.
     #[inline(always)]
-    fn push_narrow_addend_times(
+    pub(crate) fn push_narrow_addend_times(
         &self,
         factor: i16,
         formula: &Formula,

@@ -182,6 +182,9 @@ impl<'a, S: NarrowSource> NarrowPoints<'a, S> {
         let Formula::Binary(op, a, b) = formula else {
             return;
         };
+        if self.try_narrow_sum_of_group(formula, out) {
+            return;
+        }
         if self.try_narrow_sum(formula, out, temps) {
             return;
         }

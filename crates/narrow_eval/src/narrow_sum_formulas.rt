@@ -20,7 +20,7 @@ use operators::BinaryOp;
 
 // Whether an operator adds or subtracts.
 #[inline]
-fn is_narrow_sum_operator(op: BinaryOp) -> bool
+pub(crate) fn is_narrow_sum_operator(op: BinaryOp) -> bool
     ensures { result ≡ adds op }
 {
     match op {
