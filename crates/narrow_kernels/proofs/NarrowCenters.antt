@@ -3,7 +3,7 @@ use Rattle.std.proofs.Common.{arith, ℕ, suc, ◌+◌, ◌*◌, ℤ, pos, neg_�
 use Rattle.std.specs.Prelude.{slice_index_or}
 use Rattle.std.proofs.Math.IntN.{+ℤ_assoc, +ℤ_idr, *ℤ_comm, *ℤ-negsuc, zero-*ℤ}
 use borrow.Author.Differences.{sum_is_lem}
-use Rattle.std.specs.Int.{int_wrap, saturate_signed}
+use Rattle.std.specs.Int.{int_wrap}
 use Rattle.std.proofs.lemmas.Int.{ints, clamps, int_wrap-add_left, int_wrap-mul_left}
 use Rattle.domains.specs.Arithmetic.{clamped}
 use Rattle.row_loops.specs.Rows.{at}
@@ -17,19 +17,10 @@ use Rattle.narrow_kernels.specs.NarrowNearTaps.{near_tap_at, near_tap_sum, facto
 
 -- ---- numbers between bounds that are saturated at 16 bits
 
-pub saturated_is : (z : ℤ) → saturate_signed w16 z ≡ clamped z (negsuc 32767) (pos 32767)
-saturated_is (pos n) = omega (arith, ints, clamps)
-saturated_is (negsuc n) = omega (arith, ints, clamps)
-
-nearest_between : (a c low high lo hi : ℤ) → FitsSigned w16 a → FitsSigned w16 c → low ≤ℤ pos 0 → pos 0 ≤ℤ high
+pub nearest_number : (a c low high lo hi : ℤ) → FitsSigned w16 a → FitsSigned w16 c → low ≤ℤ pos 0 → pos 0 ≤ℤ high
     → lo ≡ clamped (c +ℤ low) (negsuc 32767) (pos 32767) → hi ≡ clamped (c +ℤ high) (negsuc 32767) (pos 32767)
     → clamped a lo hi ≡ c +ℤ clamped (a -ℤ c) low high
-nearest_between a c low high lo hi fa fc l h e f = omega (arith, ints, clamps, e, f)
-
-pub nearest_number : (a c low high lo hi : ℤ) → FitsSigned w16 a → FitsSigned w16 c → low ≤ℤ pos 0 → pos 0 ≤ℤ high
-    → lo ≡ saturate_signed w16 (c +ℤ low) → hi ≡ saturate_signed w16 (c +ℤ high) → clamped a lo hi ≡ c +ℤ clamped (a -ℤ c) low high
-nearest_number a c low high lo hi fa fc l h e f =
-    nearest_between a c low high lo hi fa fc l h (e ∙ saturated_is (c +ℤ low)) (f ∙ saturated_is (c +ℤ high))
+nearest_number a c low high lo hi fa fc l h e f = omega (arith, ints, clamps, e, f)
 
 -- ---- products of sums
 

@@ -1,7 +1,7 @@
 #![tactic(auto)]
 //! Sums of clamped differences of lines of numbers of 16 bits from one line, their center, wrapped at 16 bits, eight of them in one pass.
 
-ghost use Rattle.std.specs.Prelude.{◌≡◌, ◌≤◌, ◌<◌, ◌≤ℤ◌, ◌+ℤ◌, ◌-ℤ◌, ◌*ℤ◌, ℤ, pos, neg_ℤ, length};
+ghost use Rattle.std.specs.Prelude.{◌≡◌, ◌≤◌, ◌<◌, ◌≤ℤ◌, ◌+ℤ◌, ◌-ℤ◌, ◌*ℤ◌, ℤ, pos, negsuc, neg_ℤ, length};
 ghost use Rattle.std.specs.Int.{w16, int_wrap};
 ghost use Rattle.domains.specs.Arithmetic.{clamped};
 ghost use Rattle.narrow_kernels.specs.NarrowTaps.{HaveTapLines};
@@ -9,6 +9,7 @@ ghost use Rattle.narrow_kernels.specs.NarrowCenters.{centered_tap_sum, IsCenter}
 ghost use Rattle.narrow_kernels.specs.NarrowNearTaps.{near_tap_at, near_tap_sum, factor_sum};
 ghost use Rattle.row_loops.specs.Rows.{EachPlace, at};
 
+use crate::narrow_clamped_sums::saturate_to_narrow_number;
 use crate::narrow_loops::fill_narrow_row;
 use crate::narrow_taps::NarrowTap;
 use crate::narrow_terms::{
@@ -24,6 +25,14 @@ pub struct NarrowCenter<'a> {
     pub high: i16,
 }
 
+// The number of 16 bits that is nearest to `a + b`.
+#[inline]
+fn add_saturating_narrow_numbers(a: i16, b: i16) -> i16
+    ensures { result ≡ clamped (a +ℤ b) (negsuc 32767) (pos 32767) }
+{
+    saturate_to_narrow_number(i32::from(a) + i32::from(b))
+}
+
 // The number that lies nearest to another one, within bounds around a center. (Where a bound is saturated, no number lies beyond it.)
 #[inline]
 fn find_nearest_narrow_number(number: i16, center: i16, low: i16, high: i16) -> i16
@@ -32,8 +41,8 @@ fn find_nearest_narrow_number(number: i16, center: i16, low: i16, high: i16) -> 
     ensures { result ≡ center +ℤ clamped (number -ℤ center) low high }
 {
     number
-        .max(center.saturating_add(low))
-        .min(center.saturating_add(high))
+        .max(add_saturating_narrow_numbers(center, low))
+        .min(add_saturating_narrow_numbers(center, high))
 }
 
 /// A tap whose line counts as lying no further from a center than its bounds.

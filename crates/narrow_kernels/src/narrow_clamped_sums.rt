@@ -20,7 +20,7 @@ pub struct NarrowClampedShift {
 
 // The nearest number of 16 bits. (Vector code has one operation for it.)
 #[inline]
-fn saturate_to_narrow_number(number: i32) -> i16
+pub(crate) fn saturate_to_narrow_number(number: i32) -> i16
     ensures { result ≡ clamped number (negsuc 32767) (pos 32767) }
 {
     number.max(-32768).min(32767) as i16
