@@ -148,6 +148,7 @@ fn is_narrow_group_addend(formula: &Formula) -> bool {
 }
 
 // Whether each addend of a sum is one for which nothing is to be computed, as far as is seen at once.
+#[inline(never)]
 fn has_only_narrow_group_addends(formula: &Formula) -> bool {
     match formula {
         Formula::Binary(op, front, last) if is_narrow_sum_operator(*op) => {
@@ -176,6 +177,7 @@ fn is_narrow_group_difference(
 }
 
 // Whether the last addends of a sum, `wanted` of them, are clamped differences from a center.
+#[inline(never)]
 fn has_narrow_group_differences_at_end(
     formula: &Formula,
     right: &Formula,
@@ -314,6 +316,7 @@ impl<'a, S: NarrowSource> NarrowPoints<'a, S> {
     }
 
     // Adds all addends of a formula to a sum, from the right. Returns whether nothing is to be computed for any, so that this is done.
+    #[inline(never)]
     fn gather_narrow_group(
         &self,
         formula: &Formula,
