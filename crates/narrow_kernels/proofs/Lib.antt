@@ -6,3 +6,4 @@ pub mod NarrowMasks
 pub mod NarrowAffine
 pub mod NarrowClamps
 pub mod NarrowCenters
+pub mod NarrowMeans

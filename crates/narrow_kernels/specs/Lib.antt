@@ -7,3 +7,4 @@ pub mod NarrowReciprocals
 pub mod NarrowAffine
 pub mod NarrowCenters
 pub mod NarrowNearTaps
+pub mod NarrowMeans

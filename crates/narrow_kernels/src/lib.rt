@@ -4,7 +4,8 @@
 //! operand, narrow unary, narrow binary, narrow ternary, narrow literal op, narrow quotient, narrow tap, narrow line, narrow term,
 //! narrow triple, narrow least, narrow greatest, narrow median, narrow difference, narrow clamped difference, narrow absolute, narrow
 //! selection, narrow index column, narrow place, narrow column, narrow affine, narrow offset, prepend narrow addition, prepend
-//! narrow multiplication, prepend narrow right shift, narrow clamped sums, shifted narrow sum.
+//! narrow multiplication, prepend narrow right shift, narrow clamped sums, shifted narrow sum, narrow means, narrow column sums, narrow sum of
+//! nine, narrow block.
 #![tactic(auto)]
 
 mod narrow_affine;
@@ -18,6 +19,7 @@ mod narrow_gathering;
 mod narrow_loops;
 mod narrow_maps;
 mod narrow_masks;
+mod narrow_means;
 mod narrow_operand;
 mod narrow_operators;
 mod narrow_pairs;
@@ -46,6 +48,7 @@ pub use narrow_differences::{
 pub use narrow_gathering::gather_narrow_index_columns;
 pub use narrow_loops::fill_narrow_row;
 pub use narrow_masks::copy_narrow_row_where_mask_holds;
+pub use narrow_means::write_narrow_means_of_nine;
 pub use narrow_operand::NarrowOperand;
 pub use narrow_operators::{
     clamp_narrow_operand_to_numbers, keep_narrow_row_where_related,
