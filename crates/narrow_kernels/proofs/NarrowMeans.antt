@@ -1,12 +1,13 @@
 -- Means of nine numbers, block by block.
-use Rattle.std.proofs.Common.{arith, ℕ, ℤ, ◌≡◌, ◌≢◌, ◌+◌, ◌-◌, ◌<◌, ◌≤◌, ◌⊎◌, inl, inr, pos, ◌+ℤ◌, length, take, drop, List, ◌∙◌, ap, sym, subst}
+use Rattle.std.proofs.Common.{arith, ℕ, ℤ, ◌≡◌, ◌≢◌, ◌+◌, ◌-◌, ◌<◌, ◌≤◌, ◌⊎◌, inl, inr, pos, ◌+ℤ◌, length, take, drop, List, ◌∙◌, ap, sym, subst, w32, FitsSigned}
 use Rattle.std.specs.Prelude.{slice_set}
 use Rattle.std.proofs.lemmas.Bool.{cases_lt}
 use Rattle.std.proofs.lemmas.List.{get_or-set_same, get_or-set_other}
 use borrow.Author.Count.{below_more}
 use Rattle.std.proofs.lemmas.Grind.{common_steps}
+use Rattle.std.proofs.lemmas.Int.{ints, int_wrap_fits}
 use borrow.Rule.Slice.PartMut.{put_mid}
-use Rattle.domains.specs.Arithmetic.{floor_div}
+use Rattle.domains.specs.Arithmetic.{wrapped, floor_div}
 use Rattle.row_loops.specs.Rows.{EachPlace, at}
 use Rattle.narrow_kernels.specs.NarrowMeans.{mean_of_nine, IsColumnSum}
 
@@ -19,6 +20,13 @@ fits_more out k v lt e below =
     below_more (λ j. IsColumnSum (at (slice_set out k v) j)) k
     (λ j h. let ne : j ≢ k = omega arith in rw get_or-set_other (below j h))
     (subst IsColumnSum (sym (get_or-set_same out k v (pos 0) lt)) e)
+
+-- three of them are added exactly
+pub exact_mean : (x y z s t u : ℤ) → x ≡ s → y ≡ t → z ≡ u → IsColumnSum x → IsColumnSum y → IsColumnSum z
+    → floor_div (x +ℤ y +ℤ z) (pos 9) ≡ floor_div (wrapped (s +ℤ t +ℤ u)) (pos 9)
+exact_mean x y z s t u e f g fx fy fz =
+    let fits : FitsSigned w32 (x +ℤ y +ℤ z) = omega (arith, ints, fx.0, fx.1, fy.0, fy.1, fz.0, fz.1) in
+    ap (λ (v : ℤ). floor_div v (pos 9)) (sym (int_wrap_fits w32 _ fits) ∙ (λ i. wrapped (e i +ℤ f i +ℤ g i)))
 
 -- ---- a part of a row
 
@@ -49,9 +57,9 @@ module _ (f e k : ℕ) (low : f ≤ k) (high : k + 2 < e) where
   mean_of_parts : (a b c : List ℤ) → e ≤ length a → e ≤ length b → e ≤ length c
       → mean_of_nine (part a) (part b) (part c) (k - f) ≡ mean_of_nine a b c k
   mean_of_parts a b c la lb lc = λ i.
-      floor_div ((first_at a la i +ℤ first_at b lb i +ℤ first_at c lc i)
+      floor_div (wrapped ((first_at a la i +ℤ first_at b lb i +ℤ first_at c lc i)
       +ℤ (later_at a 1 (omega arith) la i +ℤ later_at b 1 (omega arith) lb i +ℤ later_at c 1 (omega arith) lc i)
-      +ℤ (later_at a 2 (omega arith) la i +ℤ later_at b 2 (omega arith) lb i +ℤ later_at c 2 (omega arith) lc i)) (pos 9)
+      +ℤ (later_at a 2 (omega arith) la i +ℤ later_at b 2 (omega arith) lb i +ℤ later_at c 2 (omega arith) lc i))) (pos 9)
 
 -- a block of means is written
 module _ (first end k : ℕ) (out new a b c : List ℤ) where
