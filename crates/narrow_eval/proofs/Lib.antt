@@ -4,3 +4,4 @@ pub mod NarrowSums
 pub mod NarrowReady
 pub mod NarrowMixes
 pub mod NarrowGroups
+pub mod NarrowMeans

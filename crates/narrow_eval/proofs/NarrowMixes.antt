@@ -18,8 +18,8 @@ use Rattle.narrow_kernels.specs.NarrowClampedSums.{clamped_shift}
 use Rattle.narrow_eval.specs.declared.narrow_mixes.NarrowMixTerm.{NarrowMixTerm}
 use Rattle.narrow_eval.specs.declared.narrow_mixes.NarrowMixSum.{NarrowMixSum}
 use Rattle.narrow_eval.specs.declared.narrow_mixes.NarrowMixSum.TheVariants.{Two, Three}
-use Rattle.narrow_eval.specs.declared.narrow_mixes.NarrowMix.{NarrowMix}
-use Rattle.narrow_eval.specs.NarrowMixes.{is_mix, is_mix_operator, mix_product, mix_sum, mix_formula}
+use Rattle.narrow_eval.specs.declared.narrow_mixes.NarrowMixOfTerms.{NarrowMixOfTerms}
+use Rattle.narrow_eval.specs.NarrowMixes.{is_mix, is_mix_operator, mix_product, mix_sum, terms_formula}
 
 -- the product with the factor of the other sign
 negated : (f y : ℤ) → neg_ℤ (f *ℤ y) ≡ neg_ℤ f *ℤ y
@@ -68,9 +68,9 @@ term_alone z t e =
     let start : (v : ℤ) → pos 0 +ℤ v ≡ v = λ v. omega (arith, ints) in
     sym (term_added (pos 0) z ∙ ap wrapped (start z)) ∙ e ∙ ap wrapped (start t)
 
--- ---- a mix at a point
+-- ---- a mix of terms at a point
 
-module _ (mix : NarrowMix) (r c : ℤ) where
+module _ (mix : NarrowMixOfTerms) (r c : ℤ) where
   abbrev of_sum : NarrowMixSum → Formula
   of_sum s = ternary Clamp (literal Shr (mix_sum s) mix.make.bits) (number mix.make.low) (number mix.make.high)
 
@@ -82,14 +82,14 @@ module _ (mix : NarrowMix) (r c : ℤ) where
 
   -- what it reads is available
   pub two_read : (has : ℕ → ℤ → ℤ → Type 0) (a : NarrowMixTerm) (op : BinaryOp) (b : NarrowMixTerm) → mix.sum ≡ Two a op b
-      → EachRead has (mix_formula mix) r c → IsRead has a × IsRead has b
+      → EachRead has (terms_formula mix) r c → IsRead has a × IsRead has b
   two_read has a op b is h =
       let each : EachRead has (of_sum (Two a op b)) r c = subst (λ (s : NarrowMixSum). EachRead has (of_sum s) r c) is h in
       let other = point a.stage a.row.now a.col.now in
       (each 0 other (omega arith), each 1 other (omega arith))
 
   pub three_read : (has : ℕ → ℤ → ℤ → Type 0) (a : NarrowMixTerm) (op : BinaryOp) (b : NarrowMixTerm) (last : BinaryOp) (d : NarrowMixTerm)
-      → mix.sum ≡ Three a op b last d → EachRead has (mix_formula mix) r c → IsRead has a × IsRead has b × IsRead has d
+      → mix.sum ≡ Three a op b last d → EachRead has (terms_formula mix) r c → IsRead has a × IsRead has b × IsRead has d
   three_read has a op b last d is h =
       let each : EachRead has (of_sum (Three a op b last d)) r c = subst (λ (s : NarrowMixSum). EachRead has (of_sum s) r c) is h in
       let other = point a.stage a.row.now a.col.now in
@@ -99,7 +99,7 @@ module _ (mix : NarrowMix) (r c : ℤ) where
   pub two_value : (env : Valuation) (a : NarrowMixTerm) (op : BinaryOp) (b : NarrowMixTerm) → mix.sum ≡ Two a op b → (s t y : ℤ)
       → binary_value Add (wrapped (pos 0)) (term_value env a) ≡ wrapped (pos 0 +ℤ s)
       → ((x : ℤ) → binary_value op (wrapped x) (term_value env b) ≡ wrapped (x +ℤ t))
-      → y ≡ clamped_shift mix.make (wrapped (s +ℤ t)) → y ≡ formula_value env (mix_formula mix) r c
+      → y ≡ clamped_shift mix.make (wrapped (s +ℤ t)) → y ≡ formula_value env (terms_formula mix) r c
   two_value env a op b is s t y first second e =
       e ∙ sym (
       ap (λ (x : NarrowMixSum). formula_value env (of_sum x) r c) is
@@ -111,7 +111,7 @@ module _ (mix : NarrowMix) (r c : ℤ) where
       → binary_value Add (wrapped (pos 0)) (term_value env a) ≡ wrapped (pos 0 +ℤ s)
       → ((x : ℤ) → binary_value op (wrapped x) (term_value env b) ≡ wrapped (x +ℤ t))
       → ((x : ℤ) → binary_value last (wrapped x) (term_value env d) ≡ wrapped (x +ℤ u))
-      → y ≡ clamped_shift mix.make (wrapped (s +ℤ t +ℤ u)) → y ≡ formula_value env (mix_formula mix) r c
+      → y ≡ clamped_shift mix.make (wrapped (s +ℤ t +ℤ u)) → y ≡ formula_value env (terms_formula mix) r c
   three_value env a op b last d is s t u y first second third e =
       let front = ap (λ (v : ℤ). binary_value op v (term_value env b)) (term_alone _ s first) ∙ second s in
       e ∙ sym (

@@ -1,16 +1,20 @@
--- Functions that are mixes: sums of two or three reads, each times a factor, that are shifted to the right and clamped.
-use Rattle.std.specs.Prelude.{◌≡◌, ◌<◌, pos, negsuc, ◌≤ℤ◌, int_le, nat_lt, Bool, true, false, ◌&&◌, ◌||◌, Option, Some, List, []}
+-- Functions that are mixes: sums of two or three reads, each times a factor, that are shifted to the right and clamped; and means of
+-- nine adjacent values.
+use Rattle.std.specs.Prelude.{◌≡◌, ◌<◌, pos, negsuc, ◌≤ℤ◌, int_le, nat_lt, Bool, true, false, ◌&&◌, ◌||◌, Option, Some, List, [], ◌∷◌, ℕ, ℤ, nat_eq}
 use Rattle.std.specs.Ordering.{int_eq}
 use Rattle.operators.specs.declared.operator.BinaryOp.{BinaryOp}
 use Rattle.operators.specs.declared.operator.BinaryOp.TheVariants.{Add, Sub, Mul}
 use Rattle.operators.specs.declared.operator.TernaryOp.TheVariants.{Clamp}
 use Rattle.operators.specs.declared.operator.LiteralOp.TheVariants.{Shr}
-use Rattle.job.specs.Formula.{Formula, number, read, binary, ternary, literal}
+use Rattle.job.specs.Formula.{Formula, number, read, binary, ternary, literal, stencil}
 use Rattle.job.specs.Pipeline.{JobCase}
 use Rattle.narrow_eval.specs.declared.narrow_mixes.NarrowMixTerm.{NarrowMixTerm}
 use Rattle.narrow_eval.specs.declared.narrow_mixes.NarrowMixSum.{NarrowMixSum}
 use Rattle.narrow_eval.specs.declared.narrow_mixes.NarrowMixSum.TheVariants.{Two, Three}
+use Rattle.narrow_eval.specs.declared.narrow_mixes.NarrowMixOfTerms.{NarrowMixOfTerms}
 use Rattle.narrow_eval.specs.declared.narrow_mixes.NarrowMix.{NarrowMix}
+use Rattle.narrow_eval.specs.declared.narrow_mixes.NarrowMix.TheVariants.{Terms, Mean}
+use Rattle.narrow_eval.specs.declared.narrow_means.NarrowMixMean.{NarrowMixMean}
 
 -- ---- which functions are mixes
 
@@ -55,8 +59,22 @@ is_mix_shift f = false
 abbrev pub is_mix_clamp : (value low high : Formula) → Bool
 is_mix_clamp value low high = is_mix_shift value && is_mix_number low && is_mix_number high
 
+-- a kernel of three rows of three factors, each of which is 1
+abbrev pub is_row_of_ones : List ℤ → Bool
+is_row_of_ones (x ∷ y ∷ z ∷ []) = int_eq x (pos 1) && int_eq y (pos 1) && int_eq z (pos 1)
+is_row_of_ones xs = false
+
+abbrev pub is_kernel_of_ones : List (List ℤ) → Bool
+is_kernel_of_ones (x ∷ y ∷ z ∷ []) = is_row_of_ones x && is_row_of_ones y && is_row_of_ones z
+is_kernel_of_ones rows = false
+
+-- the mean of the nine values under such a kernel
+abbrev pub is_mix_mean : (divisor : ℕ) (kernel : List (List ℤ)) → Bool
+is_mix_mean divisor kernel = nat_eq divisor 9 && is_kernel_of_ones kernel
+
 abbrev pub is_mix_formula : Formula → Bool
 is_mix_formula (ternary Clamp value low high) = is_mix_clamp value low high
+is_mix_formula (stencil g divisor kernel) = is_mix_mean divisor kernel
 is_mix_formula f = false
 
 -- a function without cases
@@ -73,8 +91,15 @@ abbrev pub mix_sum : NarrowMixSum → Formula
 mix_sum (Two a second b) = binary second (mix_product a) (mix_product b)
 mix_sum (Three a second b third c) = binary third (binary second (mix_product a) (mix_product b)) (mix_product c)
 
+abbrev pub terms_formula : NarrowMixOfTerms → Formula
+terms_formula mix = ternary Clamp (literal Shr (mix_sum mix.sum) mix.make.bits) (number mix.make.low) (number mix.make.high)
+
+abbrev pub mean_formula : NarrowMixMean → Formula
+mean_formula mean = stencil mean.stage 9 mean.kernel.now
+
 abbrev pub mix_formula : NarrowMix → Formula
-mix_formula mix = ternary Clamp (literal Shr (mix_sum mix.sum) mix.make.bits) (number mix.make.low) (number mix.make.high)
+mix_formula (Terms mix) = terms_formula mix
+mix_formula (Mean mean) = mean_formula mean
 
 -- ---- what can be computed of them
 
@@ -88,5 +113,12 @@ IsRightSum (Two a second b) = IsRightTerm a × (is_mix_operator second ≡ true)
 IsRightSum (Three a second b third c) =
     IsRightTerm a × (is_mix_operator second ≡ true) × IsRightTerm b × (is_mix_operator third ≡ true) × IsRightTerm c
 
+abbrev pub AreRightTerms : NarrowMixOfTerms → Type 0
+AreRightTerms mix = IsRightSum mix.sum × (mix.make.bits < 32)
+
+abbrev pub IsRightMean : NarrowMixMean → Type 0
+IsRightMean mean = is_kernel_of_ones mean.kernel.now ≡ true
+
 abbrev pub IsRightMix : NarrowMix → Type 0
-IsRightMix mix = IsRightSum mix.sum × (mix.make.bits < 32)
+IsRightMix (Terms mix) = AreRightTerms mix
+IsRightMix (Mean mean) = IsRightMean mean

@@ -9,6 +9,7 @@ mod narrow_cases;
 mod narrow_extremes;
 mod narrow_formulas;
 mod narrow_groups;
+mod narrow_means;
 mod narrow_mixes;
 mod narrow_points;
 mod narrow_reads;

@@ -1,11 +1,12 @@
 #![tactic(auto)]
-//! Functions that shift a sum of two or three reads, each times a factor, and clamp it. The sum is computed at 32 bits, in one pass.
+//! Functions that shift a sum of two or three reads, each times a factor, and clamp it; and means of nine adjacent values. The sums
+//! are computed at 32 bits.
 
 ghost use Rattle.std.specs.Prelude.{◌≡◌, ◌<◌, ◌≤ℤ◌, ◌+ℤ◌, ◌*ℤ◌, ℤ, pos, negsuc, [], Some, length, map, true, false, IfSome, IfNone};
 ghost use Rattle.std.specs.Option.{option_map};
 ghost use Rattle.domains.specs.Arithmetic.{wrapped};
 ghost use Rattle.domains.specs.Index.{index_at};
-ghost use Rattle.job.specs.Formula.{number, binary, ternary, literal};
+ghost use Rattle.job.specs.Formula.{number, binary, ternary, literal, stencil};
 ghost use Rattle.job.specs.Pipeline.{function as function_body};
 ghost use Rattle.job.specs.Reads.{BodyReads, EachRead};
 ghost use Rattle.job.specs.Values.{binary_value, formula_value};
@@ -16,12 +17,13 @@ ghost use Rattle.tile_eval.specs.Cases.{function_value};
 ghost use Rattle.operators.specs.declared.operator.BinaryOp.TheVariants.{Mul};
 ghost use Rattle.operators.specs.declared.operator.LiteralOp.TheVariants.{Shr};
 ghost use Rattle.operators.specs.declared.operator.TernaryOp.TheVariants.{Clamp};
-ghost use Rattle.narrow_eval.specs.NarrowMixes.{IsRightTerm, IsRightSum, IsRightMix, is_mix_clamp, is_mix_number, is_mix_factor, is_mix_read, is_mix_term, is_mix_operator, is_mix_pair, is_mix_sum, is_mix_shift, is_mix_formula, is_mix, mix_product, mix_sum, mix_formula};
+ghost use Rattle.narrow_eval.specs.NarrowMixes.{IsRightTerm, IsRightSum, IsRightMix, is_mix_mean, is_mix_clamp, is_mix_number, is_mix_factor, is_mix_read, is_mix_term, is_mix_operator, is_mix_pair, is_mix_sum, is_mix_shift, is_mix_formula, is_mix, mix_product, mix_sum, terms_formula, mix_formula, AreRightTerms};
 
+use crate::narrow_means::{NarrowMixMean, match_narrow_mix_mean};
 use crate::narrow_points::NarrowPoints;
 use crate::narrow_source::NarrowSource;
 use domains::Index;
-use job::{Formula, Function};
+use job::{Formula, Function, Kernel};
 use narrow_kernels::{
     NarrowClampedShift, NarrowTap, write_narrow_clamped_sums_of_three_taps,
     write_narrow_clamped_sums_of_two_taps,
@@ -47,9 +49,16 @@ enum NarrowMixSum<'a> {
 
 /// A sum, and how it is shifted and clamped.
 #[derive(Clone, Copy)]
-struct NarrowMix<'a> {
+struct NarrowMixOfTerms<'a> {
     sum: NarrowMixSum<'a>,
     make: NarrowClampedShift,
+}
+
+/// A mix of either kind.
+#[derive(Clone, Copy)]
+enum NarrowMix<'a> {
+    Terms(NarrowMixOfTerms<'a>),
+    Mean(NarrowMixMean<'a>),
 }
 
 // A number of the text that fits in 16 bits.
@@ -195,13 +204,24 @@ fn match_narrow_mix_clamp<'a>(
     let (sum, bits) = match_narrow_mix_shift(value)?;
     let low = match_narrow_mix_number(low)?;
     let high = match_narrow_mix_number(high)?;
-    Some(NarrowMix {
+    Some(NarrowMix::Terms(NarrowMixOfTerms {
         sum,
         make: NarrowClampedShift { bits, low, high },
-    })
+    }))
 }
 
-// A formula that is such a sum.
+// The mean of nine adjacent values. (In line it would have each function clear its place.)
+#[inline(never)]
+fn match_narrow_mix_stencil(stage: usize, divisor: u32, kernel: &Kernel) -> Option<NarrowMix<'_>>
+    ensures some { IfSome result (λ it. stencil stage divisor kernel.now ≡ mix_formula it) }
+    ensures right { IfSome result IsRightMix }
+    ensures is { IfSome result (λ it. is_mix_mean divisor kernel.now ≡ true) }
+    ensures none { IfNone result (is_mix_mean divisor kernel.now ≡ false) }
+{
+    Some(NarrowMix::Mean(match_narrow_mix_mean(stage, divisor, kernel)?))
+}
+
+// A formula that is a mix.
 fn match_narrow_mix_formula(formula: &Formula) -> Option<NarrowMix<'_>>
     ensures some { IfSome result (λ it. formula_view formula.now ≡ mix_formula it) }
     ensures right { IfSome result IsRightMix }
@@ -211,6 +231,9 @@ fn match_narrow_mix_formula(formula: &Formula) -> Option<NarrowMix<'_>>
     match formula {
         Formula::Ternary(TernaryOp::Clamp, value, low, high) => {
             match_narrow_mix_clamp(value, low, high)
+        }
+        Formula::Stencil(stage, divisor, kernel) => {
+            match_narrow_mix_stencil(*stage, *divisor, kernel)
         }
         _ => None,
     }
@@ -273,14 +296,14 @@ impl<'a, S: NarrowSource> NarrowPoints<'a, S> {
         }
     }
 
-    // The values of a mix.
-    fn write_narrow_mix(&self, mix: &NarrowMix<'_>, out: &mut [i16])
+    // The values of a sum that is shifted and clamped.
+    fn write_narrow_mix_of_terms(&self, mix: &NarrowMixOfTerms<'_>, out: &mut [i16])
         requires fits { length out.old ≡ self.now.points.len }
-        requires right { IsRightMix mix.now }
+        requires right { AreRightTerms mix.now }
         requires reads { EachPlace self.now.points.len (λ k. EachRead (S.has self.now.source.now)
-            (mix_formula mix.now) self.now.points.row (self.now.points.col +ℤ pos k)) }
+            (terms_formula mix.now) self.now.points.row (self.now.points.col +ℤ pos k)) }
         ensures { EachPlace (length out.old) (λ k. at out.new k
-            ≡ formula_value (S.samples self.now.source.now) (mix_formula mix.now)
+            ≡ formula_value (S.samples self.now.source.now) (terms_formula mix.now)
             self.now.points.row (self.now.points.col +ℤ pos k)) }
     {
         match &mix.sum {
@@ -297,9 +320,26 @@ impl<'a, S: NarrowSource> NarrowPoints<'a, S> {
             }
         }
     }
+
+    // The values of a mix.
+    fn write_narrow_mix(&self, mix: &NarrowMix<'_>, out: &mut [i16])
+        requires fits { length out.old ≡ self.now.points.len }
+        requires right { IsRightMix mix.now }
+        requires reads { EachPlace self.now.points.len (λ k. EachRead (S.has self.now.source.now)
+            (mix_formula mix.now) self.now.points.row (self.now.points.col +ℤ pos k)) }
+        ensures { EachPlace (length out.old) (λ k. at out.new k
+            ≡ formula_value (S.samples self.now.source.now) (mix_formula mix.now)
+            self.now.points.row (self.now.points.col +ℤ pos k)) }
+    {
+        match mix {
+            NarrowMix::Terms(terms) => self.write_narrow_mix_of_terms(terms, out),
+            NarrowMix::Mean(mean) => self.write_narrow_mix_mean(mean, out),
+        }
+    }
 }
 
-/// Whether a function is a mix: a sum of two or three reads, each times a number of the text, that is shifted and clamped.
+/// Whether a function is a mix: a sum of two or three reads, each times a number of the text, that is shifted and clamped; or the
+/// mean of nine adjacent values.
 pub fn is_narrow_mix(function: &Function) -> bool
     ensures { result ≡ is_mix (map case_view function.now.cases.items)
         (option_map formula_view function.now.otherwise) }

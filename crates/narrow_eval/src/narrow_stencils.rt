@@ -41,8 +41,8 @@ fn add_narrow_stencil_products<'a>(
 }
 
 impl<'a, S: NarrowSource> NarrowPoints<'a, S> {
-    // The samples under a row of a kernel.
-    fn borrow_narrow_stencil_line(
+    /// The samples under a row of a kernel.
+    pub(crate) fn borrow_narrow_stencil_line(
         &self,
         stage: usize,
         kernel: &Kernel,

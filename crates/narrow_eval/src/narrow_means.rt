@@ -1,0 +1,85 @@
+#![tactic(auto)]
+//! Means of nine adjacent values, which are mixes.
+
+ghost use Rattle.std.specs.Prelude.{◌≡◌, ◌+ℤ◌, pos, length, true, false, IfSome, IfNone};
+ghost use Rattle.job.specs.Formula.{stencil};
+ghost use Rattle.job.specs.Reads.{EachRead};
+ghost use Rattle.job.specs.Values.{formula_value};
+ghost use Rattle.row_loops.specs.Rows.{EachPlace, at};
+ghost use Rattle.narrow_eval.specs.NarrowMixes.{IsRightMean, is_row_of_ones, is_kernel_of_ones, is_mix_mean, mean_formula};
+
+use crate::narrow_points::NarrowPoints;
+use crate::narrow_source::NarrowSource;
+use job::{Kernel, KernelFactors};
+use narrow_kernels::write_narrow_means_of_nine;
+
+/// A stage, and a kernel of nine factors that are 1.
+#[derive(Clone, Copy)]
+pub(crate) struct NarrowMixMean<'a> {
+    pub(crate) stage: usize,
+    pub(crate) kernel: &'a Kernel,
+}
+
+// Whether a row of a kernel is three factors of 1.
+fn is_narrow_mix_row_of_ones(row: &[i32]) -> bool
+    ensures { result ≡ is_row_of_ones row.now }
+{
+    match row {
+        [a, b, c] => *a == 1 && *b == 1 && *c == 1,
+        _ => false,
+    }
+}
+
+// Whether a kernel is three such rows.
+fn is_narrow_mix_kernel_of_ones(rows: &[KernelFactors]) -> bool
+    ensures { result ≡ is_kernel_of_ones rows.now }
+{
+    match rows {
+        [a, b, c] => {
+            is_narrow_mix_row_of_ones(a.as_slice())
+                && is_narrow_mix_row_of_ones(b.as_slice())
+                && is_narrow_mix_row_of_ones(c.as_slice())
+        }
+        _ => false,
+    }
+}
+
+/// A stencil that is the mean of nine values.
+pub(crate) fn match_narrow_mix_mean(
+    stage: usize,
+    divisor: u32,
+    kernel: &Kernel,
+) -> Option<NarrowMixMean<'_>>
+    ensures some { IfSome result (λ it. stencil stage divisor kernel.now ≡ mean_formula it) }
+    ensures right { IfSome result IsRightMean }
+    ensures is { IfSome result (λ it. is_mix_mean divisor kernel.now ≡ true) }
+    ensures none { IfNone result (is_mix_mean divisor kernel.now ≡ false) }
+{
+    if divisor == 9 && is_narrow_mix_kernel_of_ones(kernel.as_slice()) {
+        Some(NarrowMixMean { stage, kernel })
+    } else {
+        None
+    }
+}
+
+impl<'a, S: NarrowSource> NarrowPoints<'a, S> {
+    /// The means of nine values.
+    pub(crate) fn write_narrow_mix_mean(&self, mean: &NarrowMixMean<'_>, out: &mut [i16])
+        requires fits { length out.old ≡ self.now.points.len }
+        requires right { IsRightMean mean.now }
+        requires reads { EachPlace self.now.points.len (λ k. EachRead (S.has self.now.source.now)
+            (mean_formula mean.now) self.now.points.row (self.now.points.col +ℤ pos k)) }
+        ensures { EachPlace (length out.old) (λ k. at out.new k
+            ≡ formula_value (S.samples self.now.source.now) (mean_formula mean.now)
+            self.now.points.row (self.now.points.col +ℤ pos k)) }
+    {
+        if out.is_empty() {
+            return;
+        }
+        let count = out.len() + 2;
+        let above = self.borrow_narrow_stencil_line(mean.stage, mean.kernel, 0, count);
+        let own = self.borrow_narrow_stencil_line(mean.stage, mean.kernel, 1, count);
+        let below = self.borrow_narrow_stencil_line(mean.stage, mean.kernel, 2, count);
+        write_narrow_means_of_nine(out, above, own, below);
+    }
+}
