@@ -8,3 +8,4 @@ pub mod NarrowAffine
 pub mod NarrowCenters
 pub mod NarrowNearTaps
 pub mod NarrowMeans
+pub mod NarrowAffineExtremes

@@ -6,9 +6,12 @@
 //! selection, narrow index column, narrow place, narrow column, narrow affine, narrow offset, prepend narrow addition, prepend
 //! narrow multiplication, prepend narrow right shift, narrow clamped sums, shifted narrow sum, narrow means, narrow column sums,
 //! narrow sum of nine, narrow block.
+//! selection, narrow index column, narrow place, narrow column, narrow affine, narrow extreme, narrow offset, prepend narrow
+//! addition, prepend narrow multiplication, prepend narrow right shift, narrow clamped sums, shifted narrow sum.
 #![tactic(auto)]
 
 mod narrow_affine;
+mod narrow_affine_extremes;
 mod narrow_affine_map;
 mod narrow_affine_steps;
 mod narrow_centers;
@@ -31,6 +34,10 @@ mod narrow_terms;
 mod narrow_triples;
 
 pub use narrow_affine::write_narrow_affine_values;
+pub use narrow_affine_extremes::{
+    NarrowAffineLine, NarrowExtreme, write_narrow_extremes_of_three_affine_maps,
+    write_narrow_extremes_of_two_affine_maps,
+};
 pub use narrow_affine_map::NarrowAffineMap;
 pub use narrow_centers::{
     NarrowCenter, add_centered_narrow_tap_sums, write_centered_narrow_tap_sums,
