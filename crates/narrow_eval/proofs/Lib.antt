@@ -2,6 +2,7 @@ pub mod NarrowRows
 pub mod NarrowAddends
 pub mod NarrowSums
 pub mod NarrowReady
+pub mod NarrowPieces
 pub mod NarrowMixes
 pub mod NarrowGroups
 pub mod NarrowMeans

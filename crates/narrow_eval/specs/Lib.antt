@@ -3,5 +3,6 @@ pub mod NarrowStencils
 pub mod NarrowSums
 pub mod NarrowCases
 pub mod NarrowOperators
+pub mod NarrowPieces
 pub mod NarrowMixes
 pub mod NarrowGroups

@@ -2,6 +2,7 @@
 //!
 //! Words: narrow formula, narrow function, narrow stencil, narrow source, narrow read, narrow case, narrow points,
 //! narrow sum, narrow addend, narrow group, narrow mix.
+//! narrow sum, narrow addend, narrow piece, narrow mix.
 #![tactic(auto)]
 
 mod narrow_addends;
@@ -11,6 +12,7 @@ mod narrow_formulas;
 mod narrow_groups;
 mod narrow_means;
 mod narrow_mixes;
+mod narrow_pieces;
 mod narrow_points;
 mod narrow_reads;
 mod narrow_source;
