@@ -13,7 +13,7 @@ ghost use Rattle.job.specs.Views.{case_view, formula_view};
 ghost use Rattle.row_loops.specs.Rows.{EachPlace, at};
 ghost use Rattle.row_plans.specs.Rows.{next_row};
 ghost use Rattle.row_rings.specs.RingRows.{IsKeptPoint};
-ghost use Rattle.row_rings.specs.NarrowRings.{IsFittingStage, IsNarrowlyMade};
+ghost use Rattle.row_rings.specs.NarrowRings.{IsFittingStage, IsMixFlag, IsNarrowlyMade};
 ghost use Rattle.row_rings.specs.TrueRings.{AreTrueRings, HasStageRoom};
 ghost use Rattle.row_rings.specs.inside.Making.{IsFittingRow, IsMakeable, IsPictureRow, IsValueRow, HasOneRowMore};
 ghost use Rattle.narrow_eval.specs.NarrowCases.{IsNarrowComputable};
@@ -40,12 +40,13 @@ fn write_samples_to_narrow_ring(picture: &Picture, plane: usize, row: usize, out
     convert_samples_to_narrow_row(&picture.samples(plane), row * out.len(), out);
 }
 
-// Writes a row of a function, which is counted from the first one of its domain. The contents of the operands' buffer have no
-// meaning.
+// Writes a row of a function, which is counted from the first one of its domain. `mix` is whether it is a mix. The contents of the
+// operands' buffer have no meaning.
 fn write_function_row_to_narrow_ring(
     job: &Job,
     known: &RowRings<i16>,
     function: &Function,
+    mix: bool,
     area: &Area,
     row: usize,
     out: &mut [i16],
@@ -61,6 +62,8 @@ fn write_function_row_to_narrow_ring(
         (function_body (map case_view function.now.cases.items)
         (option_map formula_view function.now.otherwise)) (area.now.rows.lo +ℤ pos row)
         (area.now.cols.lo +ℤ pos k)) }
+    requires mix { mix ≡ is_mix (map case_view function.now.cases.items)
+        (option_map formula_view function.now.otherwise) }
     requires function { is_mix (map case_view function.now.cases.items)
         (option_map formula_view function.now.otherwise) ≡ false
         → IsNarrowComputable (IsKeptPoint known.now.rings.items)
@@ -74,16 +77,18 @@ fn write_function_row_to_narrow_ring(
 {
     let points = RowSpan::from_area_row(area, row);
     let source = NarrowRingSource { job, known };
-    if try_narrow_mix(&source, function, &points, out) {
+    if mix {
+        try_narrow_mix(&source, function, &points, out);
         return;
     }
     evaluate_narrow_function(&source, function, &points, out, temps);
 }
 
-// Writes the next row of a stage, from the rows that it reads.
+// Writes the next row of a stage, from the rows that it reads. `mix` is whether the stage is a mix.
 fn write_stage_row_to_narrow_ring(
     job: &Job,
     stage: usize,
+    mix: bool,
     state: &RowState,
     known: &RowRings<i16>,
     out: &mut [i16],
@@ -93,6 +98,7 @@ fn write_stage_row_to_narrow_ring(
     requires right { AreTrueRings (pipeline_in job.now) known.now.rings.items }
     requires fits { IsFittingStage (pipeline_in job.now) stage }
     requires narrow { IsNarrowlyMade (pipeline_in job.now) stage }
+    requires mix { IsMixFlag (pipeline_in job.now) stage mix }
     requires count { length out.old ≡ len_of state.now.area.cols }
     requires room { HasStageRoom (pipeline_in job.now) stage (len_of state.now.area.cols)
         (length temps.old) }
@@ -105,18 +111,28 @@ fn write_stage_row_to_narrow_ring(
         Body::Plane(plane) => write_samples_to_narrow_ring(job.picture(), *plane, state.next, out),
         Body::Function(function) => {
             let row = state.next;
-            write_function_row_to_narrow_ring(job, known, function, &state.area, row, out, temps);
+            write_function_row_to_narrow_ring(
+                job,
+                known,
+                function,
+                mix,
+                &state.area,
+                row,
+                out,
+                temps,
+            );
         }
         Body::Accumulator(_) => {}
     }
 }
 
 impl RowRing<i16> {
-    // Makes the next row, in place of the oldest one.
+    // Makes the next row, in place of the oldest one. `mix` is whether the stage is a mix.
     pub(crate) fn make_next_row_of_narrow_ring(
         &mut self,
         job: &Job,
         stage: usize,
+        mix: bool,
         known: &RowRings<i16>,
         temps: &mut [i16],
     )
@@ -125,11 +141,20 @@ impl RowRing<i16> {
         requires right { AreTrueRings (pipeline_in job.now) known.now.rings.items }
         requires fits { IsFittingStage (pipeline_in job.now) stage }
         requires narrow { IsNarrowlyMade (pipeline_in job.now) stage }
+        requires mix { IsMixFlag (pipeline_in job.now) stage mix }
         requires room { HasStageRoom (pipeline_in job.now) stage (len_of self.old.state.area.cols)
             (length temps.old) }
         ensures { HasOneRowMore (pipeline_in job.now) stage self.old self.new }
     {
-        write_stage_row_to_narrow_ring(job, stage, &self.state, known, &mut self.rows[0], temps);
+        write_stage_row_to_narrow_ring(
+            job,
+            stage,
+            mix,
+            &self.state,
+            known,
+            &mut self.rows[0],
+            temps,
+        );
         self.rows.rotate_left(1);
         self.state.next += 1;
     }

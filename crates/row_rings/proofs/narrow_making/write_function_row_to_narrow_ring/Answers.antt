@@ -24,20 +24,18 @@ pub evaluate_narrow_function-requires-clause-function : goal.evaluate_narrow_fun
 evaluate_narrow_function-requires-clause-function c =
     let f = c.args.function.now in
     let points = c.from_area_row-points.ensures in
-    let same : length c.args.out.now ≡ length c.try_narrow_mix.new.out = omega (arith, c.try_narrow_mix.auto.out) in
-    let IsReady : ℕ → ℤ → ℤ → Type 0 = λ n r col. IsNarrowComputable (IsKeptPoint c.args.known.now.rings.items)
-    (value (pipeline_in c.args.job.now)) r col n (length c.args.temps.now) (map case_view f.cases.items)
+    let IsReady : ℤ → ℤ → Type 0 = λ r col. IsNarrowComputable (IsKeptPoint c.args.known.now.rings.items)
+    (value (pipeline_in c.args.job.now)) r col (length c.args.out.now) (length c.args.temps.now) (map case_view f.cases.items)
     (option_map formula_view f.otherwise) in
-    let ready = c.requires.function (sym c.try_narrow_mix.ensures.is ∙ c.if-try_narrow_mix.false) in
-    subst (λ n. IsReady n c.from_area_row-points.result.row c.from_area_row-points.result.col) same
-    (subst (λ r. IsReady (length c.args.out.now) r c.from_area_row-points.result.col) (sym points.row)
-    (subst (IsReady (length c.args.out.now) (c.args.area.now.rows.lo +ℤ pos c.args.row)) (sym points.col) ready))
+    let ready = c.requires.function (sym c.requires.mix ∙ c.if-mix.false) in
+    subst (λ r. IsReady r c.from_area_row-points.result.col) (sym points.row)
+    (subst (IsReady (c.args.area.now.rows.lo +ℤ pos c.args.row)) (sym points.col) ready)
 
-pub returns-then-try_narrow_mix : goal.returns-then-try_narrow_mix
-returns-then-try_narrow_mix c = λ k h.
+pub returns-then-mix : goal.returns-then-mix
+returns-then-mix c = λ k h.
     let f = c.args.function.now in
     let points = c.from_area_row-points.ensures in
-    c.try_narrow_mix.ensures.value c.if-try_narrow_mix.true k h
+    c.try_narrow_mix.ensures.value (c.try_narrow_mix.ensures.is ∙ sym c.requires.mix ∙ c.if-mix.true) k h
     ∙ (λ i. function_value (value (pipeline_in c.args.job.now)) (map case_view f.cases.items) (option_map formula_view f.otherwise)
     (points.row i) (points.col i +ℤ pos k))
 
@@ -45,7 +43,6 @@ pub returns : goal.returns
 returns c = λ k h.
     let f = c.args.function.now in
     let points = c.from_area_row-points.ensures in
-    let inside : k < length c.try_narrow_mix.new.out = omega (arith, h, c.try_narrow_mix.auto.out) in
-    c.evaluate_narrow_function.ensures k inside
+    c.evaluate_narrow_function.ensures k h
     ∙ (λ i. function_value (value (pipeline_in c.args.job.now)) (map case_view f.cases.items) (option_map formula_view f.otherwise)
     (points.row i) (points.col i +ℤ pos k))
