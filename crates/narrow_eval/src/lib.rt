@@ -1,8 +1,7 @@
 //! Formulas and functions along rows of points, computed in 16 bits where each number fits.
 //!
 //! Words: narrow formula, narrow function, narrow stencil, narrow source, narrow read, narrow case, narrow points,
-//! narrow sum, narrow addend, narrow group, narrow mix.
-//! narrow sum, narrow addend, narrow piece, narrow mix.
+//! narrow sum, narrow addend, narrow group, narrow piece, narrow mix.
 #![tactic(auto)]
 
 mod narrow_addends;

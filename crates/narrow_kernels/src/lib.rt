@@ -3,11 +3,9 @@
 //! Words: narrow row, narrow row in place, narrow number, narrow sample, narrow pair, narrow reciprocal, narrow complement, narrow
 //! operand, narrow unary, narrow binary, narrow ternary, narrow literal op, narrow quotient, narrow tap, narrow line, narrow term,
 //! narrow triple, narrow least, narrow greatest, narrow median, narrow difference, narrow clamped difference, narrow absolute, narrow
-//! selection, narrow index column, narrow place, narrow column, narrow affine, narrow offset, prepend narrow addition, prepend
-//! narrow multiplication, prepend narrow right shift, narrow clamped sums, shifted narrow sum, narrow means, narrow column sums,
+//! selection, narrow index column, narrow place, narrow column, narrow affine, narrow extreme, narrow offset, prepend narrow addition,
+//! prepend narrow multiplication, prepend narrow right shift, narrow clamped sums, shifted narrow sum, narrow means, narrow column sums,
 //! narrow sum of nine, narrow block.
-//! selection, narrow index column, narrow place, narrow column, narrow affine, narrow extreme, narrow offset, prepend narrow
-//! addition, prepend narrow multiplication, prepend narrow right shift, narrow clamped sums, shifted narrow sum.
 #![tactic(auto)]
 
 mod narrow_affine;
