@@ -15,7 +15,7 @@ use Rattle.operators.specs.Values.{binary_value}
 use Rattle.operators.specs.declared.operator.BinaryOp.{BinaryOp}
 use Rattle.operators.specs.declared.operator.BinaryOp.TheVariants.{Add, Sub}
 use Rattle.operators.specs.declared.TernaryOp.TheVariants.{Clamp}
-use Rattle.row_loops.specs.Rows.{EachPlace, at}
+use Rattle.row_loops.specs.Rows.{EachPlace}
 use Rattle.value_ranges.specs.Narrow.{Fits16}
 use Rattle.narrow_kernels.specs.declared.narrow_taps.NarrowTap.{NarrowTap}
 use Rattle.narrow_kernels.specs.declared.narrow_centers.NarrowCenter.{NarrowCenter}

@@ -1,7 +1,6 @@
-use Rattle.std.proofs.Common.{rules, ◌≡◌, ◌<◌, neg_ℤ, ℤ, ap, length, ◌∙◌, w16, FitsSigned, to_z, of_z}
+use Rattle.std.proofs.Common.{rules, ap, ◌∙◌, w16, FitsSigned, to_z, of_z}
 use Rattle.std.specs.Int.{int_wrap}
 use Rattle.std.proofs.lemmas.Int.{to_z-of_z}
-use Rattle.narrow_kernels.specs.NarrowNearTaps.{factor_sum}
 use Rattle.narrow_kernels.proofs.NarrowCenters.{centered_taps_are, near_taps_from_four}
 use Rattle.narrow_kernels.proofs.narrow_centers.add_centered_narrow_tap_sums.Goals as goal
 

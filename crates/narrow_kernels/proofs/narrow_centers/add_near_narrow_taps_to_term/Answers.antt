@@ -1,7 +1,5 @@
-use Rattle.std.proofs.Common.{arith, ◌≡◌, ◌+ℤ◌, ℤ, ap, refl, sym, ◌∙◌, w16, length, take, drop, ◌-◌}
+use Rattle.std.proofs.Common.{◌+ℤ◌, ℤ, ap, sym, ◌∙◌, w16}
 use Rattle.std.specs.Int.{int_wrap}
-use Rattle.narrow_kernels.specs.declared.narrow_taps.NarrowTap.{NarrowTap}
-use Rattle.narrow_kernels.specs.NarrowNearTaps.{near_tap_at, near_tap_sum}
 use Rattle.narrow_kernels.proofs.NarrowCenters.{near_taps_of_none, near_taps_of_one, near_taps_of_two, near_taps_of_three, near_taps_of_four}
 use Rattle.narrow_kernels.proofs.narrow_centers.add_near_narrow_taps_to_term.Goals as goal
 

@@ -1,4 +1,4 @@
-use Rattle.std.proofs.Common.{rules, ◌≡◌, ◌<◌, ◌+◌, ◌-ℤ◌, neg_ℤ, ℤ, length, get_or, to_z, ap, sym, ◌∙◌, w16, FitsSigned}
+use Rattle.std.proofs.Common.{rules, ◌<◌, ◌-ℤ◌, ℤ, length, get_or, to_z, ap, ◌∙◌, w16, FitsSigned}
 use Rattle.std.specs.Int.{int_wrap}
 use Rattle.std.proofs.lemmas.Int.{to_z-of_z}
 use Rattle.narrow_kernels.proofs.NarrowCenters.{one_more_factor}

@@ -1,7 +1,6 @@
-use Rattle.std.proofs.Common.{rules, arith, ◌≡◌, ◌<◌, ◌+ℤ◌, ℤ, pos, ap, length, sym, ◌∙◌, w16}
+use Rattle.std.proofs.Common.{arith, ◌≡◌, ◌<◌, ◌+ℤ◌, ℤ, pos, ap, length, sym, ◌∙◌, w16}
 use Rattle.std.specs.Int.{int_wrap}
 use Rattle.std.proofs.lemmas.Int.{ints, int_wrap_fits}
-use Rattle.row_loops.specs.Rows.{at}
 use Rattle.narrow_kernels.specs.NarrowCenters.{centered_tap_sum}
 use Rattle.narrow_kernels.proofs.narrow_centers.write_centered_narrow_tap_sums.Goals as goal
 

@@ -1,4 +1,4 @@
-use Rattle.std.proofs.Common.{ℕ, length, take, ◌-ℤ◌}
+use Rattle.std.proofs.Common.{length, take, ◌-ℤ◌}
 use Rattle.narrow_eval.specs.NarrowGroups.{group_at}
 use Rattle.narrow_eval.proofs.NarrowGroups.{group_taken}
 use Rattle.narrow_eval.proofs.narrow_groups.NarrowGroup.add_narrow_group.Goals as goal
