@@ -238,6 +238,8 @@ fn write_narrow_extremes_of_three_forms<F: NarrowAffineForm>(
 }
 
 /// Writes the lesser or the greater ones of what two maps make of the numbers of their lines, where each step fits in 16 bits.
+/// (In line, the registers of its caller leave too few for the loop.)
+#[inline(never)]
 pub fn write_narrow_extremes_of_two_affine_maps(
     out: &mut [i16],
     a: NarrowAffineLine<'_>,
@@ -259,6 +261,7 @@ pub fn write_narrow_extremes_of_two_affine_maps(
 }
 
 /// Writes the lesser or the greater ones of what a map makes of the numbers of a third line, and of those of two such lines.
+#[inline(never)]
 pub fn write_narrow_extremes_of_three_affine_maps(
     out: &mut [i16],
     a: NarrowAffineLine<'_>,
