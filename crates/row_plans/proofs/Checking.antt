@@ -1,17 +1,20 @@
 -- What a check finds is what a plan needs.
-use Rattle.std.proofs.Common.{ℕ, zero, suc, ◌+◌, ◌≡◌, pos, ◌+ℤ◌, refl, sym, ap, ◌∙◌, List, [], ◌∷◌, get_or, slice_get, slice_set, Some}
+use Rattle.std.proofs.Common.{ℕ, zero, suc, ◌≡◌, pos, ◌+ℤ◌, ◌≤ℤ◌, refl, sym, ap, ◌∙◌, subst, List, [], ◌∷◌, slice_get, slice_set, All, Some}
 use Rattle.std.specs.Option.{option_map}
 use Rattle.std.proofs.lemmas.Option.{same_Some, slice_get-map, slice_get_within, get_or_from_slice_get}
 use Rattle.std.proofs.lemmas.List.Elements.{All-get_or}
 use Rattle.domains.specs.declared.area.Area.{Area}
 use Rattle.job.specs.Pipeline.{Pipeline}
 use Rattle.job.specs.Views.{stage_view}
-use Rattle.row_plans.specs.Checks.{AreStagesRead, AreStatesOf, IsNextReady}
+use Rattle.row_plans.specs.Checks.{AreStagesRead, AreStatesOf}
 use Rattle.row_plans.specs.Plans.{CanMake, IsOutputKept, states_after}
 use Rattle.row_plans.specs.Rows.{IsKeptRow, next_row, one_row_more}
-use Rattle.row_plans.specs.Taken.{AreRowsReadOf}
+use Rattle.row_plans.specs.Taken.{AreRowsReadOf, AreTakenKept}
+use Rattle.row_plans.specs.Windows.{IsWindowOf, AreWindowsOf}
 use Rattle.row_plans.specs.declared.row_state.RowState.{RowState}
 use Rattle.row_plans.specs.declared.stage_rows_read.StageRowsRead.{StageRowsRead}
+use Rattle.row_plans.specs.declared.row_state_window.RowStateWindow.{RowStateWindow}
+use Rattle.row_plans.proofs.Windows.{window_left, windows_more}
 
 -- two areas with the same rows and columns are equal
 pub same_area : (a b : Area) → a.rows ≡ b.rows → a.cols ≡ b.cols → a ≡ b
@@ -31,24 +34,32 @@ read_stage_covered : (job : Pipeline) (list : List StageRowsRead) (g : ℕ) (x :
 read_stage_covered job list g x all is =
     rw (get_or_from_slice_get list g x x is) at (All-get_or (λ x. AreRowsReadOf (stage_view x.stage.now) x.reads.items) list g x (slice_get_within list g x is) all.covered)
 
--- a row can be made that was found ready
-pub ready_can_be_made : (job : Pipeline) (list : List StageRowsRead) (states : List RowState) (g : ℕ) (x : StageRowsRead)
-    → AreStagesRead job list → AreStatesOf list states → slice_get list g ≡ Some x → IsNextReady states g x → CanMake job states g
-ready_can_be_made job list states g x all areas is ready =
+-- a row can be made whose window leaves one more, if all is kept that it is made of, and these are the windows then
+pub window_made : (job : Pipeline) (list : List StageRowsRead) (states : List RowState) (windows : List RowStateWindow) (g : ℕ) (x : StageRowsRead)
+    (w new : RowStateWindow) → AreStagesRead job list → AreStatesOf list states → AreWindowsOf states windows → slice_get list g ≡ Some x
+    → slice_get windows g ≡ Some w → w.next ≤ℤ w.last → All (AreTakenKept states g w.next) x.reads.items
+    → ((s : RowState) → IsWindowOf s w → IsWindowOf (one_row_more s) new)
+    → CanMake job states g × AreWindowsOf (states_after states g) (slice_set windows g new)
+window_made job list states windows g x w new all areas are is there more reads step =
     let covered = read_stage_covered job list g x all is in
-    let has = areas.each g ready.state ready.own in
-    record {
-      stage = stage_view x.stage.now;
-      there = read_stage_there job list g x all is;
-      valued = covered.valued;
-      state = ready.state;
-      own = ready.own;
-      area = rw (same_Some has.read x (sym has.there ∙ is)) at has.area;
-      begun = ready.begun;
-      left = ready.left;
-      some = ready.some;
-      reads = covered.covered states g (next_row ready.state) ready.reads;
-    }
+    let window = are g w there in
+    let state = window.0 in
+    let own = window.1 in
+    let has = areas.each g state own in (
+      record {
+        stage = stage_view x.stage.now;
+        there = read_stage_there job list g x all is;
+        valued = covered.valued;
+        state = state;
+        own = own;
+        area = rw (same_Some has.read x (sym has.there ∙ is)) at has.area;
+        begun = window.2.begun;
+        left = window_left state w window.2 more;
+        some = window.2.some more;
+        reads = covered.covered states g (next_row state) (subst (λ r. All (AreTakenKept states g r) x.reads.items) window.2.next reads);
+      },
+      rw own (windows_more states windows g state new are own (step state window.2)),
+    )
 
 -- a state after a row is made has the area of the one before it
 same_area_after : (states : List RowState) (g k : ℕ) (y s : RowState) → slice_get states g ≡ Some y → slice_get (slice_set states g (one_row_more y)) k ≡ Some s
@@ -68,15 +79,6 @@ areas_after list states g y areas own = rw own (record {
       let has = areas.each k before.0 before.1 in
       record { read = has.read; there = has.there; area = before.2 ∙ has.area };
 })
-
--- the states once the row is made that was found ready, as the program writes them
-pub made_states_after : (states : List RowState) (g : ℕ) {x : StageRowsRead} (d e : RowState) → IsNextReady states g x
-    → slice_set states g (record { area = (get_or states g d).area; kept = (get_or states g d).kept; first = (get_or states g d).first; next = (get_or states g e).next + 1 })
-    ≡ states_after states g
-made_states_after states g d e ready =
-    let first : get_or states g d ≡ ready.state = get_or_from_slice_get states g ready.state d ready.own in
-    let second : get_or states g e ≡ ready.state = get_or_from_slice_get states g ready.state e ready.own in
-    rw (first, second, ready.own) refl
 
 -- a row can be output that is kept
 pub kept_can_be_output : (job : Pipeline) (list : List StageRowsRead) (states : List RowState) (y g : ℕ) (state : RowState)

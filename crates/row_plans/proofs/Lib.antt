@@ -1,3 +1,4 @@
 pub mod Taking
 pub mod Growing
 pub mod Checking
+pub mod Windows

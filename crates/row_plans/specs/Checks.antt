@@ -1,12 +1,14 @@
 -- What the steps of a check of a plan find.
-use Rattle.std.specs.Prelude.{ℕ, ◌<◌, ◌≤◌, ◌≡◌, List, All, Some, map, slice_get}
-use Rattle.domains.specs.Span.{len_of}
+use Rattle.std.specs.Prelude.{ℕ, ◌≡◌, List, ◌∷◌, All, Some, map, slice_get}
 use Rattle.job.specs.Pipeline.{Pipeline}
 use Rattle.job.specs.Views.{stage_view}
-use Rattle.row_plans.specs.Rows.{next_row}
-use Rattle.row_plans.specs.Taken.{AreRowsReadOf, AreTakenKept}
+use Rattle.row_plans.specs.Plans.{IsRunnable}
+use Rattle.row_plans.specs.Taken.{AreRowsReadOf}
+use Rattle.row_plans.specs.Windows.{AreWindowsOf}
+use Rattle.row_plans.specs.declared.plan.PlanStep.{PlanStep}
 use Rattle.row_plans.specs.declared.row_state.RowState.{RowState}
 use Rattle.row_plans.specs.declared.stage_rows_read.StageRowsRead.{StageRowsRead}
+use Rattle.row_plans.specs.declared.row_state_window.RowStateWindow.{RowStateWindow}
 
 -- the list has the stages of the job, each with what its rows are made of
 pub record AreStagesRead (job : Pipeline) (list : List StageRowsRead) : Type 0 where
@@ -23,12 +25,10 @@ pub record HasStage (list : List StageRowsRead) (g : ℕ) (state : RowState) : T
 pub record AreStatesOf (list : List StageRowsRead) (states : List RowState) : Type 0 where
   pub each : (g : ℕ) (state : RowState) → slice_get states g ≡ Some state → HasStage list g state
 
--- the next row of stage g can be made
-pub record IsNextReady (states : List RowState) (g : ℕ) (x : StageRowsRead) : Type 0 where
-  pub state : RowState
-  pub own : slice_get states g ≡ Some state
-  pub begun : state.first ≤ state.next
-  pub left : state.next < len_of state.area.rows
-  pub few : state.next < 2097153
-  pub some : 0 < state.kept
-  pub reads : All (AreTakenKept states g (next_row state)) x.reads.items
+-- a step is taken at row y of the picture: once it is, the next row is z, and these are the windows of the states
+pub record IsTaken (job : Pipeline) (list : List StageRowsRead) (outputs : List ℕ) (end y : ℕ) (states : List RowState) (step : PlanStep)
+    (z : ℕ) (windows : List RowStateWindow) : Type 0 where
+  pub after : List RowState
+  pub areas : AreStatesOf list after
+  pub windows_after : AreWindowsOf after windows
+  pub runnable : (steps : List PlanStep) → IsRunnable job outputs end z after steps → IsRunnable job outputs end y states (step ∷ steps)

@@ -2,3 +2,4 @@ pub mod Rows
 pub mod Plans
 pub mod Taken
 pub mod Checks
+pub mod Windows

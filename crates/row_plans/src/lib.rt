@@ -7,6 +7,8 @@ mod plan;
 mod row_plan_check;
 mod row_planner;
 mod row_state;
+mod row_state_window;
+mod row_state_windows;
 mod rows_read;
 mod stage_rows_read;
 

@@ -4,11 +4,14 @@
 ghost use Rattle.std.specs.Prelude.{◌≡◌, ◌+◌, ◌<◌, ℕ, true, List, All, IfOk, IfSome, Some, length, slice_get, slice_set, ◌∷◌};
 ghost use Rattle.job.specs.Kept.{pipeline_in};
 ghost use Rattle.row_plans.specs.Plans.{CanMake, IsOutputKept, IsRunnable, states_after};
-ghost use Rattle.row_plans.specs.Checks.{AreStagesRead, AreStatesOf, IsNextReady};
+ghost use Rattle.row_plans.specs.Checks.{AreStagesRead, AreStatesOf, IsTaken};
+ghost use Rattle.row_plans.specs.Windows.{AreWindowsOf};
 ghost use Rattle.row_plans.specs.declared.plan.PlanStep.{PlanStep};
 
 use crate::plan::{PlanStep, RowPlan};
 use crate::row_state::RowState;
+use crate::row_state_window::RowStateWindow;
+use crate::row_state_windows::list_row_state_windows;
 use crate::stage_rows_read::StageRowsRead;
 use job::Job;
 use std::alloc::{AllocError, Global};
@@ -20,41 +23,28 @@ impl<'a> StageRowsRead<'a> {
     {
         state.has_area(&self.area())
     }
-
-    // Whether the next row of the stage can be made.
-    #[inline]
-    fn has_next_row_ready(&self, states: &[RowState], stage: usize) -> bool
-        ensures { result ≡ true → IsNextReady states.now stage self.now }
-    {
-        let Some(state) = states.get(stage) else {
-            return false;
-        };
-        if !state.has_next_row() {
-            return false;
-        }
-        self.are_rows_read_kept(states, stage, state.find_next_row())
-    }
 }
 
 // Takes the step that makes the next row of a stage, and returns whether the row can be made.
+#[inline]
 fn take_plan_step_of_stage(
     job: &Job,
     rows: &[StageRowsRead],
-    states: &mut [RowState],
+    windows: &mut [RowStateWindow],
     stage: usize,
 ) -> bool
-    requires read { AreStagesRead (pipeline_in job.now) rows.now }
-    requires areas { AreStatesOf rows.now states.old }
-    ensures make { result ≡ true → CanMake (pipeline_in job.now) states.old stage }
-    ensures after { result ≡ true → states.new ≡ states_after states.old stage }
+    requires { AreStagesRead (pipeline_in job.now) rows.now }
+    ensures { result ≡ true → (states : List RowState) → AreStatesOf rows.now states
+        → AreWindowsOf states windows.old → CanMake (pipeline_in job.now) states stage
+        × AreWindowsOf (states_after states stage) windows.new }
 {
-    let Some(read) = rows.get(stage) else {
+    let (Some(read), Some(window)) = (rows.get(stage), windows.get(stage)) else {
         return false;
     };
-    if stage >= states.len() || !read.has_next_row_ready(states, stage) {
+    if !window.has_next_row() || !read.are_rows_read_kept(windows, stage, window.next()) {
         return false;
     }
-    states[stage].next += 1;
+    windows[stage] = window.make_next_row();
     true
 }
 
@@ -62,16 +52,16 @@ fn take_plan_step_of_stage(
 fn is_planned_row_kept_for_output(
     job: &Job,
     rows: &[StageRowsRead],
-    states: &[RowState],
+    windows: &[RowStateWindow],
     row: usize,
     output: usize,
 ) -> bool
-    requires read { AreStagesRead (pipeline_in job.now) rows.now }
-    requires areas { AreStatesOf rows.now states.now }
-    ensures { result ≡ true → IsOutputKept (pipeline_in job.now) states.now row output }
+    requires { AreStagesRead (pipeline_in job.now) rows.now }
+    ensures { result ≡ true → (states : List RowState) → AreStatesOf rows.now states
+        → AreWindowsOf states windows.now → IsOutputKept (pipeline_in job.now) states row output }
 {
-    match states.get(output) {
-        Some(state) => state.keeps_row_of_place(row),
+    match windows.get(output) {
+        Some(window) => window.keeps_row_of_place(row),
         None => false,
     }
 }
@@ -80,17 +70,17 @@ fn is_planned_row_kept_for_output(
 fn is_planned_row_kept_for_all_outputs(
     job: &Job,
     rows: &[StageRowsRead],
-    states: &[RowState],
+    windows: &[RowStateWindow],
     row: usize,
     outputs: &[usize],
 ) -> bool
-    requires read { AreStagesRead (pipeline_in job.now) rows.now }
-    requires areas { AreStatesOf rows.now states.now }
-    ensures { result ≡ true
-        → All (IsOutputKept (pipeline_in job.now) states.now row) outputs.now }
+    requires { AreStagesRead (pipeline_in job.now) rows.now }
+    ensures { result ≡ true → (states : List RowState) → AreStatesOf rows.now states
+        → AreWindowsOf states windows.now
+        → All (IsOutputKept (pipeline_in job.now) states row) outputs.now }
 {
     for output in outputs {
-        if !is_planned_row_kept_for_output(job, rows, states, row, *output) {
+        if !is_planned_row_kept_for_output(job, rows, windows, row, *output) {
             return false;
         }
     }
@@ -116,29 +106,27 @@ fn are_row_states_of_stages(rows: &[StageRowsRead], states: &[RowState]) -> bool
 fn take_plan_step(
     job: &Job,
     rows: &[StageRowsRead],
-    states: &mut [RowState],
+    windows: &mut [RowStateWindow],
     step: PlanStep,
     outputs: &[usize],
     row: usize,
     end: usize,
 ) -> Option<usize>
-    requires read { AreStagesRead (pipeline_in job.now) rows.now }
-    requires areas { AreStatesOf rows.now states.old }
-    ensures runnable { IfSome result (λ next. (steps : List PlanStep)
-        → IsRunnable (pipeline_in job.now) outputs.now end next states.new steps
-        → IsRunnable (pipeline_in job.now) outputs.now end row states.old (step ∷ steps)) }
-    ensures areas { IfSome result (λ _. AreStatesOf rows.now states.new) }
+    requires { AreStagesRead (pipeline_in job.now) rows.now }
+    ensures { IfSome result (λ next. (states : List RowState) → AreStatesOf rows.now states
+        → AreWindowsOf states windows.old → IsTaken (pipeline_in job.now) rows.now outputs.now end row
+        states step next windows.new) }
 {
     match step {
         PlanStep::Make(stage) => {
-            if take_plan_step_of_stage(job, rows, states, stage as usize) {
+            if take_plan_step_of_stage(job, rows, windows, stage as usize) {
                 Some(row)
             } else {
                 None
             }
         }
         PlanStep::Output => {
-            if row < end && is_planned_row_kept_for_all_outputs(job, rows, states, row, outputs) {
+            if row < end && is_planned_row_kept_for_all_outputs(job, rows, windows, row, outputs) {
                 Some(row + 1)
             } else {
                 None
@@ -168,10 +156,12 @@ pub(crate) fn is_row_plan_runnable(
     if !are_row_states_of_stages(rows, &plan.states) {
         return Ok(false);
     }
-    let mut states = plan.states.as_slice().to_vec(alloc)?;
+    let Some(mut windows) = list_row_state_windows(alloc, &plan.states)? else {
+        return Ok(false);
+    };
     let mut row = first;
     for step in &plan.steps {
-        match take_plan_step(job, rows, &mut states, *step, outputs, row, end) {
+        match take_plan_step(job, rows, &mut windows, *step, outputs, row, end) {
             Some(next) => row = next,
             None => return Ok(false),
         }

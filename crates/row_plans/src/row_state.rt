@@ -1,10 +1,10 @@
 #![tactic(auto)]
 //! Which rows of a stage are kept.
 
-ghost use Rattle.std.specs.Prelude.{◌≡◌, ◌<◌, ◌≤◌, ◌↔◌, ◌+◌, ◌+ℤ◌, ◌≤ℤ◌, ℤ, pos, true, All, IfSome, IsTrue};
+ghost use Rattle.std.specs.Prelude.{◌≡◌, ◌<◌, ◌≤◌, ◌↔◌, ◌+◌, true, All, IsTrue};
 ghost use Rattle.std.specs.Int.{int_gap};
-ghost use Rattle.domains.specs.Span.{len_of, Holds};
-ghost use Rattle.row_plans.specs.Rows.{IsKeptAt, IsKeptRow, next_row};
+ghost use Rattle.domains.specs.Span.{Holds};
+ghost use Rattle.row_plans.specs.Rows.{IsKeptRow};
 
 use domains::Area;
 
@@ -36,55 +36,6 @@ impl RowState {
             × (self.now.area.cols ≡ area.now.cols) }
     {
         self.area.rows == area.rows && self.area.cols == area.cols
-    }
-
-    /// Whether the row at this place of the domain is kept.
-    pub(crate) fn keeps_row_of_place(&self, place: usize) -> bool
-        ensures { result ≡ true → IsKeptRow self.now (self.now.area.rows.lo +ℤ pos place) }
-    {
-        place < self.area.rows.len() as usize && self.keeps_row_at_place(place)
-    }
-
-    /// Whether all rows from row `first` to row `last` are kept, and there is one.
-    #[inline]
-    pub(crate) fn keeps_rows(&self, first: i32, last: i32) -> bool
-        ensures { result ≡ true
-            → (row : ℤ) → first ≤ℤ row → row ≤ℤ last → IsKeptRow self.now row }
-    {
-        if first < self.area.rows.lo() || last < first || self.area.rows.hi() < last {
-            return false;
-        }
-        self.keeps_places(self.find_place_of_row(first), self.find_place_of_row(last))
-    }
-
-    // Whether the rows at these places are kept.
-    #[inline]
-    fn keeps_places(&self, first: usize, last: usize) -> bool
-        requires { first ≤ last }
-        ensures { result ≡ true → (self.now.first ≤ first) × (last < self.now.next)
-            × (self.now.next ≤ first + self.now.kept) }
-    {
-        self.first <= first && last < self.next && self.next - first <= self.kept
-    }
-
-    /// Whether a row is left that is made next, and is to be kept.
-    #[inline]
-    pub(crate) fn has_next_row(&self) -> bool
-        ensures begun { result ≡ true → self.now.first ≤ self.now.next }
-        ensures left { result ≡ true → self.now.next < len_of self.now.area.rows }
-        ensures few { result ≡ true → self.now.next < 2097153 }
-        ensures some { result ≡ true → 0 < self.now.kept }
-    {
-        self.first <= self.next && self.next < self.area.rows.len() as usize && self.kept > 0
-    }
-
-    /// The number of the row that is made next.
-    #[inline]
-    pub(crate) fn find_next_row(&self) -> i32
-        requires { self.now.next < len_of self.now.area.rows }
-        ensures { result ≡ next_row self.now }
-    {
-        self.area.rows.lo() + self.next as i32
     }
 
     // The place of a row of the domain.
@@ -126,20 +77,4 @@ pub(crate) fn count_numbers_kept_in_row_states(states: &[RowState]) -> u64 {
         count = count.saturating_add((state.kept as u64).saturating_mul(columns));
     }
     count
-}
-
-/// Whether all rows of a stage are kept from row `first` to row `last`.
-pub(crate) fn are_row_state_rows_kept(
-    states: &[RowState],
-    stage: usize,
-    first: i32,
-    last: i32,
-) -> bool
-    ensures { result ≡ true
-        → (row : ℤ) → first ≤ℤ row → row ≤ℤ last → IsKeptAt states.now stage row }
-{
-    match states.get(stage) {
-        Some(state) => state.keeps_rows(first, last),
-        None => false,
-    }
 }

@@ -8,9 +8,11 @@ ghost use Rattle.job.specs.ReadViews.{read_view};
 ghost use Rattle.operators.specs.Values.{under};
 ghost use Rattle.row_plans.specs.Rows.{IsDomainRow};
 ghost use Rattle.row_plans.specs.Taken.{middle_row, AreTakenKept, IsKeptFor, IsReadKept};
+ghost use Rattle.row_plans.specs.Windows.{AreWindowsOf};
 ghost use Rattle.row_plans.specs.declared.row_state.RowState.{RowState};
 
-use crate::row_state::{RowState, are_row_state_rows_kept};
+use crate::row_state_window::RowStateWindow;
+use crate::row_state_windows::are_row_state_rows_kept;
 use domains::{Index, Span};
 use job::Read;
 
@@ -214,15 +216,21 @@ impl RowsRead {
 
     /// Whether the rows that are read for this row of the reader are kept, and are of another stage.
     #[inline]
-    pub(crate) fn are_rows_read_kept(&self, states: &[RowState], reader: usize, row: i32) -> bool
-        ensures { result ≡ true → AreTakenKept states.now reader row self.now }
+    pub(crate) fn are_rows_read_kept(
+        &self,
+        windows: &[RowStateWindow],
+        reader: usize,
+        row: i32,
+    ) -> bool
+        ensures { result ≡ true → (states : List RowState) → AreWindowsOf states windows.now
+            → AreTakenKept states reader row self.now }
     {
         if !self.has_rows_read_at(row) {
             return true;
         }
         match self.find_first_and_last_row_read(row) {
             Some((first, last)) => {
-                self.stage != reader && are_row_state_rows_kept(states, self.stage, first, last)
+                self.stage != reader && are_row_state_rows_kept(windows, self.stage, first, last)
             }
             None => false,
         }

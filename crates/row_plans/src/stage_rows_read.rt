@@ -12,9 +12,10 @@ ghost use Rattle.job.specs.Reads.{BodyReads};
 ghost use Rattle.job.specs.Views.{stage_view};
 ghost use Rattle.row_plans.specs.Rows.{IsKeptAt};
 ghost use Rattle.row_plans.specs.Taken.{AreTakenKept, AreRowsReadOf, AddsCases, AddsReads, IsJoined, IsWider};
+ghost use Rattle.row_plans.specs.Windows.{AreWindowsOf};
 ghost use Rattle.row_plans.specs.declared.row_state.RowState.{RowState};
 
-use crate::row_state::RowState;
+use crate::row_state_window::RowStateWindow;
 use crate::rows_read::RowsRead;
 use domains::{Area, Span};
 use job::{Body, Function, Job, JobCase, Read, Stage};
@@ -70,11 +71,17 @@ impl<'a> StageRowsRead<'a> {
     }
 
     /// Whether all that this row of the stage is made of is kept, and is of other stages.
-    pub(crate) fn are_rows_read_kept(&self, states: &[RowState], stage: usize, row: i32) -> bool
-        ensures { result ≡ true → All (AreTakenKept states.now stage row) self.now.reads.items }
+    pub(crate) fn are_rows_read_kept(
+        &self,
+        windows: &[RowStateWindow],
+        stage: usize,
+        row: i32,
+    ) -> bool
+        ensures { result ≡ true → (states : List RowState) → AreWindowsOf states windows.now
+            → All (AreTakenKept states stage row) self.now.reads.items }
     {
         for read in &self.reads {
-            if !read.are_rows_read_kept(states, stage, row) {
+            if !read.are_rows_read_kept(windows, stage, row) {
                 return false;
             }
         }

@@ -1,24 +1,19 @@
-use Rattle.std.proofs.Common.{◌≡◌, arith, length, refl, get_or}
+use Rattle.std.proofs.Common.{◌≡◌, arith, length, refl, w32, to_z, of_z}
 use Rattle.std.proofs.lemmas.Int.{ints}
-use Rattle.std.proofs.lemmas.Option.{get_or_from_slice_get, slice_get_read}
-use Rattle.row_plans.proofs.Checking.{ready_can_be_made, made_states_after}
+use Rattle.std.proofs.lemmas.Option.{slice_get_read}
+use Rattle.job.specs.Kept.{pipeline_in}
+use Rattle.row_plans.proofs.Checking.{window_made}
 use Rattle.row_plans.proofs.row_plan_check.take_plan_step_of_stage.Goals as goal
 
-pub overflow_add-states : goal.overflow_add-states
-overflow_add-states c =
-    let ready = c.has_next_row_ready.ensures c.if-not-has_next_row_ready.false in
-    let state : get_or c.args.states.now c.args.stage c.index-states-stage.result ≡ ready.state =
-    get_or_from_slice_get c.args.states.now c.args.stage ready.state c.index-states-stage.result ready.own in
-    let few = ready.few in
-    rw state (omega (arith, ints))
-
-pub returns-clause-make : goal.returns-clause-make
-returns-clause-make c = λ _.
-    let there = slice_get_read c.args.rows.now (length c.args.rows.now) c.args.stage c.in-Some.read.now refl c.in-Some.ensures.lookup.3.0 c.in-Some.ensures.lookup.1 in
-    ready_can_be_made _ c.args.rows.now c.args.states.now c.args.stage c.in-Some.read.now c.requires.read c.requires.areas there
-    (c.has_next_row_ready.ensures c.if-not-has_next_row_ready.false)
-
-pub returns-clause-after : goal.returns-clause-after
-returns-clause-after c = λ _.
-    made_states_after c.args.states.now c.args.stage c.index-states-stage-2.result c.index-states-stage.result
-    (c.has_next_row_ready.ensures c.if-not-has_next_row_ready.false)
+pub returns : goal.returns
+returns c = λ _ states areas are.
+    let rows = c.args.rows.now in
+    let windows = c.args.windows.now in
+    let read = c.in-Some-Some.read.now in
+    let window = c.in-Some-Some.window.now in
+    let read_there = slice_get_read rows (length rows) c.args.stage read refl c.in-Some-Some.ensures.lookup.3.0 c.in-Some-Some.ensures.lookup.1 in
+    let window_there = slice_get_read windows (length windows) c.args.stage window refl c.in-Some-Some.ensures'.lookup.3.0 c.in-Some-Some.ensures'.lookup.1 in
+    let same : to_z w32 (of_z w32 c.next.result) ≡ c.next.result = omega (arith, ints) in
+    let kept = c.are_rows_read_kept.ensures c.if-not-are_rows_read_kept.false states are in
+    window_made (pipeline_in c.args.job.now) rows states windows c.args.stage read window c.make_next_row.result c.requires areas are
+    read_there window_there (c.has_next_row.ensures c.if-not-has_next_row.false) (rw c.next.ensures at (rw same at kept)) c.make_next_row.ensures
