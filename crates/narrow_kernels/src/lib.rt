@@ -31,7 +31,6 @@ mod narrow_taps;
 mod narrow_terms;
 mod narrow_triples;
 
-pub use narrow_affine::write_narrow_affine_values;
 pub use narrow_affine_extremes::{
     NarrowAffineLine, NarrowExtreme, write_narrow_extremes_of_three_affine_maps,
     write_narrow_extremes_of_two_affine_maps,
@@ -56,10 +55,8 @@ pub use narrow_masks::copy_narrow_row_where_mask_holds;
 pub use narrow_means::write_narrow_means_of_nine;
 pub use narrow_operand::NarrowOperand;
 pub use narrow_operators::{
-    clamp_narrow_operand_to_numbers, keep_narrow_row_where_related,
     write_narrow_absolute_differences, write_narrow_binary_results,
-    write_narrow_literal_op_results, write_narrow_operand, write_narrow_ternary_results,
-    write_narrow_unary_results,
+    write_narrow_literal_op_results, write_narrow_ternary_results, write_narrow_unary_results,
 };
 pub use narrow_selection::write_narrow_selection;
 pub use narrow_sums::write_narrow_literal_op_results_of_sums;

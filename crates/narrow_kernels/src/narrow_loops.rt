@@ -5,7 +5,7 @@ ghost use Rattle.std.specs.Prelude.{◌≡◌, length, if◌then◌else◌};
 ghost use Rattle.row_loops.specs.Rows.{EachPlace, at};
 
 use crate::narrow_maps::NarrowNumberMap;
-use crate::narrow_pairs::{NarrowPairMap, NarrowPairRelation};
+use crate::narrow_pairs::NarrowPairMap;
 
 /// Each place has the number.
 pub fn fill_narrow_row(out: &mut [i16], number: i16)
@@ -75,25 +75,4 @@ pub(crate) fn choose_narrow_number(holds: bool, one: i16, other: i16) -> i16
     ensures { result ≡ (if holds then one else other) }
 {
     if holds { one } else { other }
-}
-
-/// Keeps its own number where those of two lines are related, and takes the other number elsewhere.
-pub(crate) fn keep_narrow_numbers_where_related<R: NarrowPairRelation>(
-    out: &mut [i16],
-    left: &[i16],
-    right: &[i16],
-    other: &[i16],
-    relate: R,
-)
-    requires left { length left.now ≡ length out.old }
-    requires right { length right.now ≡ length out.old }
-    requires other { length other.now ≡ length out.old }
-    ensures { EachPlace (length out.old) (λ k. at out.new k
-        ≡ (if R.holds relate (at left.now k) (at right.now k) then at out.old k
-        else at other.now k)) }
-{
-    for k in 0..out.len() {
-        let (mine, its) = (out[k], other[k]);
-        out[k] = choose_narrow_number(relate.relates_narrow_pair(left[k], right[k]), mine, its);
-    }
 }

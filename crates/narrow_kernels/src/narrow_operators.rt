@@ -1,17 +1,17 @@
 #![tactic(auto)]
 //! The operators of formulas on rows of numbers of 16 bits.
 
-ghost use Rattle.std.specs.Prelude.{◌≡◌, ◌-ℤ◌, length, pos, unsigned_abs, FitsSigned, if◌then◌else◌};
+ghost use Rattle.std.specs.Prelude.{◌≡◌, ◌-ℤ◌, length, pos, unsigned_abs, FitsSigned};
 ghost use Rattle.std.specs.Int.{w16};
 ghost use Rattle.domains.specs.Arithmetic.{wrapped, clamped, floor_div};
-ghost use Rattle.operators.specs.Values.{unary_value, binary_value, ternary_value, literal_value, is_related};
+ghost use Rattle.operators.specs.Values.{unary_value, binary_value, ternary_value, literal_value};
 ghost use Rattle.operators.specs.Limits.{IsDivisor, IsLiteral};
 ghost use Rattle.narrow_kernels.specs.NarrowOperands.{narrow_operand_at, ServesNarrow, IsGivenNarrow};
 ghost use Rattle.row_loops.specs.Rows.{EachPlace, at};
 
 use crate::narrow_loops::{
-    combine_narrow_row_in_place, fill_narrow_row, keep_narrow_numbers_where_related,
-    map_narrow_row_in_place, write_combination_of_two_narrow_rows, write_mapped_narrow_row,
+    combine_narrow_row_in_place, fill_narrow_row, map_narrow_row_in_place,
+    write_combination_of_two_narrow_rows, write_mapped_narrow_row,
 };
 use crate::narrow_maps::{
     FixedLeftNarrowPair, NarrowAbsoluteValue, NarrowClamping, NarrowLeftShift, NarrowLongShift,
@@ -20,14 +20,14 @@ use crate::narrow_maps::{
 };
 use crate::narrow_operand::NarrowOperand;
 use crate::narrow_pairs::{
-    NarrowAbsoluteDifference, NarrowAtLeast, NarrowAtMost, NarrowDifference, NarrowEqual,
-    NarrowGreatest, NarrowLeast, NarrowPairMap, NarrowProduct, NarrowSum, SwappedNarrowPair,
+    NarrowAbsoluteDifference, NarrowDifference, NarrowGreatest, NarrowLeast, NarrowPairMap,
+    NarrowProduct, NarrowSum, SwappedNarrowPair,
 };
 use crate::narrow_reciprocal::NarrowReciprocal;
-use operators::{BinaryOp, LiteralOp, Relation, TernaryOp, UnaryOp};
+use operators::{BinaryOp, LiteralOp, TernaryOp, UnaryOp};
 
-/// Writes the numbers of an operand.
-pub fn write_narrow_operand(out: &mut [i16], of: NarrowOperand)
+// Writes the numbers of an operand.
+fn write_narrow_operand(out: &mut [i16], of: NarrowOperand)
     requires { ServesNarrow (length out.old) of }
     ensures { EachPlace (length out.old)
         (λ k. at out.new k ≡ narrow_operand_at of.entry out.old k) }
@@ -150,7 +150,7 @@ pub fn write_narrow_absolute_differences(out: &mut [i16], left: &[i16], right: &
 }
 
 /// Clamps the numbers of an operand to at least `low`, and then to at most `high`.
-pub fn clamp_narrow_operand_to_numbers(out: &mut [i16], of: NarrowOperand, low: i16, high: i16)
+fn clamp_narrow_operand_to_numbers(out: &mut [i16], of: NarrowOperand, low: i16, high: i16)
     requires { ServesNarrow (length out.old) of }
     ensures { EachPlace (length out.old)
         (λ k. at out.new k ≡ clamped (narrow_operand_at of.entry out.old k) low high) }
@@ -229,35 +229,5 @@ pub fn write_narrow_literal_op_results(
             NarrowRightShift { bits: number },
         ),
         LiteralOp::Shr => map_narrow_operand(out, left, NarrowLongShift { bits: number }),
-    }
-}
-
-/// Keeps the row's numbers where the relation of two lines holds, and takes those of a third line elsewhere.
-pub fn keep_narrow_row_where_related(
-    out: &mut [i16],
-    left: &[i16],
-    relation: Relation,
-    right: &[i16],
-    other: &[i16],
-)
-    requires left { length left.now ≡ length out.old }
-    requires right { length right.now ≡ length out.old }
-    requires other { length other.now ≡ length out.old }
-    ensures { EachPlace (length out.old) (λ k. at out.new k
-        ≡ (if is_related relation (at left.now k) (at right.now k) then at out.old k
-        else at other.now k)) }
-{
-    match relation {
-        Relation::AtMost => keep_narrow_numbers_where_related(
-            out,
-            left,
-            right,
-            other,
-            NarrowAtMost,
-        ),
-        Relation::AtLeast => {
-            keep_narrow_numbers_where_related(out, left, right, other, NarrowAtLeast)
-        }
-        Relation::Equals => keep_narrow_numbers_where_related(out, left, right, other, NarrowEqual),
     }
 }
