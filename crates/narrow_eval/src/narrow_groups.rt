@@ -401,6 +401,38 @@ impl<'a, S: NarrowSource> NarrowPoints<'a, S> {
         }
     }
 
+    // Writes the values of a sum that ends in clamped differences from a center, if nothing is to be computed for it. Returns whether
+    // this is done. (Apart, since what it holds takes much of the stack.)
+    #[inline(never)]
+    fn write_narrow_sum_of_group(
+        &self,
+        formula: &Formula,
+        right: &Formula,
+        center: NarrowCenter<'a>,
+        out: &mut [i16],
+    ) -> bool
+        requires fits { length out.old ≡ self.now.points.len }
+        requires narrow { NarrowWithin (S.samples self.now.source.now) (formula_view formula.now)
+            self.now.points.row self.now.points.col (length out.old) }
+        requires reads { ReadsWithin (S.has self.now.source.now) (formula_view formula.now)
+            self.now.points.row self.now.points.col (length out.old) }
+        requires center { IsCenter (length out.old) center }
+        requires values { HasCenterValues (S.samples self.now.source.now) (formula_view right.now)
+            self.now.points.row self.now.points.col (length out.old) center }
+        ensures { IsTrue result → EachPlace (length out.old) (λ k. at out.new k
+            ≡ formula_value (S.samples self.now.source.now)
+            (formula_view formula.now) self.now.points.row (self.now.points.col +ℤ pos k)) }
+    {
+        let mut sum = NarrowSum::of_no_narrow_addends();
+        let mut group = NarrowGroup::from_narrow_group_center(center);
+        if !self.gather_narrow_group(formula, right, &mut group, &mut sum, out) {
+            return false;
+        }
+        group.add_narrow_group(&mut sum, out);
+        sum.write_narrow_sum(out);
+        true
+    }
+
     /// Writes the values of a formula, if it is a sum for which nothing is to be computed and that ends in clamped differences from
     /// one center. Returns whether it is.
     pub(crate) fn try_narrow_sum_of_group(&self, formula: &Formula, out: &mut [i16]) -> bool
@@ -421,13 +453,6 @@ impl<'a, S: NarrowSource> NarrowPoints<'a, S> {
         {
             return false;
         }
-        let mut sum = NarrowSum::of_no_narrow_addends();
-        let mut group = NarrowGroup::from_narrow_group_center(center);
-        if !self.gather_narrow_group(formula, right, &mut group, &mut sum, out) {
-            return false;
-        }
-        group.add_narrow_group(&mut sum, out);
-        sum.write_narrow_sum(out);
-        true
+        self.write_narrow_sum_of_group(formula, right, center, out)
     }
 }

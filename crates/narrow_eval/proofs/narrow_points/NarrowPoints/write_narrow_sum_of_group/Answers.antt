@@ -4,7 +4,7 @@ use Rattle.job.specs.Views.{formula_view}
 use Rattle.narrow_eval.specs.NarrowGroups.{group_at}
 use Rattle.narrow_eval.proofs.NarrowGroups.{begun_with, ended_with}
 use Rattle.narrow_eval.proofs.NarrowSums.{narrow_fits}
-use Rattle.narrow_eval.proofs.narrow_points.NarrowPoints.try_narrow_sum_of_group.Goals as goal
+use Rattle.narrow_eval.proofs.narrow_points.NarrowPoints.write_narrow_sum_of_group.Goals as goal
 
 pub returns : goal.returns
 returns g c = λ e k l.
