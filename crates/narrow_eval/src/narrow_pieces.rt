@@ -12,7 +12,7 @@ ghost use Rattle.row_loops.specs.Rows.{EachPlace, at};
 ghost use Rattle.narrow_eval.specs.NarrowPieces.{step_value, mapped_value, FitsMap, IsPieceReady};
 
 use crate::narrow_points::NarrowPoints;
-use crate::narrow_reads::{find_narrow_formula_constant, is_borrowable_narrow_read};
+use crate::narrow_reads::find_narrow_formula_constant;
 use crate::narrow_source::NarrowSource;
 use job::Formula;
 use narrow_kernels::{
@@ -106,6 +106,17 @@ fn can_be_narrow_piece(formula: &Formula) -> bool {
     }
 }
 
+// Whether a formula has an operator that a piece may have last. (Formulas of reads alone are seen here at once, and left to the
+// operators on lines.)
+#[inline(always)]
+fn has_narrow_piece_operator(formula: &Formula) -> bool {
+    match formula {
+        Formula::Literal(_, _, _) => true,
+        Formula::Binary(op, _, _) => !matches!(op, BinaryOp::Min | BinaryOp::Max),
+        _ => false,
+    }
+}
+
 // Which of two numbers an operator takes.
 fn find_narrow_piece_extreme(op: BinaryOp) -> Option<NarrowExtreme>
     ensures { IfSome result (λ e. (a b : ℤ) → extreme_value e a b ≡ binary_value op a b) }
@@ -154,7 +165,7 @@ impl<'a, S: NarrowSource> NarrowPoints<'a, S> {
         }
     }
 
-    // The same values by a map that has the last operator of the formula in it, if it can be.
+    // The same values by a map that has the last operator of the formula in it, whichever it is, if it can be.
     fn peel_narrow_piece_operator<'f>(&self, of: NarrowMappedPiece<'f>) -> NarrowMappedPiece<'f>
         requires ready { IsPieceReady (S.has self.now.source.now) (S.samples self.now.source.now)
             (formula_view of.formula.now) self.now.points.row self.now.points.col
@@ -182,8 +193,97 @@ impl<'a, S: NarrowSource> NarrowPoints<'a, S> {
         }
     }
 
-    // The same for two more operators. (A read has none, which is seen at once.)
-    fn peel_rest_of_narrow_piece<'f>(&self, of: NarrowMappedPiece<'f>) -> NarrowMappedPiece<'f>
+    // A sum with a number as a step, and the formula that the step takes the values of.
+    #[inline(always)]
+    fn match_narrow_piece_sum<'f>(
+        &self,
+        formula: &'f Formula,
+    ) -> Option<(NarrowPieceStep, &'f Formula)>
+        requires { IsPieceReady (S.has self.now.source.now) (S.samples self.now.source.now)
+            (formula_view formula.now) self.now.points.row self.now.points.col self.now.points.len }
+        ensures ready { IfSome result (λ p. IsPieceReady (S.has self.now.source.now)
+            (S.samples self.now.source.now) (formula_view p.1.now) self.now.points.row
+            self.now.points.col self.now.points.len) }
+        ensures value { IfSome result (λ p. EachPlace self.now.points.len (λ k. step_value p.0
+            (formula_value (S.samples self.now.source.now) (formula_view p.1.now)
+            self.now.points.row (self.now.points.col +ℤ pos k))
+            ≡ formula_value (S.samples self.now.source.now) (formula_view formula.now)
+            self.now.points.row (self.now.points.col +ℤ pos k))) }
+    {
+        let Formula::Binary(op, left, right) = formula else {
+            return None;
+        };
+        if !matches!(op, BinaryOp::Add | BinaryOp::Sub) {
+            return None;
+        }
+        match find_narrow_formula_constant(right) {
+            Some(number) => {
+                let step = find_narrow_piece_step_with_right_number(*op, number)?;
+                Some((step, &**left))
+            }
+            None => {
+                let number = find_narrow_formula_constant(left)?;
+                let sum = find_narrow_piece_step_with_left_number(*op, number)?;
+                Some((sum, &**right))
+            }
+        }
+    }
+
+    // A quotient by a number as a step, and the formula that the step takes the values of.
+    #[inline(always)]
+    fn match_narrow_piece_quotient<'f>(
+        &self,
+        formula: &'f Formula,
+    ) -> Option<(NarrowPieceStep, &'f Formula)>
+        requires { IsPieceReady (S.has self.now.source.now) (S.samples self.now.source.now)
+            (formula_view formula.now) self.now.points.row self.now.points.col self.now.points.len }
+        ensures ready { IfSome result (λ p. IsPieceReady (S.has self.now.source.now)
+            (S.samples self.now.source.now) (formula_view p.1.now) self.now.points.row
+            self.now.points.col self.now.points.len) }
+        ensures value { IfSome result (λ p. EachPlace self.now.points.len (λ k. step_value p.0
+            (formula_value (S.samples self.now.source.now) (formula_view p.1.now)
+            self.now.points.row (self.now.points.col +ℤ pos k))
+            ≡ formula_value (S.samples self.now.source.now) (formula_view formula.now)
+            self.now.points.row (self.now.points.col +ℤ pos k))) }
+    {
+        let Formula::Literal(op, of, literal) = formula else {
+            return None;
+        };
+        let step = find_narrow_piece_step_with_literal(*op, *literal)?;
+        Some((step, &**of))
+    }
+
+    // A product with a number before it as a step, and the formula that the step takes the values of.
+    #[inline(always)]
+    fn match_narrow_piece_product<'f>(
+        &self,
+        formula: &'f Formula,
+    ) -> Option<(NarrowPieceStep, &'f Formula)>
+        requires { IsPieceReady (S.has self.now.source.now) (S.samples self.now.source.now)
+            (formula_view formula.now) self.now.points.row self.now.points.col self.now.points.len }
+        ensures ready { IfSome result (λ p. IsPieceReady (S.has self.now.source.now)
+            (S.samples self.now.source.now) (formula_view p.1.now) self.now.points.row
+            self.now.points.col self.now.points.len) }
+        ensures value { IfSome result (λ p. EachPlace self.now.points.len (λ k. step_value p.0
+            (formula_value (S.samples self.now.source.now) (formula_view p.1.now)
+            self.now.points.row (self.now.points.col +ℤ pos k))
+            ≡ formula_value (S.samples self.now.source.now) (formula_view formula.now)
+            self.now.points.row (self.now.points.col +ℤ pos k))) }
+    {
+        let Formula::Binary(op, left, right) = formula else {
+            return None;
+        };
+        if !matches!(op, BinaryOp::Mul) {
+            return None;
+        }
+        let number = find_narrow_formula_constant(left)?;
+        let step = find_narrow_piece_step_with_left_number(*op, number)?;
+        Some((step, &**right))
+    }
+
+    // The same values by a map that has the sum in it which the formula is, if it is one with a number.
+    #[inline(always)]
+    fn peel_narrow_piece_sum<'f>(&self, of: NarrowMappedPiece<'f>) -> NarrowMappedPiece<'f>
         requires ready { IsPieceReady (S.has self.now.source.now) (S.samples self.now.source.now)
             (formula_view of.formula.now) self.now.points.row self.now.points.col
             self.now.points.len }
@@ -201,14 +301,105 @@ impl<'a, S: NarrowSource> NarrowPoints<'a, S> {
             ≡ mapped_value (S.samples self.now.source.now) of.entry.map (formula_view of.entry.formula.now)
             self.now.points.row (self.now.points.col +ℤ pos k)) }
     {
-        if is_borrowable_narrow_read(of.formula) {
-            return of;
+        match self.match_narrow_piece_sum(of.formula) {
+            Some((step, formula)) => match prepend_narrow_piece_step(of.map, step) {
+                Some(sum) => NarrowMappedPiece { map: sum, formula },
+                None => of,
+            },
+            None => of,
         }
-        let third = self.peel_narrow_piece_operator(of);
-        self.peel_narrow_piece_operator(third)
     }
 
-    // A piece as the samples of its read and the map of them, if the formula is a piece of at most four operators.
+    // The same for a quotient by a number.
+    #[inline(always)]
+    fn peel_narrow_piece_quotient<'f>(&self, of: NarrowMappedPiece<'f>) -> NarrowMappedPiece<'f>
+        requires ready { IsPieceReady (S.has self.now.source.now) (S.samples self.now.source.now)
+            (formula_view of.formula.now) self.now.points.row self.now.points.col
+            self.now.points.len }
+        requires fits { FitsMap (S.samples self.now.source.now) of.map (formula_view of.formula.now)
+            self.now.points.row self.now.points.col self.now.points.len }
+        ensures ready { IsPieceReady (S.has self.now.source.now) (S.samples self.now.source.now)
+            (formula_view result.formula.now) self.now.points.row self.now.points.col
+            self.now.points.len }
+        ensures fits { FitsMap (S.samples self.now.source.now) result.map
+            (formula_view result.formula.now) self.now.points.row self.now.points.col
+            self.now.points.len }
+        ensures value { EachPlace self.now.points.len (λ k.
+            mapped_value (S.samples self.now.source.now) result.map
+            (formula_view result.formula.now) self.now.points.row (self.now.points.col +ℤ pos k)
+            ≡ mapped_value (S.samples self.now.source.now) of.entry.map (formula_view of.entry.formula.now)
+            self.now.points.row (self.now.points.col +ℤ pos k)) }
+    {
+        match self.match_narrow_piece_quotient(of.formula) {
+            Some((step, formula)) => match prepend_narrow_piece_step(of.map, step) {
+                Some(quotient) => NarrowMappedPiece {
+                    map: quotient,
+                    formula,
+                },
+                None => of,
+            },
+            None => of,
+        }
+    }
+
+    // The same for a product with a number before it.
+    #[inline(always)]
+    fn peel_narrow_piece_product<'f>(&self, of: NarrowMappedPiece<'f>) -> NarrowMappedPiece<'f>
+        requires ready { IsPieceReady (S.has self.now.source.now) (S.samples self.now.source.now)
+            (formula_view of.formula.now) self.now.points.row self.now.points.col
+            self.now.points.len }
+        requires fits { FitsMap (S.samples self.now.source.now) of.map (formula_view of.formula.now)
+            self.now.points.row self.now.points.col self.now.points.len }
+        ensures ready { IsPieceReady (S.has self.now.source.now) (S.samples self.now.source.now)
+            (formula_view result.formula.now) self.now.points.row self.now.points.col
+            self.now.points.len }
+        ensures fits { FitsMap (S.samples self.now.source.now) result.map
+            (formula_view result.formula.now) self.now.points.row self.now.points.col
+            self.now.points.len }
+        ensures value { EachPlace self.now.points.len (λ k.
+            mapped_value (S.samples self.now.source.now) result.map
+            (formula_view result.formula.now) self.now.points.row (self.now.points.col +ℤ pos k)
+            ≡ mapped_value (S.samples self.now.source.now) of.entry.map (formula_view of.entry.formula.now)
+            self.now.points.row (self.now.points.col +ℤ pos k)) }
+    {
+        match self.match_narrow_piece_product(of.formula) {
+            Some((step, formula)) => match prepend_narrow_piece_step(of.map, step) {
+                Some(product) => NarrowMappedPiece {
+                    map: product,
+                    formula,
+                },
+                None => of,
+            },
+            None => of,
+        }
+    }
+
+    // The samples of a read and the map of them that give what a map makes of a formula, if the formula is a read with any two
+    // operators more. (Apart, since few pieces have such a rest.)
+    #[inline(never)]
+    fn borrow_rest_of_narrow_piece(&self, of: NarrowMappedPiece) -> Option<NarrowAffineLine<'a>>
+        requires ready { IsPieceReady (S.has self.now.source.now) (S.samples self.now.source.now)
+            (formula_view of.formula.now) self.now.points.row self.now.points.col
+            self.now.points.len }
+        requires fits { FitsMap (S.samples self.now.source.now) of.map (formula_view of.formula.now)
+            self.now.points.row self.now.points.col self.now.points.len }
+        ensures count { IfSome result (λ it. length it.line.now ≡ self.now.points.len) }
+        ensures fits { IfSome result (λ it. EachPlace self.now.points.len (λ k. FitsAffineLine it k)) }
+        ensures value { IfSome result (λ it. EachPlace self.now.points.len (λ k. affine_line_at it k
+            ≡ mapped_value (S.samples self.now.source.now) of.entry.map (formula_view of.entry.formula.now)
+            self.now.points.row (self.now.points.col +ℤ pos k))) }
+    {
+        let first = self.peel_narrow_piece_operator(of);
+        let last = self.peel_narrow_piece_operator(first);
+        let line = self.borrow_narrow_read_line(last.formula)?;
+        Some(NarrowAffineLine {
+            line,
+            map: last.map,
+        })
+    }
+
+    // A piece as the samples of its read and the map of them, if the formula is a piece of few operators. (A sum, a quotient and a
+    // product, in this order, are taken in one step each, and then any two operators.)
     fn borrow_narrow_piece(&self, formula: &Formula) -> Option<NarrowAffineLine<'a>>
         requires { IsPieceReady (S.has self.now.source.now) (S.samples self.now.source.now)
             (formula_view formula.now) self.now.points.row self.now.points.col self.now.points.len }
@@ -222,18 +413,22 @@ impl<'a, S: NarrowSource> NarrowPoints<'a, S> {
             map: NarrowAffineMap::identity_on_narrow_numbers(),
             formula,
         };
-        let first = self.peel_narrow_piece_operator(whole);
-        let second = self.peel_narrow_piece_operator(first);
-        let last = self.peel_rest_of_narrow_piece(second);
-        let line = self.borrow_narrow_read_line(last.formula)?;
-        Some(NarrowAffineLine {
-            line,
-            map: last.map,
-        })
+        let first = self.peel_narrow_piece_sum(whole);
+        let second = self.peel_narrow_piece_quotient(first);
+        let third = self.peel_narrow_piece_product(second);
+        match self.borrow_narrow_read_line(third.formula) {
+            Some(line) => Some(NarrowAffineLine {
+                line,
+                map: third.map,
+            }),
+            None => {
+                let rest = self.borrow_rest_of_narrow_piece(third)?;
+                Some(rest)
+            }
+        }
     }
 
-    // Writes the lesser or the greater ones of two formulas, if these are pieces. Returns whether they are. (Two reads without an
-    // operator are left to the operator on two lines.)
+    // Writes the lesser or the greater ones of two formulas, if these are pieces. Returns whether they are.
     fn try_narrow_extremes_of_two_pieces(
         &self,
         a: &Formula,
@@ -254,9 +449,6 @@ impl<'a, S: NarrowSource> NarrowPoints<'a, S> {
             self.now.points.row (self.now.points.col +ℤ pos k))) }
     {
         if !can_be_narrow_piece(a) || !can_be_narrow_piece(b) {
-            return false;
-        }
-        if is_borrowable_narrow_read(a) && is_borrowable_narrow_read(b) {
             return false;
         }
         match (self.borrow_narrow_piece(a), self.borrow_narrow_piece(b)) {
@@ -297,12 +489,6 @@ impl<'a, S: NarrowSource> NarrowPoints<'a, S> {
         if !can_be_narrow_piece(a) || !can_be_narrow_piece(b) || !can_be_narrow_piece(c) {
             return false;
         }
-        if is_borrowable_narrow_read(a)
-            && is_borrowable_narrow_read(b)
-            && is_borrowable_narrow_read(c)
-        {
-            return false;
-        }
         match (
             self.borrow_narrow_piece(a),
             self.borrow_narrow_piece(b),
@@ -331,6 +517,9 @@ impl<'a, S: NarrowSource> NarrowPoints<'a, S> {
         let Some(join) = find_narrow_piece_extreme(*op) else {
             return false;
         };
+        if !has_narrow_piece_operator(last) && !has_narrow_piece_operator(front) {
+            return false;
+        }
         if let Formula::Binary(inner, first, second) = &**front {
             if let Some(inner_join) = find_narrow_piece_extreme(*inner) {
                 return self.try_narrow_extremes_of_three_pieces(
