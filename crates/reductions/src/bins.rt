@@ -8,6 +8,7 @@ ghost use Rattle.tile_eval.specs.Rows.{EachPlace, at};
 ghost use Rattle.reductions.specs.inside.Gathering.{once_came, after_values, values_of_bin};
 
 use crate::join::join_two_numbers_of_bin;
+use crate::known_bins::{add_number_to_known_bin_of_each_point, are_row_bins_among};
 use operators::ReductionOp;
 
 /// The place of a bin, if it is one of `count` bins from `lo` on.
@@ -106,6 +107,17 @@ pub(crate) fn accumulate_row_of_values_in_bins(
     }
 }
 
+// Adds a number to the bin of each point of a row, where some of these may be none of the bins, from `lo` on.
+fn add_number_to_any_bin_of_each_point(lo: i32, bins: &mut [i64], number: i32, bins_of: &[i32])
+    ensures { EachPlace (length bins.old) (λ j. at bins.new j
+        ≡ after_values Sum (at bins.old j)
+        (values_of_bin (replicate (length bins_of.now) number) bins_of.now (lo +ℤ pos j))) }
+{
+    for k in 0..bins_of.len() {
+        accumulate_value_in_bin(ReductionOp::Sum, lo, bins, number, bins_of[k]);
+    }
+}
+
 /// Adds a number to the bin of each point of a row.
 pub(crate) fn add_number_to_bin_of_each_point(
     lo: i32,
@@ -117,7 +129,12 @@ pub(crate) fn add_number_to_bin_of_each_point(
         ≡ after_values Sum (at bins.old j)
         (values_of_bin (replicate (length bins_of.now) number) bins_of.now (lo +ℤ pos j))) }
 {
-    for k in 0..bins_of.len() {
-        accumulate_value_in_bin(ReductionOp::Sum, lo, bins, number, bins_of[k]);
+    if !are_row_bins_among(lo, bins.len(), bins_of) {
+        add_number_to_any_bin_of_each_point(lo, bins, number, bins_of);
+    } else if lo == 0 {
+        // the first bin is mostly bin 0: each bin is then its own place
+        add_number_to_known_bin_of_each_point(0, bins, number, bins_of);
+    } else {
+        add_number_to_known_bin_of_each_point(lo, bins, number, bins_of);
     }
 }

@@ -7,6 +7,7 @@ mod bin_starts;
 mod bins;
 mod gather;
 mod join;
+mod known_bins;
 mod row_bins;
 mod row_buffers;
 mod side_by_side;

@@ -1,5 +1,5 @@
 -- How bins accumulate points.
-use Rattle.std.specs.Prelude.{ℕ, ℤ, pos, ◌+ℤ◌, ◌≡◌, Bool, if◌then◌else◌, List, map, filter, fold, length, zip}
+use Rattle.std.specs.Prelude.{ℕ, ℤ, pos, ◌+ℤ◌, ◌≡◌, ◌≤ℤ◌, ◌<ℤ◌, Bool, if◌then◌else◌, List, map, filter, fold, length, zip}
 use Rattle.std.specs.Ordering.{int_eq}
 use Rattle.domains.specs.Span.{numbers_from}
 use Rattle.operators.specs.declared.operator.ReductionOp.{ReductionOp}
@@ -13,6 +13,10 @@ once_came way here total v = if here then joined way total v else total
 -- the content of a bin after values, accumulated one after the other
 abbrev pub after_values : ReductionOp → ℤ → List ℤ → ℤ
 after_values way total vs = fold (joined way) total vs
+
+-- bin b is one of n bins from lo on
+abbrev pub IsAmongBins : ℤ → ℕ → ℤ → Type 0
+IsAmongBins lo n b = (lo ≤ℤ b) × (b <ℤ (lo +ℤ pos n))
 
 -- those of a row of values that are of bin b, where a second row has the bin of each
 abbrev pub values_of_bin : List ℤ → List ℤ → ℤ → List ℤ

@@ -2,7 +2,7 @@ use Rattle.std.proofs.Common.{◌≡◌, ◌+ℤ◌, ℤ, List, pos, drop, lengt
 use Rattle.operators.specs.declared.operator.ReductionOp.TheVariants.{Sum}
 use Rattle.tile_eval.specs.Rows.{EachPlace, at}
 use Rattle.reductions.specs.inside.Gathering.{after_values, values_of_bin}
-use Rattle.reductions.proofs.bins.add_number_to_bin_of_each_point.Given as goal
+use Rattle.reductions.proofs.known_bins.add_number_to_known_bin_of_each_point.Given as goal
 
 -- the bins so far, and the points that are left
 abbrev pub invariant-loop-k : goal.invariant-loop-k

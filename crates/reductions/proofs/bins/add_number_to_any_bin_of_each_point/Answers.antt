@@ -6,7 +6,7 @@ use Rattle.operators.specs.declared.operator.ReductionOp.TheVariants.{Sum}
 use Rattle.tile_eval.specs.Rows.{at}
 use Rattle.reductions.specs.inside.Gathering.{once_came}
 use Rattle.reductions.proofs.TakeValues.{one_more, at_same, same_long}
-use Rattle.reductions.proofs.bins.add_number_to_bin_of_each_point.Goals as goal
+use Rattle.reductions.proofs.bins.add_number_to_any_bin_of_each_point.Goals as goal
 
 pub loop-k-preserved : goal.loop-k-preserved
 loop-k-preserved c = λ j h.
