@@ -1,6 +1,7 @@
 -- Means of nine numbers, block by block.
-use Rattle.std.proofs.Common.{arith, ℕ, ℤ, ◌≡◌, ◌≢◌, ◌+◌, ◌-◌, ◌*◌, ◌/◌, ◌<◌, ◌≤◌, ◌⊎◌, inl, inr, pos, negsuc, ◌≤ℤ◌, ◌+ℤ◌, ◌-ℤ◌, ◌*ℤ◌, length, take, drop, List, ◌∙◌, ap, sym, subst, w32, FitsSigned}
+use Rattle.std.proofs.Common.{arith, ℕ, ℤ, ◌≡◌, ◌≢◌, ◌+◌, ◌-◌, ◌<◌, ◌≤◌, ◌⊎◌, inl, inr, pos, negsuc, ◌≤ℤ◌, ◌+ℤ◌, ◌-ℤ◌, ◌*ℤ◌, length, take, drop, List, ◌∙◌, ap, sym, subst, w16, w32, FitsSigned}
 use Rattle.std.specs.Prelude.{slice_set}
+use Rattle.std.specs.Int.{int_wrap}
 use Rattle.std.proofs.lemmas.Bool.{cases_lt}
 use Rattle.std.proofs.lemmas.List.{get_or-set_same, get_or-set_other}
 use borrow.Author.Count.{below_more}
@@ -10,22 +11,33 @@ use borrow.Rule.Slice.PartMut.{put_mid}
 use Rattle.domains.specs.Arithmetic.{wrapped, floor_div}
 use Rattle.domains.proofs.Floors.{floor_only}
 use Rattle.row_loops.specs.Rows.{EachPlace, at}
-use Rattle.narrow_kernels.specs.NarrowMeans.{mean_of_nine, IsColumnSum}
+use Rattle.narrow_kernels.specs.NarrowMeans.{mean_of_nine, AreColumnParts, IsColumnSum}
 
 -- ---- sums of three numbers
 
--- where the sixteenth part of a number of 16 bits lies, and what it leaves
-abbrev pub IsPart : ℤ → ℤ → Type 0
-IsPart h l = (negsuc 2047 ≤ℤ h) × ((h ≤ℤ pos 2047) × ((pos 0 ≤ℤ l) × (l ≤ℤ pos 15)))
+-- the sum of numbers that are hardly below ninth parts
+module _ (a b c p q r s : ℤ) (is : s ≡ p +ℤ q +ℤ r) where
+  pub ninths_most : (pos 9 *ℤ p) ≤ℤ a → (pos 9 *ℤ q) ≤ℤ b → (pos 9 *ℤ r) ≤ℤ c → (pos 9 *ℤ s) ≤ℤ (a +ℤ b +ℤ c)
+  ninths_most x y z = omega (arith, ints, is, x, y, z)
 
--- the parts of three numbers are added
-pub sum_of_parts : (a b c ha hb hc la lb lc : ℤ) → pos 16 *ℤ ha +ℤ la ≡ a → pos 16 *ℤ hb +ℤ lb ≡ b → pos 16 *ℤ hc +ℤ lc ≡ c
-    → IsPart ha la → IsPart hb lb → IsPart hc lc → IsColumnSum (a +ℤ b +ℤ c) (ha +ℤ hb +ℤ hc) (la +ℤ lb +ℤ lc)
-sum_of_parts a b c ha hb hc la lb lc ea eb ec x y z = (
-  omega (arith, ints, ea, eb, ec),
+  pub ninths_least : a ≤ℤ (pos 9 *ℤ p +ℤ pos 9) → b ≤ℤ (pos 9 *ℤ q +ℤ pos 9) → c ≤ℤ (pos 9 *ℤ r +ℤ pos 9) → (a +ℤ b +ℤ c) ≤ℤ (pos 9 *ℤ s +ℤ pos 27)
+  ninths_least x y z = omega (arith, ints, is, x, y, z)
+
+-- what nine times a number leaves of a sum, where it is small
+pub rest_is : (s q r : ℤ) → r ≡ int_wrap w16 (s +ℤ q *ℤ negsuc 8) → (pos 9 *ℤ q) ≤ℤ s → s ≤ℤ (pos 9 *ℤ q +ℤ pos 27) → pos 9 *ℤ q +ℤ r ≡ s
+rest_is s q r e most least =
+    let fits : FitsSigned w16 (s +ℤ q *ℤ negsuc 8) = omega (arith, ints, most, least) in
+    let is : r ≡ s +ℤ q *ℤ negsuc 8 = e ∙ int_wrap_fits w16 _ fits in
+    omega (arith, ints, is)
+
+-- the parts of the sum of three numbers
+pub parts_are : (a b c q r : ℤ) → FitsSigned w16 a → FitsSigned w16 b → FitsSigned w16 c
+    → (pos 9 *ℤ q) ≤ℤ (a +ℤ b +ℤ c) → (a +ℤ b +ℤ c) ≤ℤ (pos 9 *ℤ q +ℤ pos 27) → pos 9 *ℤ q +ℤ r ≡ a +ℤ b +ℤ c → IsColumnSum (a +ℤ b +ℤ c) q r
+parts_are a b c q r x y z most least is = (
+  is,
   (
-    (omega (arith, ints, x.0, y.0, z.0), omega (arith, ints, x.1.0, y.1.0, z.1.0)),
-    (omega (arith, ints, x.1.1.0, y.1.1.0, z.1.1.0), omega (arith, ints, x.1.1.1, y.1.1.1, z.1.1.1)),
+    (omega (arith, ints, most, is), omega (arith, ints, least, is)),
+    (omega (arith, ints, is, x, y, z), omega (arith, ints, is, x, y, z)),
   ),
 )
 
@@ -48,25 +60,30 @@ module _ (sum : ℕ → ℤ) (highs lows : List ℤ) (k : ℕ) (high low : ℤ) 
 
 -- three of them are added exactly
 pub exact_mean : (s t u hs ht hu ls lt lu : ℤ) → IsColumnSum s hs ls → IsColumnSum t ht lt → IsColumnSum u hu lu
-    → floor_div (pos 16 *ℤ (hs +ℤ ht +ℤ hu) +ℤ (ls +ℤ lt +ℤ lu)) (pos 9) ≡ floor_div (wrapped (s +ℤ t +ℤ u)) (pos 9)
+    → floor_div (pos 9 *ℤ (hs +ℤ ht +ℤ hu) +ℤ (ls +ℤ lt +ℤ lu)) (pos 9) ≡ floor_div (wrapped (s +ℤ t +ℤ u)) (pos 9)
 exact_mean s t u hs ht hu ls lt lu x y z =
     let fits : FitsSigned w32 (s +ℤ t +ℤ u) =
-    omega (arith, ints, x.0, x.1.0.0, x.1.0.1, x.1.1.0, x.1.1.1, y.0, y.1.0.0, y.1.0.1, y.1.1.0, y.1.1.1, z.0, z.1.0.0, z.1.0.1, z.1.1.0, z.1.1.1) in
-    let same : pos 16 *ℤ (hs +ℤ ht +ℤ hu) +ℤ (ls +ℤ lt +ℤ lu) ≡ s +ℤ t +ℤ u = omega (arith, ints, x.0, y.0, z.0) in
+    omega (arith, ints, x.0, x.1.1.0, x.1.1.1, y.0, y.1.1.0, y.1.1.1, z.0, z.1.1.0, z.1.1.1) in
+    let same : pos 9 *ℤ (hs +ℤ ht +ℤ hu) +ℤ (ls +ℤ lt +ℤ lu) ≡ s +ℤ t +ℤ u = omega (arith, ints, x.0, y.0, z.0) in
     ap (λ (v : ℤ). floor_div v (pos 9)) (same ∙ sym (int_wrap_fits w32 _ fits))
 
 -- ---- the ninth part of a sum in two parts
 
-pub ninth_of_parts : (z high : ℤ) (n low q : ℕ) → pos n ≡ high +ℤ pos 18432 → q ≡ (16 * n + low) / 9 → z ≡ pos q -ℤ pos 32768
-    → z ≡ floor_div (pos 16 *ℤ high +ℤ pos low) (pos 9)
-ninth_of_parts z high n low q raised ninth lowered =
-    let least : 9 * q ≤ 16 * n + low = omega (arith, ninth) in
-    let most : 16 * n + low < 9 * q + 9 = omega (arith, ninth) in
-    (floor_only (pos 16 *ℤ high +ℤ pos low) (pos 9) z (pos 16 *ℤ high +ℤ pos low -ℤ z *ℤ pos 9) (omega (arith, ints)) record {
+pub ninth_of_parts : (ninths rests m z : ℤ) → (pos 9 *ℤ m) ≤ℤ rests → rests ≤ℤ (pos 9 *ℤ m +ℤ pos 8) → z ≡ m +ℤ ninths
+    → z ≡ floor_div (pos 9 *ℤ ninths +ℤ rests) (pos 9)
+ninth_of_parts ninths rests m z most least is =
+    (floor_only (pos 9 *ℤ ninths +ℤ rests) (pos 9) z (pos 9 *ℤ ninths +ℤ rests -ℤ z *ℤ pos 9) (omega (arith, ints)) record {
       split = omega (arith, ints);
-      least = omega (arith, ints, raised, lowered, least);
-      below = omega (arith, ints, raised, lowered, most);
+      least = omega (arith, ints, most, is);
+      below = omega (arith, ints, least, is);
     }).0
+
+-- the mean of nine numbers fits in 16 bits
+module _ (qa ra qb rb qc rc m : ℤ) (a : AreColumnParts qa ra) (b : AreColumnParts qb rb) (c : AreColumnParts qc rc)
+    (most : (pos 9 *ℤ m) ≤ℤ (ra +ℤ rb +ℤ rc)) (least : (ra +ℤ rb +ℤ rc) ≤ℤ (pos 9 *ℤ m +ℤ pos 8))
+  where
+    pub mean_fits : FitsSigned w16 (m +ℤ (qa +ℤ qb +ℤ qc))
+    mean_fits = omega (arith, ints, most, least, a.1.0, a.1.1, b.1.0, b.1.1, c.1.0, c.1.1)
 
 -- ---- a part of a row
 

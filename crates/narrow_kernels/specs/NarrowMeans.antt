@@ -16,18 +16,22 @@ mean_of_nine a b c k = floor_div (wrapped (column_sum a b c k +ℤ column_sum a 
 abbrev pub IsSmall : ℤ → Type 0
 IsSmall z = (negsuc 6143 ≤ℤ z) × (z ≤ℤ pos 6143)
 
--- where sums of three sixteenth parts of numbers of 16 bits lie, and sums of what three such parts leave
-abbrev pub IsHighPart : ℤ → Type 0
-IsHighPart z = (negsuc 6143 ≤ℤ z) × (z ≤ℤ pos 6141)
+-- where sums of three ninth parts of numbers of 16 bits lie, which are hardly too low, and what they leave
+abbrev pub IsNinth : ℤ → Type 0
+IsNinth z = (negsuc 10925 ≤ℤ z) × (z ≤ℤ pos 10922)
 
-abbrev pub IsLowPart : ℤ → Type 0
-IsLowPart z = (pos 0 ≤ℤ z) × (z ≤ℤ pos 45)
+abbrev pub IsRest : ℤ → Type 0
+IsRest z = (pos 0 ≤ℤ z) × (z ≤ℤ pos 27)
 
--- a sum of three numbers of 16 bits is made of these two parts
-abbrev pub IsColumnSum : (sum high low : ℤ) → Type 0
-IsColumnSum sum high low = (pos 16 *ℤ high +ℤ low ≡ sum) × (IsHighPart high × IsLowPart low)
+-- these parts make a sum of three numbers of 16 bits
+abbrev pub AreColumnParts : (ninth rest : ℤ) → Type 0
+AreColumnParts ninth rest = IsRest rest × ((negsuc 98303 ≤ℤ (pos 9 *ℤ ninth +ℤ rest)) × ((pos 9 *ℤ ninth +ℤ rest) ≤ℤ pos 98301))
+
+-- and this sum
+abbrev pub IsColumnSum : (sum ninth rest : ℤ) → Type 0
+IsColumnSum sum ninth rest = (pos 9 *ℤ ninth +ℤ rest ≡ sum) × AreColumnParts ninth rest
 
 -- the mean of nine numbers, by the parts of the sums of three
-abbrev pub mean_of_column_parts : (highs lows : List ℤ) → ℕ → ℤ
-mean_of_column_parts highs lows k =
-    floor_div (pos 16 *ℤ (at highs k +ℤ at highs (k + 1) +ℤ at highs (k + 2)) +ℤ (at lows k +ℤ at lows (k + 1) +ℤ at lows (k + 2))) (pos 9)
+abbrev pub mean_of_column_parts : (ninths rests : List ℤ) → ℕ → ℤ
+mean_of_column_parts ninths rests k =
+    floor_div (pos 9 *ℤ (at ninths k +ℤ at ninths (k + 1) +ℤ at ninths (k + 2)) +ℤ (at rests k +ℤ at rests (k + 1) +ℤ at rests (k + 2))) (pos 9)

@@ -5,7 +5,7 @@
 //! narrow triple, narrow least, narrow greatest, narrow median, narrow difference, narrow clamped difference, narrow absolute, narrow
 //! selection, narrow index column, narrow place, narrow column, narrow affine, narrow extreme, narrow offset, prepend narrow addition,
 //! prepend narrow multiplication, prepend narrow right shift, narrow clamped sums, shifted narrow sum, narrow means, narrow column sums,
-//! narrow sum of nine, narrow block, narrow ninth, narrow high part, narrow high parts, narrow low parts, narrow parts.
+//! narrow block, narrow ninth, narrow ninths, narrow rests, narrow mean.
 #![tactic(auto)]
 
 mod narrow_affine;

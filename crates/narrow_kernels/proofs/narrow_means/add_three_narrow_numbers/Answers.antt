@@ -1,38 +1,23 @@
-use Rattle.std.proofs.Common.{rules, ◌≡◌, ◌+ℤ◌, ℤ, w16, FitsSigned, to_z, of_z, ◌∙◌, sym, subst}
+use Rattle.std.proofs.Common.{rules, ◌≡◌, ◌+ℤ◌, ◌*ℤ◌, ◌≤ℤ◌, ℤ, pos, negsuc, w16, FitsSigned, to_z, of_z, sym, subst}
+use Rattle.std.specs.Int.{int_wrap}
 use Rattle.std.proofs.lemmas.Int.{to_z-of_z}
 use Rattle.narrow_kernels.specs.NarrowMeans.{IsColumnSum}
-use Rattle.narrow_kernels.proofs.NarrowMeans.{sum_of_parts}
+use Rattle.narrow_kernels.proofs.NarrowMeans.{rest_is, parts_are}
 use Rattle.narrow_kernels.proofs.narrow_means.add_three_narrow_numbers.Goals as goal
 
 pub returns : goal.returns
 returns c =
-    let x = c.split_narrow_number-a in
-    let y = c.split_narrow_number-b in
-    let z = c.split_narrow_number-c in
-    let high = c.add_three_small_narrow_numbers-high in
-    let low = c.add_three_small_narrow_numbers in
+    let ninth = c.estimate_narrow_ninth_of_three-ninth in
+    let rest = c.subtract_narrow_ninth_of_three in
     let sum : ℤ = c.args.a +ℤ c.args.b +ℤ c.args.c in
-    let a_fits : FitsSigned w16 c.args.a = search rules in
-    let b_fits : FitsSigned w16 c.args.b = search rules in
-    let c_fits : FitsSigned w16 c.args.c = search rules in
-    let x0_fits : FitsSigned w16 c.split_narrow_number-a.result.0 = search rules in
-    let x1_fits : FitsSigned w16 c.split_narrow_number-a.result.1 = search rules in
-    let y0_fits : FitsSigned w16 c.split_narrow_number-b.result.0 = search rules in
-    let y1_fits : FitsSigned w16 c.split_narrow_number-b.result.1 = search rules in
-    let z0_fits : FitsSigned w16 c.split_narrow_number-c.result.0 = search rules in
-    let z1_fits : FitsSigned w16 c.split_narrow_number-c.result.1 = search rules in
-    let high_fits : FitsSigned w16 c.add_three_small_narrow_numbers-high.result = search rules in
-    let low_fits : FitsSigned w16 c.add_three_small_narrow_numbers.result = search rules in
-    let high_is : to_z w16 (of_z w16 high.result) ≡ x.result.0 +ℤ y.result.0 +ℤ z.result.0 =
-    to_z-of_z w16 _ high_fits ∙ high.ensures
-    ∙ (λ i. to_z-of_z w16 _ x0_fits i +ℤ to_z-of_z w16 _ y0_fits i +ℤ to_z-of_z w16 _ z0_fits i) in
-    let low_is : to_z w16 (of_z w16 low.result) ≡ x.result.1 +ℤ y.result.1 +ℤ z.result.1 =
-    to_z-of_z w16 _ low_fits ∙ low.ensures
-    ∙ (λ i. to_z-of_z w16 _ x1_fits i +ℤ to_z-of_z w16 _ y1_fits i +ℤ to_z-of_z w16 _ z1_fits i) in
-    subst (λ (v : ℤ). IsColumnSum sum v (to_z w16 (of_z w16 low.result))) (sym high_is)
-    (subst (λ (v : ℤ). IsColumnSum sum (x.result.0 +ℤ y.result.0 +ℤ z.result.0) v) (sym low_is)
-    (sum_of_parts _ _ _ _ _ _ _ _ _
-    (x.ensures.is ∙ to_z-of_z w16 _ a_fits) (y.ensures.is ∙ to_z-of_z w16 _ b_fits) (z.ensures.is ∙ to_z-of_z w16 _ c_fits)
-    (x.ensures.least, (x.ensures.most, (x.ensures.low, x.ensures.below)))
-    (y.ensures.least, (y.ensures.most, (y.ensures.low, y.ensures.below)))
-    (z.ensures.least, (z.ensures.most, (z.ensures.low, z.ensures.below)))))
+    let x : FitsSigned w16 c.args.a = search rules in
+    let y : FitsSigned w16 c.args.b = search rules in
+    let z : FitsSigned w16 c.args.c = search rules in
+    let n : FitsSigned w16 ninth.result = search rules in
+    let r : FitsSigned w16 rest.result = search rules in
+    let most : (pos 9 *ℤ ninth.result) ≤ℤ sum = simp to_z-of_z at ninth.ensures.most in
+    let least : sum ≤ℤ (pos 9 *ℤ ninth.result +ℤ pos 27) = simp to_z-of_z at ninth.ensures.least in
+    let is : rest.result ≡ int_wrap w16 (sum +ℤ ninth.result *ℤ negsuc 8) = simp to_z-of_z at rest.ensures in
+    subst (λ (v : ℤ). IsColumnSum sum v (to_z w16 (of_z w16 rest.result))) (sym (to_z-of_z w16 _ n))
+    (subst (λ (v : ℤ). IsColumnSum sum ninth.result v) (sym (to_z-of_z w16 _ r))
+    (parts_are c.args.a c.args.b c.args.c ninth.result rest.result x y z most least (rest_is sum ninth.result rest.result is most least)))

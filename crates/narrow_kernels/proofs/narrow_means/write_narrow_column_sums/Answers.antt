@@ -1,4 +1,4 @@
-use Rattle.std.proofs.Common.{rules, ◌≡◌, ◌+ℤ◌, ◌<◌, length, w16, FitsSigned, sym, subst, ℤ, to_z, of_z}
+use Rattle.std.proofs.Common.{rules, ◌+ℤ◌, ◌<◌, length, w16, FitsSigned, sym, subst, ℤ, to_z, of_z}
 use Rattle.std.proofs.lemmas.Int.{to_z-of_z}
 use Rattle.row_loops.specs.Rows.{at}
 use Rattle.narrow_kernels.specs.NarrowMeans.{column_sum, IsColumnSum}
@@ -8,10 +8,10 @@ use Rattle.narrow_kernels.proofs.narrow_means.write_narrow_column_sums.Goals as 
 pub loop-k-preserved : goal.loop-k-preserved
 loop-k-preserved c =
     let k = c.loop-k.k in
-    let short : k < length c.loop-k.highs = search rules in
-    let too : k < length c.loop-k.lows = search rules in
-    let high = c.add_three_narrow_numbers-high.result.0 in
-    let low = c.add_three_narrow_numbers-high.result.1 in
+    let short : k < length c.loop-k.ninths = search rules in
+    let too : k < length c.loop-k.rests = search rules in
+    let high = c.add_three_narrow_numbers-ninth.result.0 in
+    let low = c.add_three_narrow_numbers-ninth.result.1 in
     let high_fits : FitsSigned w16 high = search rules in
     let low_fits : FitsSigned w16 low = search rules in
     let first : FitsSigned w16 (at c.args.a.now k) = search rules in
@@ -22,5 +22,5 @@ loop-k-preserved c =
     (subst (λ (v : ℤ). IsColumnSum (column_sum c.args.a.now c.args.b.now c.args.c.now k) high v) (sym (to_z-of_z w16 _ low_fits))
     (subst (λ (v : ℤ). IsColumnSum v high low)
     (λ i. to_z-of_z w16 _ first i +ℤ to_z-of_z w16 _ second i +ℤ to_z-of_z w16 _ third i)
-    c.add_three_narrow_numbers-high.ensures)) in
+    c.add_three_narrow_numbers-ninth.ensures)) in
     sums_more (column_sum c.args.a.now c.args.b.now c.args.c.now) _ _ k _ _ short too is c.loop-k.invariant

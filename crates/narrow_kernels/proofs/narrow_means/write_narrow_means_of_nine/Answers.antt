@@ -1,11 +1,11 @@
-use Rattle.std.proofs.Common.{rules, arith, ◌≡◌, ◌+◌, ◌-◌, ◌*◌, ◌<◌, ◌≤◌, length, take, drop}
+use Rattle.std.proofs.Common.{rules, arith, ◌≡◌, ◌-◌, ◌*◌, ◌<◌, ◌≤◌, length, take, drop}
 use Rattle.std.proofs.lemmas.Grind.{common_steps}
 use Rattle.narrow_kernels.proofs.NarrowMeans.{block_written}
 use Rattle.narrow_kernels.proofs.narrow_means.write_narrow_means_of_nine.Goals as goal
 
 pub loop-block-preserved : goal.loop-block-preserved
 loop-block-preserved c = λ k h l.
-    let first = 256 * c.loop-block.block in
+    let first = 512 * c.loop-block.block in
     let end = c.min-end.result in
     let out = c.loop-block.out in
     let new = c.write_narrow_block_of_means.new.out in
