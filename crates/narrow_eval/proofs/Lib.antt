@@ -3,6 +3,4 @@ pub mod NarrowAddends
 pub mod NarrowSums
 pub mod NarrowReady
 pub mod NarrowPieces
-pub mod NarrowMixes
 pub mod NarrowGroups
-pub mod NarrowMeans

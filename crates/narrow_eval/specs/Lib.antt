@@ -4,5 +4,4 @@ pub mod NarrowSums
 pub mod NarrowCases
 pub mod NarrowOperators
 pub mod NarrowPieces
-pub mod NarrowMixes
 pub mod NarrowGroups

@@ -1,7 +1,7 @@
 //! Formulas and functions along rows of points, computed in 16 bits where each number fits.
 //!
 //! Words: narrow formula, narrow function, narrow stencil, narrow source, narrow read, narrow case, narrow points,
-//! narrow sum, narrow addend, narrow group, narrow piece, narrow mix.
+//! narrow sum, narrow addend, narrow group, narrow piece.
 #![tactic(auto)]
 
 mod narrow_addends;
@@ -9,8 +9,6 @@ mod narrow_cases;
 mod narrow_extremes;
 mod narrow_formulas;
 mod narrow_groups;
-mod narrow_means;
-mod narrow_mixes;
 mod narrow_pieces;
 mod narrow_points;
 mod narrow_reads;
@@ -21,5 +19,5 @@ mod narrow_sum_formulas;
 
 pub use narrow_cases::evaluate_narrow_function;
 pub use narrow_formulas::evaluate_narrow_formula;
-pub use narrow_mixes::{is_narrow_mix, try_narrow_mix};
 pub use narrow_source::NarrowSource;
+pub use narrow_stencils::borrow_narrow_stencil_line;

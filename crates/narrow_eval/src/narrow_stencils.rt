@@ -19,6 +19,7 @@ use crate::narrow_sum::NarrowSum;
 use job::Kernel;
 use narrow_kernels::{NarrowOperand, write_narrow_literal_op_results};
 use operators::LiteralOp;
+use row_kernels::RowSpan;
 
 // Adds the products of factors and the numbers of a line, which begins with those of the first factor.
 fn add_narrow_stencil_products<'a>(
@@ -40,32 +41,30 @@ fn add_narrow_stencil_products<'a>(
     }
 }
 
-impl<'a, S: NarrowSource> NarrowPoints<'a, S> {
-    /// The samples under a row of a kernel.
-    pub(crate) fn borrow_narrow_stencil_line(
-        &self,
-        stage: usize,
-        kernel: &Kernel,
-        a: usize,
-        count: usize,
-    ) -> &'a [i16]
-        requires kernel { IsKernel kernel.now }
-        requires a { a < length kernel.now }
-        requires reads { EachPlace count (λ j. S.has self.now.source.now stage
-            (kernel_row kernel.now self.now.points.row a)
-            (kernel_column kernel.now self.now.points.col j)) }
-        ensures count { length result.now ≡ count }
-        ensures under { IsUnder kernel.now (S.samples self.now.source.now stage)
-            self.now.points.row self.now.points.col a result.now }
-    {
-        let rows = kernel.as_slice();
-        let row = self.points.row_under_kernel(rows.len(), a);
-        let col = self
-            .points
-            .first_column_under_kernel(rows[0].as_slice().len());
-        self.source.borrow_narrow_row(stage, row, col, count)
-    }
+/// The samples under a row of a kernel, from the first column under it on.
+pub fn borrow_narrow_stencil_line<'a, S: NarrowSource>(
+    source: &'a S,
+    stage: usize,
+    kernel: &Kernel,
+    a: usize,
+    points: &RowSpan,
+    count: usize,
+) -> &'a [i16]
+    requires kernel { IsKernel kernel.now }
+    requires a { a < length kernel.now }
+    requires reads { EachPlace count (λ j. S.has source.now stage
+        (kernel_row kernel.now points.now.row a) (kernel_column kernel.now points.now.col j)) }
+    ensures count { length result.now ≡ count }
+    ensures under { IsUnder kernel.now (S.samples source.now stage) points.now.row points.now.col a
+        result.now }
+{
+    let rows = kernel.as_slice();
+    let row = points.row_under_kernel(rows.len(), a);
+    let col = points.first_column_under_kernel(rows[0].as_slice().len());
+    source.borrow_narrow_row(stage, row, col, count)
+}
 
+impl<'a, S: NarrowSource> NarrowPoints<'a, S> {
     // Adds what a row of a kernel gives.
     fn add_narrow_stencil_row(
         &self,
@@ -91,7 +90,8 @@ impl<'a, S: NarrowSource> NarrowPoints<'a, S> {
     {
         let factors = kernel.as_slice()[a].as_slice();
         let n = out.len();
-        let line = self.borrow_narrow_stencil_line(stage, kernel, a, n + factors.len() - 1);
+        let count = n + factors.len() - 1;
+        let line = borrow_narrow_stencil_line(self.source, stage, kernel, a, &self.points, count);
         add_narrow_stencil_products(line, factors, sum, out);
     }
 

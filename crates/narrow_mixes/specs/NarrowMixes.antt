@@ -8,13 +8,13 @@ use Rattle.operators.specs.declared.operator.TernaryOp.TheVariants.{Clamp}
 use Rattle.operators.specs.declared.operator.LiteralOp.TheVariants.{Shr}
 use Rattle.job.specs.Formula.{Formula, number, read, binary, ternary, literal, stencil}
 use Rattle.job.specs.Pipeline.{JobCase}
-use Rattle.narrow_eval.specs.declared.narrow_mixes.NarrowMixTerm.{NarrowMixTerm}
-use Rattle.narrow_eval.specs.declared.narrow_mixes.NarrowMixSum.{NarrowMixSum}
-use Rattle.narrow_eval.specs.declared.narrow_mixes.NarrowMixSum.TheVariants.{Two, Three}
-use Rattle.narrow_eval.specs.declared.narrow_mixes.NarrowMixOfTerms.{NarrowMixOfTerms}
-use Rattle.narrow_eval.specs.declared.narrow_mixes.NarrowMix.{NarrowMix}
-use Rattle.narrow_eval.specs.declared.narrow_mixes.NarrowMix.TheVariants.{Terms, Mean}
-use Rattle.narrow_eval.specs.declared.narrow_means.NarrowMixMean.{NarrowMixMean}
+use Rattle.narrow_mixes.specs.declared.narrow_mixes.NarrowMixTerm.{NarrowMixTerm}
+use Rattle.narrow_mixes.specs.declared.narrow_mixes.NarrowMixSum.{NarrowMixSum}
+use Rattle.narrow_mixes.specs.declared.narrow_mixes.NarrowMixSum.TheVariants.{Two, Three}
+use Rattle.narrow_mixes.specs.declared.narrow_mixes.NarrowMixOfTerms.{NarrowMixOfTerms}
+use Rattle.narrow_mixes.specs.declared.narrow_mixes.NarrowMix.{NarrowMix}
+use Rattle.narrow_mixes.specs.declared.narrow_mixes.NarrowMix.TheVariants.{Terms, Mean}
+use Rattle.narrow_mixes.specs.declared.narrow_means.NarrowMixMean.{NarrowMixMean}
 
 -- ---- which functions are mixes
 

@@ -1,7 +1,7 @@
 use Rattle.std.proofs.Common.{rules, arith, ◌<◌, length}
 use Rattle.std.proofs.lemmas.Bool.Decides.{nat_tests}
-use Rattle.narrow_eval.proofs.NarrowMeans.{is_kernel, has_row, all_within, mean_is}
-use Rattle.narrow_eval.proofs.narrow_points.NarrowPoints.write_narrow_mix_mean.Goals as goal
+use Rattle.narrow_mixes.proofs.NarrowMeans.{is_kernel, has_row, all_within, mean_is}
+use Rattle.narrow_mixes.proofs.narrow_means.write_narrow_mix_mean.Goals as goal
 
 pub borrow_narrow_stencil_line-above-requires-clause-kernel : goal.borrow_narrow_stencil_line-above-requires-clause-kernel
 borrow_narrow_stencil_line-above-requires-clause-kernel g c = is_kernel _ c.requires.right
@@ -23,32 +23,32 @@ borrow_narrow_stencil_line-below-requires-clause-a g c = has_row _ c.requires.ri
 
 pub borrow_narrow_stencil_line-above-requires-clause-reads : goal.borrow_narrow_stencil_line-above-requires-clause-reads
 borrow_narrow_stencil_line-above-requires-clause-reads g c = λ j l.
-    let points = c.args.self.now.points in
+    let points = c.args.points.now in
     let some : 0 < points.len = first_of (search rules, grind (arith, nat_tests, c.is_empty.ensures, c.if-is_empty.false), omega arith) in
-    all_within _ c.requires.right (g.S.NarrowSource.has c.args.self.now.source.now) c.args.mean.now.stage points.len points.row points.col some
+    all_within _ c.requires.right (g.S.NarrowSource.has c.args.source.now) c.args.mean.now.stage points.len points.row points.col some
     c.requires.reads 0 j (omega arith) (omega (arith, l, c.requires.fits))
 
 pub borrow_narrow_stencil_line-own-requires-clause-reads : goal.borrow_narrow_stencil_line-own-requires-clause-reads
 borrow_narrow_stencil_line-own-requires-clause-reads g c = λ j l.
-    let points = c.args.self.now.points in
+    let points = c.args.points.now in
     let some : 0 < points.len = first_of (search rules, grind (arith, nat_tests, c.is_empty.ensures, c.if-is_empty.false), omega arith) in
-    all_within _ c.requires.right (g.S.NarrowSource.has c.args.self.now.source.now) c.args.mean.now.stage points.len points.row points.col some
+    all_within _ c.requires.right (g.S.NarrowSource.has c.args.source.now) c.args.mean.now.stage points.len points.row points.col some
     c.requires.reads 1 j (omega arith) (omega (arith, l, c.requires.fits))
 
 pub borrow_narrow_stencil_line-below-requires-clause-reads : goal.borrow_narrow_stencil_line-below-requires-clause-reads
 borrow_narrow_stencil_line-below-requires-clause-reads g c = λ j l.
-    let points = c.args.self.now.points in
+    let points = c.args.points.now in
     let some : 0 < points.len = first_of (search rules, grind (arith, nat_tests, c.is_empty.ensures, c.if-is_empty.false), omega arith) in
-    all_within _ c.requires.right (g.S.NarrowSource.has c.args.self.now.source.now) c.args.mean.now.stage points.len points.row points.col some
+    all_within _ c.requires.right (g.S.NarrowSource.has c.args.source.now) c.args.mean.now.stage points.len points.row points.col some
     c.requires.reads 2 j (omega arith) (omega (arith, l, c.requires.fits))
 
 pub returns : goal.returns
 returns g c = λ k h.
-    let points = c.args.self.now.points in
+    let points = c.args.points.now in
     let above = c.borrow_narrow_stencil_line-above in
     let own = c.borrow_narrow_stencil_line-own in
     let below = c.borrow_narrow_stencil_line-below in
-    let f = g.S.NarrowSource.samples c.args.self.now.source.now c.args.mean.now.stage in
+    let f = g.S.NarrowSource.samples c.args.source.now c.args.mean.now.stage in
     let inside : k < length c.args.out.now = omega (arith, h, c.write_narrow_means_of_nine.auto.out) in
     mean_is f points.row points.col above.result.now own.result.now below.result.now k c.args.mean.now.kernel.now c.requires.right
     (record { long = omega (arith, inside, above.ensures.count); under_row = above.ensures.under })

@@ -6,16 +6,16 @@ ghost use Rattle.job.specs.Formula.{stencil};
 ghost use Rattle.job.specs.Reads.{EachRead};
 ghost use Rattle.job.specs.Values.{formula_value};
 ghost use Rattle.row_loops.specs.Rows.{EachPlace, at};
-ghost use Rattle.narrow_eval.specs.NarrowMixes.{IsRightMean, is_row_of_ones, is_kernel_of_ones, is_mix_mean, mean_formula};
+ghost use Rattle.narrow_mixes.specs.NarrowMixes.{IsRightMean, is_row_of_ones, is_kernel_of_ones, is_mix_mean, mean_formula};
 
-use crate::narrow_points::NarrowPoints;
-use crate::narrow_source::NarrowSource;
 use job::{Kernel, KernelFactors};
+use narrow_eval::{NarrowSource, borrow_narrow_stencil_line};
 use narrow_kernels::write_narrow_means_of_nine;
+use row_kernels::RowSpan;
 
 /// A stage, and a kernel of nine factors that are 1.
 #[derive(Clone, Copy)]
-pub(crate) struct NarrowMixMean<'a> {
+pub struct NarrowMixMean<'a> {
     pub(crate) stage: usize,
     pub(crate) kernel: &'a Kernel,
 }
@@ -62,24 +62,27 @@ pub(crate) fn match_narrow_mix_mean(
     }
 }
 
-impl<'a, S: NarrowSource> NarrowPoints<'a, S> {
-    /// The means of nine values.
-    pub(crate) fn write_narrow_mix_mean(&self, mean: &NarrowMixMean<'_>, out: &mut [i16])
-        requires fits { length out.old ≡ self.now.points.len }
-        requires right { IsRightMean mean.now }
-        requires reads { EachPlace self.now.points.len (λ k. EachRead (S.has self.now.source.now)
-            (mean_formula mean.now) self.now.points.row (self.now.points.col +ℤ pos k)) }
-        ensures { EachPlace (length out.old) (λ k. at out.new k
-            ≡ formula_value (S.samples self.now.source.now) (mean_formula mean.now)
-            self.now.points.row (self.now.points.col +ℤ pos k)) }
-    {
-        if out.is_empty() {
-            return;
-        }
-        let count = out.len() + 2;
-        let above = self.borrow_narrow_stencil_line(mean.stage, mean.kernel, 0, count);
-        let own = self.borrow_narrow_stencil_line(mean.stage, mean.kernel, 1, count);
-        let below = self.borrow_narrow_stencil_line(mean.stage, mean.kernel, 2, count);
-        write_narrow_means_of_nine(out, above, own, below);
+/// The means of nine values at a row of points.
+pub(crate) fn write_narrow_mix_mean<S: NarrowSource>(
+    source: &S,
+    mean: &NarrowMixMean<'_>,
+    points: &RowSpan,
+    out: &mut [i16],
+)
+    requires fits { length out.old ≡ points.now.len }
+    requires right { IsRightMean mean.now }
+    requires reads { EachPlace points.now.len (λ k. EachRead (S.has source.now)
+        (mean_formula mean.now) points.now.row (points.now.col +ℤ pos k)) }
+    ensures { EachPlace (length out.old) (λ k. at out.new k
+        ≡ formula_value (S.samples source.now) (mean_formula mean.now) points.now.row
+        (points.now.col +ℤ pos k)) }
+{
+    if out.is_empty() {
+        return;
     }
+    let count = out.len() + 2;
+    let above = borrow_narrow_stencil_line(source, mean.stage, mean.kernel, 0, points, count);
+    let own = borrow_narrow_stencil_line(source, mean.stage, mean.kernel, 1, points, count);
+    let below = borrow_narrow_stencil_line(source, mean.stage, mean.kernel, 2, points, count);
+    write_narrow_means_of_nine(out, above, own, below);
 }

@@ -7,23 +7,20 @@ ghost use Rattle.std.specs.Option.{option_map};
 ghost use Rattle.domains.specs.Arithmetic.{wrapped};
 ghost use Rattle.domains.specs.Index.{index_at};
 ghost use Rattle.job.specs.Formula.{number, binary, ternary, literal, stencil};
-ghost use Rattle.job.specs.Pipeline.{function as function_body};
-ghost use Rattle.job.specs.Reads.{BodyReads, EachRead};
+ghost use Rattle.job.specs.Reads.{EachRead};
 ghost use Rattle.job.specs.Values.{binary_value, formula_value};
 ghost use Rattle.job.specs.Views.{case_view, formula_view};
 ghost use Rattle.narrow_kernels.specs.NarrowTaps.{tap_at};
 ghost use Rattle.row_loops.specs.Rows.{EachPlace, at};
-ghost use Rattle.tile_eval.specs.Cases.{function_value};
 ghost use Rattle.operators.specs.declared.operator.BinaryOp.TheVariants.{Mul};
 ghost use Rattle.operators.specs.declared.operator.LiteralOp.TheVariants.{Shr};
 ghost use Rattle.operators.specs.declared.operator.TernaryOp.TheVariants.{Clamp};
-ghost use Rattle.narrow_eval.specs.NarrowMixes.{IsRightTerm, IsRightSum, IsRightMix, is_mix_mean, is_mix_clamp, is_mix_number, is_mix_factor, is_mix_read, is_mix_term, is_mix_operator, is_mix_pair, is_mix_sum, is_mix_shift, is_mix_formula, is_mix, mix_product, mix_sum, terms_formula, mix_formula, AreRightTerms};
+ghost use Rattle.narrow_mixes.specs.NarrowMixes.{IsRightTerm, IsRightSum, IsRightMix, is_mix_mean, is_mix_clamp, is_mix_number, is_mix_factor, is_mix_read, is_mix_term, is_mix_operator, is_mix_pair, is_mix_sum, is_mix_shift, is_mix_formula, is_mix, mix_product, mix_sum, terms_formula, mix_formula, AreRightTerms};
 
-use crate::narrow_means::{NarrowMixMean, match_narrow_mix_mean};
-use crate::narrow_points::NarrowPoints;
-use crate::narrow_source::NarrowSource;
+use crate::narrow_means::{NarrowMixMean, match_narrow_mix_mean, write_narrow_mix_mean};
 use domains::Index;
 use job::{Formula, Function, Kernel};
+use narrow_eval::NarrowSource;
 use narrow_kernels::{
     NarrowClampedShift, NarrowTap, write_narrow_clamped_sums_of_three_taps,
     write_narrow_clamped_sums_of_two_taps,
@@ -33,7 +30,7 @@ use row_kernels::RowSpan;
 
 /// A factor, and the read that it multiplies. The index of the column only adds.
 #[derive(Clone, Copy)]
-struct NarrowMixTerm<'a> {
+pub struct NarrowMixTerm<'a> {
     factor: i16,
     stage: usize,
     row: &'a Index,
@@ -42,21 +39,22 @@ struct NarrowMixTerm<'a> {
 
 /// The terms of a sum, with the operators between them.
 #[derive(Clone, Copy)]
-enum NarrowMixSum<'a> {
+pub enum NarrowMixSum<'a> {
     Two(NarrowMixTerm<'a>, BinaryOp, NarrowMixTerm<'a>),
     Three(NarrowMixTerm<'a>, BinaryOp, NarrowMixTerm<'a>, BinaryOp, NarrowMixTerm<'a>),
 }
 
 /// A sum, and how it is shifted and clamped.
 #[derive(Clone, Copy)]
-struct NarrowMixOfTerms<'a> {
+pub struct NarrowMixOfTerms<'a> {
     sum: NarrowMixSum<'a>,
     make: NarrowClampedShift,
 }
 
-/// A mix of either kind.
+/// A mix: a sum of two or three reads, each times a number of the text, that is shifted and clamped; or the mean of nine adjacent
+/// values.
 #[derive(Clone, Copy)]
-enum NarrowMix<'a> {
+pub enum NarrowMix<'a> {
     Terms(NarrowMixOfTerms<'a>),
     Mean(NarrowMixMean<'a>),
 }
@@ -186,8 +184,7 @@ fn match_narrow_mix_shift(formula: &Formula) -> Option<(NarrowMixSum<'_>, u32)>
     }
 }
 
-// Such a sum clamped between two numbers. (In line it would have each function clear its place.)
-#[inline(never)]
+// Such a sum clamped between two numbers.
 fn match_narrow_mix_clamp<'a>(
     value: &'a Formula,
     low: &Formula,
@@ -210,8 +207,7 @@ fn match_narrow_mix_clamp<'a>(
     }))
 }
 
-// The mean of nine adjacent values. (In line it would have each function clear its place.)
-#[inline(never)]
+// The mean of nine adjacent values.
 fn match_narrow_mix_stencil(stage: usize, divisor: u32, kernel: &Kernel) -> Option<NarrowMix<'_>>
     ensures some { IfSome result (λ it. stencil stage divisor kernel.now ≡ mix_formula it) }
     ensures right { IfSome result IsRightMix }
@@ -239,8 +235,8 @@ fn match_narrow_mix_formula(formula: &Formula) -> Option<NarrowMix<'_>>
     }
 }
 
-// A function that is such a formula everywhere.
-fn match_narrow_mix(function: &Function) -> Option<NarrowMix<'_>>
+/// The mix that a function is everywhere, if it is one.
+pub fn find_narrow_mix(function: &Function) -> Option<NarrowMix<'_>>
     ensures cases { IfSome result (λ it. map case_view function.now.cases.items ≡ []) }
     ensures some { IfSome result (λ it. option_map formula_view function.now.otherwise
         ≡ Some (mix_formula it)) }
@@ -272,109 +268,87 @@ fn sign_narrow_mix_factor(op: BinaryOp, factor: i16) -> i16
     }
 }
 
-impl<'a, S: NarrowSource> NarrowPoints<'a, S> {
-    // A term along the points, behind an operator.
-    fn borrow_narrow_mix_tap(&self, op: BinaryOp, term: &NarrowMixTerm<'_>) -> NarrowTap<'a>
-        requires op { is_mix_operator op ≡ true }
-        requires right { IsRightTerm term.now }
-        requires reads { EachPlace self.now.points.len (λ k. S.has self.now.source.now term.now.stage
-            (index_at term.now.row.now self.now.points.row)
-            (index_at term.now.col.now (self.now.points.col +ℤ pos k))) }
-        ensures count { length result.line.now ≡ self.now.points.len }
-        ensures value { EachPlace self.now.points.len (λ k. (x : ℤ) → binary_value op (wrapped x)
-            (formula_value (S.samples self.now.source.now) (mix_product term.now)
-            self.now.points.row (self.now.points.col +ℤ pos k)) ≡ wrapped (x +ℤ tap_at result k)) }
-    {
-        let row = self.points.row_at_index(term.row);
-        let first = self.points.first_column_at_index(term.col);
-        let line = self
-            .source
-            .borrow_narrow_row(term.stage, row, first, self.points.len);
-        NarrowTap {
-            line,
-            factor: sign_narrow_mix_factor(op, term.factor),
-        }
+// A term along the points, behind an operator.
+fn borrow_narrow_mix_tap<'a, S: NarrowSource>(
+    source: &'a S,
+    op: BinaryOp,
+    term: &NarrowMixTerm<'_>,
+    points: &RowSpan,
+) -> NarrowTap<'a>
+    requires op { is_mix_operator op ≡ true }
+    requires right { IsRightTerm term.now }
+    requires reads { EachPlace points.now.len (λ k. S.has source.now term.now.stage
+        (index_at term.now.row.now points.now.row)
+        (index_at term.now.col.now (points.now.col +ℤ pos k))) }
+    ensures count { length result.line.now ≡ points.now.len }
+    ensures value { EachPlace points.now.len (λ k. (x : ℤ) → binary_value op (wrapped x)
+        (formula_value (S.samples source.now) (mix_product term.now) points.now.row
+        (points.now.col +ℤ pos k)) ≡ wrapped (x +ℤ tap_at result k)) }
+{
+    let row = points.row_at_index(term.row);
+    let first = points.first_column_at_index(term.col);
+    let line = source.borrow_narrow_row(term.stage, row, first, points.len);
+    NarrowTap {
+        line,
+        factor: sign_narrow_mix_factor(op, term.factor),
     }
+}
 
-    // The values of a sum that is shifted and clamped.
-    fn write_narrow_mix_of_terms(&self, mix: &NarrowMixOfTerms<'_>, out: &mut [i16])
-        requires fits { length out.old ≡ self.now.points.len }
-        requires right { AreRightTerms mix.now }
-        requires reads { EachPlace self.now.points.len (λ k. EachRead (S.has self.now.source.now)
-            (terms_formula mix.now) self.now.points.row (self.now.points.col +ℤ pos k)) }
-        ensures { EachPlace (length out.old) (λ k. at out.new k
-            ≡ formula_value (S.samples self.now.source.now) (terms_formula mix.now)
-            self.now.points.row (self.now.points.col +ℤ pos k)) }
-    {
-        match &mix.sum {
-            NarrowMixSum::Two(a, op, b) => {
-                let front = self.borrow_narrow_mix_tap(BinaryOp::Add, a);
-                let back = self.borrow_narrow_mix_tap(*op, b);
-                write_narrow_clamped_sums_of_two_taps(out, front, back, mix.make);
-            }
-            NarrowMixSum::Three(a, op, b, last_op, c) => {
-                let first = self.borrow_narrow_mix_tap(BinaryOp::Add, a);
-                let second = self.borrow_narrow_mix_tap(*op, b);
-                let third = self.borrow_narrow_mix_tap(*last_op, c);
-                write_narrow_clamped_sums_of_three_taps(out, first, second, third, mix.make);
-            }
+// The values of a sum that is shifted and clamped.
+fn write_narrow_mix_of_terms<S: NarrowSource>(
+    source: &S,
+    mix: &NarrowMixOfTerms<'_>,
+    points: &RowSpan,
+    out: &mut [i16],
+)
+    requires fits { length out.old ≡ points.now.len }
+    requires right { AreRightTerms mix.now }
+    requires reads { EachPlace points.now.len (λ k. EachRead (S.has source.now)
+        (terms_formula mix.now) points.now.row (points.now.col +ℤ pos k)) }
+    ensures { EachPlace (length out.old) (λ k. at out.new k
+        ≡ formula_value (S.samples source.now) (terms_formula mix.now) points.now.row
+        (points.now.col +ℤ pos k)) }
+{
+    match &mix.sum {
+        NarrowMixSum::Two(a, op, b) => {
+            let front = borrow_narrow_mix_tap(source, BinaryOp::Add, a, points);
+            let back = borrow_narrow_mix_tap(source, *op, b, points);
+            write_narrow_clamped_sums_of_two_taps(out, front, back, mix.make);
         }
-    }
-
-    // The values of a mix.
-    fn write_narrow_mix(&self, mix: &NarrowMix<'_>, out: &mut [i16])
-        requires fits { length out.old ≡ self.now.points.len }
-        requires right { IsRightMix mix.now }
-        requires reads { EachPlace self.now.points.len (λ k. EachRead (S.has self.now.source.now)
-            (mix_formula mix.now) self.now.points.row (self.now.points.col +ℤ pos k)) }
-        ensures { EachPlace (length out.old) (λ k. at out.new k
-            ≡ formula_value (S.samples self.now.source.now) (mix_formula mix.now)
-            self.now.points.row (self.now.points.col +ℤ pos k)) }
-    {
-        match mix {
-            NarrowMix::Terms(terms) => self.write_narrow_mix_of_terms(terms, out),
-            NarrowMix::Mean(mean) => self.write_narrow_mix_mean(mean, out),
+        NarrowMixSum::Three(a, op, b, last_op, c) => {
+            let first = borrow_narrow_mix_tap(source, BinaryOp::Add, a, points);
+            let second = borrow_narrow_mix_tap(source, *op, b, points);
+            let third = borrow_narrow_mix_tap(source, *last_op, c, points);
+            write_narrow_clamped_sums_of_three_taps(out, first, second, third, mix.make);
         }
     }
 }
 
-/// Whether a function is a mix: a sum of two or three reads, each times a number of the text, that is shifted and clamped; or the
-/// mean of nine adjacent values.
+/// Writes the values of a mix at a row of points.
+pub fn write_narrow_mix<S: NarrowSource>(
+    source: &S,
+    mix: &NarrowMix<'_>,
+    points: &RowSpan,
+    out: &mut [i16],
+)
+    requires fits { length out.old ≡ points.now.len }
+    requires right { IsRightMix mix.now }
+    requires reads { EachPlace points.now.len (λ k. EachRead (S.has source.now)
+        (mix_formula mix.now) points.now.row (points.now.col +ℤ pos k)) }
+    ensures { EachPlace (length out.old) (λ k. at out.new k
+        ≡ formula_value (S.samples source.now) (mix_formula mix.now) points.now.row
+        (points.now.col +ℤ pos k)) }
+{
+    match mix {
+        NarrowMix::Terms(terms) => write_narrow_mix_of_terms(source, terms, points, out),
+        NarrowMix::Mean(mean) => write_narrow_mix_mean(source, mean, points, out),
+    }
+}
+
+/// Whether a function is a mix.
 pub fn is_narrow_mix(function: &Function) -> bool
     ensures { result ≡ is_mix (map case_view function.now.cases.items)
         (option_map formula_view function.now.otherwise) }
 {
-    match_narrow_mix(function).is_some()
-}
-
-/// Writes the values of a function at a row of points, if it is a mix. Returns whether it is.
-pub fn try_narrow_mix<S: NarrowSource>(
-    source: &S,
-    function: &Function,
-    points: &RowSpan,
-    out: &mut [i16],
-) -> bool
-    requires fits { length out.old ≡ points.now.len }
-    requires reads { EachPlace (length out.old) (λ k. BodyReads (S.has source.now)
-        (function_body (map case_view function.now.cases.items)
-        (option_map formula_view function.now.otherwise)) points.now.row (points.now.col +ℤ pos k)) }
-    ensures is { result ≡ is_mix (map case_view function.now.cases.items)
-        (option_map formula_view function.now.otherwise) }
-    ensures value { result ≡ true → EachPlace (length out.old) (λ k. at out.new k
-        ≡ function_value (S.samples source.now) (map case_view function.now.cases.items)
-        (option_map formula_view function.now.otherwise) points.now.row
-        (points.now.col +ℤ pos k)) }
-    ensures same { result ≡ false → out.new ≡ out.old }
-{
-    match match_narrow_mix(function) {
-        Some(mix) => {
-            let row = NarrowPoints {
-                source,
-                points: *points,
-            };
-            row.write_narrow_mix(&mix, out);
-            true
-        }
-        None => false,
-    }
+    find_narrow_mix(function).is_some()
 }

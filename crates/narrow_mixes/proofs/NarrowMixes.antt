@@ -15,11 +15,11 @@ use Rattle.job.specs.Formula.{Formula, number, ternary, literal}
 use Rattle.job.specs.Reads.{EachRead, point}
 use Rattle.job.specs.Values.{Valuation, binary_value, formula_value}
 use Rattle.narrow_kernels.specs.NarrowClampedSums.{clamped_shift}
-use Rattle.narrow_eval.specs.declared.narrow_mixes.NarrowMixTerm.{NarrowMixTerm}
-use Rattle.narrow_eval.specs.declared.narrow_mixes.NarrowMixSum.{NarrowMixSum}
-use Rattle.narrow_eval.specs.declared.narrow_mixes.NarrowMixSum.TheVariants.{Two, Three}
-use Rattle.narrow_eval.specs.declared.narrow_mixes.NarrowMixOfTerms.{NarrowMixOfTerms}
-use Rattle.narrow_eval.specs.NarrowMixes.{is_mix, is_mix_operator, mix_product, mix_sum, terms_formula}
+use Rattle.narrow_mixes.specs.declared.narrow_mixes.NarrowMixTerm.{NarrowMixTerm}
+use Rattle.narrow_mixes.specs.declared.narrow_mixes.NarrowMixSum.{NarrowMixSum}
+use Rattle.narrow_mixes.specs.declared.narrow_mixes.NarrowMixSum.TheVariants.{Two, Three}
+use Rattle.narrow_mixes.specs.declared.narrow_mixes.NarrowMixOfTerms.{NarrowMixOfTerms}
+use Rattle.narrow_mixes.specs.NarrowMixes.{is_mix, is_mix_operator, mix_product, mix_sum, terms_formula}
 
 -- the product with the factor of the other sign
 negated : (f y : ℤ) → neg_ℤ (f *ℤ y) ≡ neg_ℤ f *ℤ y

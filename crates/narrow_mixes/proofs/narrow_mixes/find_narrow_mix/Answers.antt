@@ -3,8 +3,8 @@ use Rattle.std.specs.Option.{option_map}
 use Rattle.std.proofs.lemmas.Bool.Decides.{nat_tests}
 use Rattle.job.specs.declared.stage.JobCase.{JobCase}
 use Rattle.job.specs.Views.{formula_view}
-use Rattle.narrow_eval.proofs.NarrowMixes.{cases_no_mix}
-use Rattle.narrow_eval.proofs.narrow_mixes.match_narrow_mix.Goals as goal
+use Rattle.narrow_mixes.proofs.NarrowMixes.{cases_no_mix}
+use Rattle.narrow_mixes.proofs.narrow_mixes.find_narrow_mix.Goals as goal
 
 pub returns-then-not-is_empty-clause-none : goal.returns-then-not-is_empty-clause-none
 returns-then-not-is_empty-clause-none c =

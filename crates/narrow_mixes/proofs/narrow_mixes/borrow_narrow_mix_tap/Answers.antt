@@ -4,12 +4,12 @@ use Rattle.domains.specs.Arithmetic.{wrapped}
 use Rattle.domains.specs.Index.{index_at}
 use Rattle.job.specs.Values.{binary_value}
 use Rattle.row_kernels.proofs.Columns.{columns_follow}
-use Rattle.narrow_eval.proofs.narrow_points.NarrowPoints.borrow_narrow_mix_tap.Goals as goal
+use Rattle.narrow_mixes.proofs.narrow_mixes.borrow_narrow_mix_tap.Goals as goal
 
 pub borrow_narrow_row-line-requires : goal.borrow_narrow_row-line-requires
 borrow_narrow_row-line-requires g c = λ k h.
     let term = c.args.term.now in
-    let points = c.args.self.now.points in
+    let points = c.args.points.now in
     let row_fits : FitsSigned w32 c.row_at_index-row.result = search rules in
     let col_fits : FitsSigned w32 c.first_column_at_index-first.result = search rules in
     let row : to_z w32 (of_z w32 c.row_at_index-row.result) ≡ index_at term.row.now points.row =
@@ -17,16 +17,16 @@ borrow_narrow_row-line-requires g c = λ k h.
     let first : to_z w32 (of_z w32 c.first_column_at_index-first.result) +ℤ pos k ≡ index_at term.col.now (points.col +ℤ pos k) =
     ap (λ (z : ℤ). z +ℤ pos k) (to_z-of_z w32 _ col_fits ∙ c.first_column_at_index-first.ensures)
     ∙ columns_follow term.col.now points.col k c.requires.right.1 c.requires.right.2 in
-    subst (λ (z : ℤ). g.S.NarrowSource.has c.args.self.now.source.now term.stage z (to_z w32 (of_z w32 c.first_column_at_index-first.result) +ℤ pos k))
+    subst (λ (z : ℤ). g.S.NarrowSource.has c.args.source.now term.stage z (to_z w32 (of_z w32 c.first_column_at_index-first.result) +ℤ pos k))
     (sym row)
-    (subst (λ (z : ℤ). g.S.NarrowSource.has c.args.self.now.source.now term.stage (index_at term.row.now points.row) z) (sym first)
+    (subst (λ (z : ℤ). g.S.NarrowSource.has c.args.source.now term.stage (index_at term.row.now points.row) z) (sym first)
     (c.requires.reads k h))
 
 pub returns-clause-value : goal.returns-clause-value
 returns-clause-value g c = λ k l x.
     let term = c.args.term.now in
-    let points = c.args.self.now.points in
-    let samples = g.S.NarrowSource.samples c.args.self.now.source.now term.stage in
+    let points = c.args.points.now in
+    let samples = g.S.NarrowSource.samples c.args.source.now term.stage in
     let row_fits : FitsSigned w32 c.row_at_index-row.result = search rules in
     let col_fits : FitsSigned w32 c.first_column_at_index-first.result = search rules in
     let row : to_z w32 (of_z w32 c.row_at_index-row.result) ≡ index_at term.row.now points.row =

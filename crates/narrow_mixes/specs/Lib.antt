@@ -1,0 +1,2 @@
+pub mod NarrowMixes
+pub mod MixesOnce
