@@ -19,5 +19,6 @@ mod narrow_sum_formulas;
 
 pub use narrow_cases::evaluate_narrow_function;
 pub use narrow_formulas::evaluate_narrow_formula;
+pub use narrow_reads::find_narrow_formula_constant;
 pub use narrow_source::NarrowSource;
 pub use narrow_stencils::borrow_narrow_stencil_line;

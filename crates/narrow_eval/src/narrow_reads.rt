@@ -32,7 +32,7 @@ pub(crate) fn find_narrow_formula_number(number: i32) -> Option<i16>
 
 /// The number that a formula is all along a row, if it is a number of the text, or one with the other sign, and fits in 16 bits.
 #[inline(always)]
-pub(crate) fn find_narrow_formula_constant(formula: &Formula) -> Option<i16>
+pub fn find_narrow_formula_constant(formula: &Formula) -> Option<i16>
     ensures { IfSome result (λ it. (env : Valuation) (r c : ℤ)
         → formula_value env (formula_view formula.now) r c ≡ it) }
 {
