@@ -2,5 +2,4 @@ pub mod NarrowRows
 pub mod NarrowAddends
 pub mod NarrowSums
 pub mod NarrowReady
-pub mod NarrowPieces
 pub mod NarrowGroups

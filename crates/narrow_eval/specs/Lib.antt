@@ -3,5 +3,4 @@ pub mod NarrowStencils
 pub mod NarrowSums
 pub mod NarrowCases
 pub mod NarrowOperators
-pub mod NarrowPieces
 pub mod NarrowGroups

@@ -135,9 +135,6 @@ impl<S: NarrowSource> NarrowPoints<'_, S> {
     {
         match otherwise {
             Some(formula) => {
-                if self.try_narrow_extremes_of_pieces(formula, out) {
-                    return;
-                }
                 let to = out.len();
                 self.evaluate_narrow_formula_on_part(formula, 0, to, out, temps);
             }
