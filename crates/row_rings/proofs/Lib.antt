@@ -11,4 +11,4 @@ pub mod Given
 pub mod Points
 pub mod Begun
 pub mod Rooms
-pub mod Mixes
+pub mod Shapes

@@ -20,7 +20,7 @@ use Rattle.row_loops.specs.Rows.{EachPlace, at}
 use Rattle.row_plans.specs.Rows.{next_row}
 use Rattle.row_plans.specs.declared.row_state.RowState.{RowState}
 use Rattle.narrow_eval.specs.NarrowCases.{IsNarrowComputable}
-use Rattle.narrow_eval.specs.NarrowMixes.{is_mix}
+use Rattle.narrow_mixes.specs.NarrowMixes.{is_mix}
 use Rattle.tile_eval.specs.Reading.{HasFunctionRoom}
 use Rattle.value_ranges.specs.Narrow.{Fits16}
 use Rattle.value_ranges.specs.Ranges.{IsNarrowBody}

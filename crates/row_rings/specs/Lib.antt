@@ -1,6 +1,8 @@
 pub mod RingRows
 pub mod TrueRings
 pub mod NarrowRings
+pub mod NarrowShapes
+pub mod ShapesOnce
 pub mod RingForms
 pub mod RoomOnce
 pub mod Rings

@@ -1,10 +1,10 @@
 -- Stages whose rows are kept and computed in 16 bits.
-use Rattle.std.specs.Prelude.{ℕ, ◌<◌, ◌≡◌, ℤ, Bool, true, false, Some, List, map, length, slice_get, slice_index_or}
+use Rattle.std.specs.Prelude.{ℕ, ◌<◌, ◌≡◌, ℤ, Bool, true, false, Some, List, length, slice_get, slice_index_or}
 use Rattle.domains.specs.Area.{HoldsPoint}
 use Rattle.job.specs.Pipeline.{Body, plane, function, accumulator, Stage, Pipeline}
 use Rattle.job.specs.Values.{value}
 use Rattle.job.specs.WellFormed.{IsFunction, IsValued}
-use Rattle.narrow_eval.specs.NarrowMixes.{is_mix}
+use Rattle.narrow_mixes.specs.NarrowMixes.{is_mix}
 use Rattle.row_plans.specs.declared.row_state.RowState.{RowState}
 use Rattle.value_ranges.specs.Narrow.{Fits16}
 use Rattle.value_ranges.specs.Ranges.{IsNarrowBody}
@@ -20,14 +20,6 @@ abbrev pub is_mix_body : Body → Bool
 is_mix_body (plane n) = false
 is_mix_body (function cases otherwise) = is_mix cases otherwise
 is_mix_body (accumulator fold bins value bin) = false
-
--- whether stage g is a mix
-abbrev pub IsMixFlag : Pipeline → ℕ → Bool → Type 0
-IsMixFlag job g mix = (s : Stage) → slice_get job.stages g ≡ Some s → mix ≡ is_mix_body s.body
-
--- and so for each stage, in a list
-abbrev pub mix_flags : Pipeline → List Bool
-mix_flags job = map (λ s. is_mix_body s.body) job.stages
 
 -- if stage g is a function and no mix, it is narrow at each point of its domain
 abbrev pub IsNarrowlyMade : Pipeline → ℕ → Type 0

@@ -11,7 +11,7 @@ ghost use Rattle.value_ranges.specs.Ranges.{AreRanges};
 
 use crate::ring_forms::{RingForms, is_computed_narrow_ring};
 use job::{Body, Job, Read};
-use narrow_eval::is_narrow_mix;
+use narrow_mixes::is_narrow_mix;
 use row_plans::RowState;
 use value_ranges::{ValueRange, is_narrow_stage, is_narrow_value_range};
 

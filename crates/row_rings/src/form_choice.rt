@@ -6,7 +6,7 @@ ghost use Rattle.value_ranges.specs.Ranges.{AreRanges};
 
 use crate::ring_forms::RingForms;
 use job::{Axis, Body, Function, Job, PointTest, Stage};
-use narrow_eval::is_narrow_mix;
+use narrow_mixes::is_narrow_mix;
 use row_plans::RowState;
 use std::alloc::{AllocError, Global};
 use value_ranges::{ValueRange, is_narrow_stage, is_narrow_value_range};

@@ -6,15 +6,18 @@ ghost use Rattle.std.proofs.Props.{props};
 ghost use Rattle.job.specs.Kept.{pipeline_in};
 ghost use Rattle.raw_rows.specs.Rows.{row_values};
 ghost use Rattle.row_plans.specs.Plans.{states_after, CanMake, IsOutputKept};
-ghost use Rattle.row_rings.specs.NarrowRings.{AreNarrowlyMade, mix_flags};
+ghost use Rattle.row_rings.specs.NarrowRings.{AreNarrowlyMade};
+ghost use Rattle.row_rings.specs.NarrowShapes.{AreShapesOf};
 ghost use Rattle.row_rings.specs.RingForms.{AreRightForms};
 ghost use Rattle.row_rings.specs.RingRows.{IsKeptPoint, ring_states};
 ghost use Rattle.row_rings.specs.TrueRings.{AreTrueRings, ArePlacedRings, AreRoomy};
 ghost use Rattle.row_rings.specs.RoomOnce.{AreRoomy-prop};
+ghost use Rattle.row_rings.specs.ShapesOnce.{AreShapesOf-prop};
 
-use crate::new_rings::{allocate_rings, find_greatest_ring_room, list_mix_rings};
+use crate::narrow_shapes::{NarrowShape, borrow_narrow_ring_shape, list_narrow_ring_shapes};
+use crate::new_rings::{allocate_rings, find_greatest_ring_room};
 use crate::ring::{RowRing, RowRings};
-use crate::ring_forms::{find_ring_forms, has_mix_ring, is_computed_narrow_ring};
+use crate::ring_forms::{find_ring_forms, is_computed_narrow_ring};
 use job::Job;
 use row_plans::RowState;
 use std::alloc::{AllocError, Global};
@@ -32,8 +35,8 @@ pub struct JobRings<'a> {
     pub(crate) narrow: RowRings<i16>,
     // Whether the rows of each stage are computed in 16 bits.
     computed_narrow: Vec<bool>,
-    // Whether each stage is a mix.
-    mixes: Vec<bool>,
+    // How rows of each stage are made in 16 bits.
+    shapes: Vec<NarrowShape<'a>>,
     // Whether rows of outputs are kept as numbers of 16 bits, and not of 32.
     pub(crate) narrow_outputs: bool,
     temps: Vec<i32>,
@@ -41,7 +44,7 @@ pub struct JobRings<'a> {
     ghost forms: { AreRightForms (pipeline_in job.now) states.items (ring_states wide.rings.items)
         (ring_states narrow.rings.items) computed_narrow.items } by { Prim.hlevel props },
     ghost made: { ∥ AreNarrowlyMade (pipeline_in job.now) states.items computed_narrow.items ∥₁ },
-    ghost mixed: { mixes.items ≡ mix_flags (pipeline_in job.now) } by { Prim.hlevel props },
+    ghost shaped: { AreShapesOf shapes.items (pipeline_in job.now).stages } by { AreShapesOf-prop shapes.items (pipeline_in job.now).stages },
     ghost right: { AreTrueRings (pipeline_in job.now) wide.rings.items } by { Prim.hlevel props },
     ghost right_narrow: { AreTrueRings (pipeline_in job.now) narrow.rings.items } by { Prim.hlevel props },
     ghost placed: { ArePlacedRings (pipeline_in job.now) wide.rings.items } by { Prim.hlevel props },
@@ -102,7 +105,7 @@ impl<'a> JobRings<'a> {
         let states = states.to_vec(alloc)?;
         let wide = allocate_rings(alloc, 0, &forms.wide)?;
         let narrow = allocate_rings(alloc, 0, &forms.narrow)?;
-        let mixes = list_mix_rings(alloc, job)?;
+        let shapes = list_narrow_ring_shapes(alloc, job)?;
         Ok(JobRings {
             alloc,
             job,
@@ -110,7 +113,7 @@ impl<'a> JobRings<'a> {
             wide: RowRings { rings: wide },
             narrow: RowRings { rings: narrow },
             computed_narrow: forms.computed_narrow,
-            mixes,
+            shapes,
             narrow_outputs: forms.narrow_outputs,
             temps: vec![in alloc; 0; room]?,
             narrow_temps: vec![in alloc; 0; narrow_room]?,
@@ -162,9 +165,9 @@ impl<'a> JobRings<'a> {
         ensures outputs { self.new.narrow_outputs ≡ self.old.narrow_outputs }
     {
         let mut ring = self.narrow.take_out_ring(self.alloc, stage);
-        let mix = has_mix_ring(&self.mixes, stage);
+        let shape = borrow_narrow_ring_shape(&self.shapes, stage);
         let temps = &mut self.narrow_temps;
-        ring.make_next_row_of_narrow_ring(self.job, stage, mix, &self.narrow, temps);
+        ring.make_next_row_of_narrow_ring(self.job, stage, shape, &self.narrow, temps);
         let line = ring.borrow_counted_row(self.states[stage].next);
         self.wide.push_widened_ring_row(stage, line);
         self.narrow.rings[stage] = ring;

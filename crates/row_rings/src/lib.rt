@@ -13,6 +13,7 @@ mod kept_rows;
 mod making;
 mod narrow_making;
 mod narrow_ring_source;
+mod narrow_shapes;
 mod new_rings;
 mod ring;
 mod ring_forms;

@@ -13,19 +13,22 @@ ghost use Rattle.job.specs.Views.{case_view, formula_view};
 ghost use Rattle.row_loops.specs.Rows.{EachPlace, at};
 ghost use Rattle.row_plans.specs.Rows.{next_row};
 ghost use Rattle.row_rings.specs.RingRows.{IsKeptPoint};
-ghost use Rattle.row_rings.specs.NarrowRings.{IsFittingStage, IsMixFlag, IsNarrowlyMade};
+ghost use Rattle.row_rings.specs.NarrowRings.{IsFittingStage, IsNarrowlyMade};
+ghost use Rattle.row_rings.specs.NarrowShapes.{IsShapeOf, IsStageShape};
 ghost use Rattle.row_rings.specs.TrueRings.{AreTrueRings, HasStageRoom};
 ghost use Rattle.row_rings.specs.inside.Making.{IsFittingRow, IsMakeable, IsPictureRow, IsValueRow, HasOneRowMore};
 ghost use Rattle.narrow_eval.specs.NarrowCases.{IsNarrowComputable};
-ghost use Rattle.narrow_eval.specs.NarrowMixes.{is_mix};
+ghost use Rattle.narrow_mixes.specs.NarrowMixes.{is_mix};
 ghost use Rattle.tile_eval.specs.Cases.{function_value};
 
 use crate::narrow_ring_source::NarrowRingSource;
+use crate::narrow_shapes::NarrowShape;
 use crate::ring::{RowRing, RowRings};
 use domains::Area;
 use job::{Body, Function, Job};
-use narrow_eval::{evaluate_narrow_function, try_narrow_mix};
+use narrow_eval::evaluate_narrow_function;
 use narrow_kernels::convert_samples_to_narrow_row;
+use narrow_mixes::write_narrow_mix;
 use netpbm::Picture;
 use row_plans::RowState;
 use tile_eval::RowSpan;
@@ -40,13 +43,13 @@ fn write_samples_to_narrow_ring(picture: &Picture, plane: usize, row: usize, out
     convert_samples_to_narrow_row(&picture.samples(plane), row * out.len(), out);
 }
 
-// Writes a row of a function, which is counted from the first one of its domain. `mix` is whether it is a mix. The contents of the
-// operands' buffer have no meaning.
+// Writes a row of a function of this shape, which is counted from the first one of its domain. The contents of the operands' buffer
+// have no meaning.
 fn write_function_row_to_narrow_ring(
     job: &Job,
     known: &RowRings<i16>,
     function: &Function,
-    mix: bool,
+    shape: &NarrowShape<'_>,
     area: &Area,
     row: usize,
     out: &mut [i16],
@@ -62,8 +65,8 @@ fn write_function_row_to_narrow_ring(
         (function_body (map case_view function.now.cases.items)
         (option_map formula_view function.now.otherwise)) (area.now.rows.lo +ℤ pos row)
         (area.now.cols.lo +ℤ pos k)) }
-    requires mix { mix ≡ is_mix (map case_view function.now.cases.items)
-        (option_map formula_view function.now.otherwise) }
+    requires shape { IsShapeOf shape.now (function_body (map case_view function.now.cases.items)
+        (option_map formula_view function.now.otherwise)) }
     requires function { is_mix (map case_view function.now.cases.items)
         (option_map formula_view function.now.otherwise) ≡ false
         → IsNarrowComputable (IsKeptPoint known.now.rings.items)
@@ -77,18 +80,17 @@ fn write_function_row_to_narrow_ring(
 {
     let points = RowSpan::from_area_row(area, row);
     let source = NarrowRingSource { job, known };
-    if mix {
-        try_narrow_mix(&source, function, &points, out);
-        return;
+    match shape {
+        NarrowShape::Mix(mix) => write_narrow_mix(&source, mix, &points, out),
+        NarrowShape::Other => evaluate_narrow_function(&source, function, &points, out, temps),
     }
-    evaluate_narrow_function(&source, function, &points, out, temps);
 }
 
-// Writes the next row of a stage, from the rows that it reads. `mix` is whether the stage is a mix.
+// Writes the next row of a stage of this shape, from the rows that it reads.
 fn write_stage_row_to_narrow_ring(
     job: &Job,
     stage: usize,
-    mix: bool,
+    shape: &NarrowShape<'_>,
     state: &RowState,
     known: &RowRings<i16>,
     out: &mut [i16],
@@ -98,7 +100,7 @@ fn write_stage_row_to_narrow_ring(
     requires right { AreTrueRings (pipeline_in job.now) known.now.rings.items }
     requires fits { IsFittingStage (pipeline_in job.now) stage }
     requires narrow { IsNarrowlyMade (pipeline_in job.now) stage }
-    requires mix { IsMixFlag (pipeline_in job.now) stage mix }
+    requires shape { IsStageShape (pipeline_in job.now) stage shape.now }
     requires count { length out.old ≡ len_of state.now.area.cols }
     requires room { HasStageRoom (pipeline_in job.now) stage (len_of state.now.area.cols)
         (length temps.old) }
@@ -115,7 +117,7 @@ fn write_stage_row_to_narrow_ring(
                 job,
                 known,
                 function,
-                mix,
+                shape,
                 &state.area,
                 row,
                 out,
@@ -127,12 +129,12 @@ fn write_stage_row_to_narrow_ring(
 }
 
 impl RowRing<i16> {
-    // Makes the next row, in place of the oldest one. `mix` is whether the stage is a mix.
+    // Makes the next row of a stage of this shape, in place of the oldest one.
     pub(crate) fn make_next_row_of_narrow_ring(
         &mut self,
         job: &Job,
         stage: usize,
-        mix: bool,
+        shape: &NarrowShape<'_>,
         known: &RowRings<i16>,
         temps: &mut [i16],
     )
@@ -141,7 +143,7 @@ impl RowRing<i16> {
         requires right { AreTrueRings (pipeline_in job.now) known.now.rings.items }
         requires fits { IsFittingStage (pipeline_in job.now) stage }
         requires narrow { IsNarrowlyMade (pipeline_in job.now) stage }
-        requires mix { IsMixFlag (pipeline_in job.now) stage mix }
+        requires shape { IsStageShape (pipeline_in job.now) stage shape.now }
         requires room { HasStageRoom (pipeline_in job.now) stage (len_of self.old.state.area.cols)
             (length temps.old) }
         ensures { HasOneRowMore (pipeline_in job.now) stage self.old self.new }
@@ -149,7 +151,7 @@ impl RowRing<i16> {
         write_stage_row_to_narrow_ring(
             job,
             stage,
-            mix,
+            shape,
             &self.state,
             known,
             &mut self.rows[0],

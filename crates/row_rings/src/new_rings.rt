@@ -4,15 +4,12 @@
 ghost use Rattle.std.specs.Prelude.{ℕ, ◌≡◌, length, All, IfOk, slice_index_or, false};
 ghost use Rattle.domains.specs.Span.{len_of};
 ghost use Rattle.job.specs.Kept.{pipeline_in};
-ghost use Rattle.job.specs.Views.{stage_view};
-ghost use Rattle.row_rings.specs.NarrowRings.{is_mix_body, mix_flags};
 ghost use Rattle.row_rings.specs.RingRows.{ring_states};
 ghost use Rattle.row_rings.specs.TrueRings.{HasOwnRoom};
 
 use crate::ring::RowRing;
 use crate::ring_forms::is_computed_narrow_ring;
-use job::{Body, Job, Stage};
-use narrow_eval::is_narrow_mix;
+use job::{Body, Job};
 use row_plans::RowState;
 use std::alloc::{AllocError, Global};
 use tile_eval::compute_operand_capacity_of_function;
@@ -63,27 +60,6 @@ pub(crate) fn find_greatest_ring_room(
         room = compute_ring_room_in_form(job, computed_narrow, narrow, stage)?.max(room);
     }
     Ok(room)
-}
-
-// Whether a stage is a mix.
-fn is_mix_ring(stage: &Stage) -> bool
-    ensures { result ≡ is_mix_body (stage_view stage.now).body }
-{
-    match stage.body() {
-        Body::Function(function) => is_narrow_mix(function),
-        Body::Plane(_) | Body::Accumulator(_) => false,
-    }
-}
-
-// Whether each stage is a mix.
-pub(crate) fn list_mix_rings(alloc: Global, job: &Job) -> Result<Vec<bool>, AllocError>
-    ensures { IfOk result (λ mixes. mixes.items ≡ mix_flags (pipeline_in job.now)) }
-{
-    let mut mixes = Vec::with_capacity(alloc, job.stages().len())?;
-    for stage in job.stages() {
-        mixes.push(is_mix_ring(stage))?;
-    }
-    Ok(mixes)
 }
 
 // `count` rows of `width` numbers.

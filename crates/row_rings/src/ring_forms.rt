@@ -51,17 +51,6 @@ pub(crate) fn is_computed_narrow_ring(computed_narrow: &[bool], stage: usize) ->
     }
 }
 
-// Whether a stage is a mix.
-#[inline]
-pub(crate) fn has_mix_ring(mixes: &[bool], stage: usize) -> bool
-    ensures { result ≡ slice_index_or mixes.now stage false }
-{
-    match mixes.get(stage) {
-        Some(mix) => *mix,
-        None => false,
-    }
-}
-
 // All rows are computed in 32 bits and kept in them.
 fn list_wide_ring_forms(alloc: Global, states: &[RowState]) -> Result<RingForms, AllocError>
     ensures { IfOk result (λ forms. (forms.wide.items ≡ states.now) × (forms.narrow.items ≡ [])

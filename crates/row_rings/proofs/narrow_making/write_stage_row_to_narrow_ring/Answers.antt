@@ -1,8 +1,8 @@
-use Rattle.std.proofs.Common.{arith, map, sym, ap, ◌∙◌}
+use Rattle.std.proofs.Common.{arith, map, subst, sym, ap, ◌∙◌}
 use Rattle.std.specs.Option.{option_map}
 use Rattle.job.specs.Kept.{pipeline_in}
 use Rattle.job.specs.Views.{case_view, formula_view, body_view, stage_view}
-use Rattle.row_rings.specs.NarrowRings.{is_mix_body}
+use Rattle.row_rings.specs.NarrowShapes.{IsShapeOf}
 use Rattle.row_rings.proofs.Values.{columns_some, rows_range, cols_range, narrow_made, narrow_reads, narrow_computable, plane_row, plane_fits, plane_made}
 use Rattle.row_rings.proofs.narrow_making.write_stage_row_to_narrow_ring.Goals as goal
 
@@ -35,10 +35,10 @@ write_function_row_to_narrow_ring-requires-clause-function c =
     (option_map formula_view f.otherwise) (ap body_view (sym c.body.ensures ∙ c.in-Function.is)) c.requires.narrow plain _ c.requires.room _
     c.requires.count
 
-pub write_function_row_to_narrow_ring-requires-clause-mix : goal.write_function_row_to_narrow_ring-requires-clause-mix
-write_function_row_to_narrow_ring-requires-clause-mix c =
-    c.requires.mix (stage_view c.in-Some.found.now) (sym c.in-Some.ensures)
-    ∙ ap is_mix_body (ap body_view (sym c.body.ensures ∙ c.in-Function.is))
+pub write_function_row_to_narrow_ring-requires-clause-shape : goal.write_function_row_to_narrow_ring-requires-clause-shape
+write_function_row_to_narrow_ring-requires-clause-shape c =
+    subst (IsShapeOf c.args.shape.now) (ap body_view (sym c.body.ensures ∙ c.in-Function.is))
+    (c.requires.shape (stage_view c.in-Some.found.now) (sym c.in-Some.ensures))
 
 pub write_function_row_to_narrow_ring-requires-clause-reads : goal.write_function_row_to_narrow_ring-requires-clause-reads
 write_function_row_to_narrow_ring-requires-clause-reads c =

@@ -1,5 +1,4 @@
-use Rattle.std.proofs.Common.{arith, List, Bool, ◌≡◌, true, false, length, set, refl, ap, ◌∙◌, sym, subst}
-use Rattle.std.specs.Prelude.{slice_index_or}
+use Rattle.std.proofs.Common.{arith, List, ◌≡◌, ◌<◌, true, length, set, slice_get, refl, ap, ◌∙◌, sym, subst}
 use Rattle.std.proofs.Math.Logic.{∥∥₁_map}
 use Rattle.std.proofs.lemmas.List.{length-set}
 use Rattle.domains.specs.Span.{len_of}
@@ -10,10 +9,11 @@ use Rattle.row_plans.specs.declared.row_state.RowState.{RowState}
 use Rattle.row_rings.specs.RingRows.{row_at, ring_states}
 use Rattle.row_rings.specs.Rings.{states_in}
 use Rattle.row_rings.specs.TrueRings.{AreTrueRings, ArePlacedRings, AreRoomy}
+use Rattle.row_rings.specs.declared.narrow_shapes.NarrowShape.{NarrowShape}
 use Rattle.row_rings.proofs.LeastBounds.{least_body}
 use Rattle.row_rings.proofs.Made.{state_within, state_is, few_made, served_narrow, ring_within, some_kept, room_made, next_is, line_made, with_line, row_for}
-use Rattle.row_rings.proofs.Mixes.{mix_found}
 use Rattle.row_rings.proofs.Places.{refilled}
+use Rattle.row_rings.proofs.Shapes.{shape_at, shapes_reach}
 use Rattle.row_rings.proofs.Stages.{state_at, true_without, makeable}
 use Rattle.row_rings.proofs.Stepping.{states_made, true_more, placed_more, forms_made, whole_made}
 use Rattle.row_rings.proofs.job_rings.JobRings.make_next_narrow_ring_row.Goals as goal
@@ -89,11 +89,17 @@ make_next_row_of_narrow_ring-requires-clause-narrow c =
     least_body (value job) s.body r col
     (∥∥₁_map self.made (λ all. all g (state_within job (states_in self) g can) c.requires.form s at is plain r col inside))
 
-pub make_next_row_of_narrow_ring-requires-clause-mix : goal.make_next_row_of_narrow_ring-requires-clause-mix
-make_next_row_of_narrow_ring-requires-clause-mix c =
+pub borrow_narrow_ring_shape-shape-requires : goal.borrow_narrow_ring_shape-shape-requires
+borrow_narrow_ring_shape-shape-requires c =
     let self = c.args.self.now in
-    mix_found (pipeline_in self.job.now) c.args.stage self.mixes.items self.mixed c.has_mix_ring-mix.result
-    (c.has_mix_ring-mix.ensures ∙ ap (λ (xs : List Bool). slice_index_or xs c.args.stage false) c.deref.ensures.value)
+    let reach = shapes_reach self.shapes.items (pipeline_in self.job.now).stages c.args.stage c.requires.can.stage self.shaped c.requires.can.there in
+    subst (λ (xs : List NarrowShape). c.args.stage < length xs) (sym c.deref.ensures.value) reach
+
+pub make_next_row_of_narrow_ring-requires-clause-shape : goal.make_next_row_of_narrow_ring-requires-clause-shape
+make_next_row_of_narrow_ring-requires-clause-shape c =
+    let self = c.args.self.now in
+    let found = ap (λ (xs : List NarrowShape). slice_get xs c.args.stage) (sym c.deref.ensures.value) ∙ c.borrow_narrow_ring_shape-shape.ensures in
+    λ s there. shape_at self.shapes.items (pipeline_in self.job.now).stages c.args.stage _ s self.shaped found there
 
 pub index-requires : goal.index-requires
 index-requires c =
@@ -211,7 +217,7 @@ invariant_of-self c =
       placed_narrow =
           subst (ArePlacedRings job) back (placed_more job (states_in self) g can line self.narrow.rings.items
           (set self.narrow.rings.items g new) with form.narrow_whole self.placed_narrow);
-      mixed = self.mixed;
+      shaped = self.shaped;
       roomy = self.roomy;
       roomy_narrow =
           subst (AreRoomy job self.computed_narrow.items true)

@@ -199,7 +199,7 @@ invariant_of-self c =
       placed_narrow =
           placed_more job (states_in self) g can line self.narrow.rings.items
           c.push_narrowed_ring_row.new.self.rings.items c.push_narrowed_ring_row.ensures form.narrow_whole self.placed_narrow;
-      mixed = self.mixed;
+      shaped = self.shaped;
       roomy =
           subst (AreRoomy job self.computed_narrow.items false)
           (sym (refilled c.make_next_row.new.temps self.temps.items self.temps.len temps self.temps.ok.0)) self.roomy;

@@ -32,7 +32,7 @@ invariant_of-result c =
           (subst (λ (xs : List RowState). AreRightForms job states xs (ring_states narrow) flags) (sym wide_is)
           (subst (λ (xs : List RowState). AreRightForms job states forms.wide.items xs flags) (sym narrow_is) are.right));
       made = ∣ subst (λ (xs : List RowState). AreNarrowlyMade job xs flags) (sym same) are.narrow ∣₁;
-      mixed = c.in_ok-mixes.ensures;
+      shaped = c.in_ok-shapes.ensures;
       right = true_first wide forms.wide.items states wide_is w are.few.0 begun job;
       right_narrow = true_first narrow forms.narrow.items states narrow_is n are.few.1 begun job;
       placed = placed_first wide forms.wide.items states wide_is w are.few.0 begun job;

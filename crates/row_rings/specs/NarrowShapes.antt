@@ -1,0 +1,30 @@
+-- How the rows of stages are made in 16 bits.
+use Rattle.std.specs.Prelude.{ℕ, ◌≡◌, false, Some, List, [], ◌∷◌, slice_get}
+use Rattle.job.specs.Formula.{Formula}
+use Rattle.job.specs.Pipeline.{Body, plane, function, accumulator, Stage, Pipeline}
+use Rattle.narrow_mixes.specs.NarrowMixes.{mix_formula, IsRightMix}
+use Rattle.row_rings.specs.declared.narrow_shapes.NarrowShape.{NarrowShape}
+use Rattle.row_rings.specs.declared.narrow_shapes.NarrowShape.TheVariants.{Mix, Other}
+use Rattle.row_rings.specs.NarrowRings.{is_mix_body}
+
+-- a function that is this formula everywhere
+abbrev pub IsFormulaBody : Formula → Body → Type 0
+IsFormulaBody f (plane n) = ⊥
+IsFormulaBody f (function cases otherwise) = ∥ (cases ≡ []) × (otherwise ≡ Some f) ∥₁
+IsFormulaBody f (accumulator fold bins value bin) = ⊥
+
+-- rows that are made so are those of the body. What is made by its formulas is no mix
+abbrev pub IsShapeOf : NarrowShape → Body → Type 0
+IsShapeOf (Mix mix) body = IsFormulaBody (mix_formula mix) body × IsRightMix mix
+IsShapeOf Other body = is_mix_body body ≡ false
+
+-- and so for stage g
+abbrev pub IsStageShape : Pipeline → ℕ → NarrowShape → Type 0
+IsStageShape job g shape = (s : Stage) → slice_get job.stages g ≡ Some s → IsShapeOf shape s.body
+
+-- and for each stage, in a list
+abbrev pub AreShapesOf : List NarrowShape → List Stage → Type 0
+AreShapesOf [] [] = Unit {0}
+AreShapesOf [] (s ∷ stages) = ⊥
+AreShapesOf (shape ∷ shapes) [] = ⊥
+AreShapesOf (shape ∷ shapes) (s ∷ stages) = IsShapeOf shape s.body × AreShapesOf shapes stages

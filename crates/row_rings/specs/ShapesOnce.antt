@@ -1,0 +1,24 @@
+-- A stage has a shape in one way: any two proofs of it are equal.
+use Rattle.std.specs.Prelude.{List, [], ◌∷◌}
+use Rattle.std.proofs.Props.{props}
+use Rattle.job.specs.Formula.{Formula}
+use Rattle.job.specs.Pipeline.{Body, plane, function, accumulator, Stage}
+use Rattle.narrow_mixes.specs.MixesOnce.{IsRightMix-prop}
+use Rattle.row_rings.specs.declared.narrow_shapes.NarrowShape.{NarrowShape}
+use Rattle.row_rings.specs.declared.narrow_shapes.NarrowShape.TheVariants.{Mix, Other}
+use Rattle.row_rings.specs.NarrowShapes.{IsFormulaBody, IsShapeOf, AreShapesOf}
+
+IsFormulaBody-prop : (f : Formula) (body : Body) → IsProp (IsFormulaBody f body)
+IsFormulaBody-prop f (plane n) = hlevel props
+IsFormulaBody-prop f (function cases otherwise) = hlevel props
+IsFormulaBody-prop f (accumulator fold bins value bin) = hlevel props
+
+IsShapeOf-prop : (shape : NarrowShape) (body : Body) → IsProp (IsShapeOf shape body)
+IsShapeOf-prop (Mix mix) body = hlevel (IsFormulaBody-prop, IsRightMix-prop, props)
+IsShapeOf-prop Other body = hlevel props
+
+pub AreShapesOf-prop : (shapes : List NarrowShape) (stages : List Stage) → IsProp (AreShapesOf shapes stages)
+AreShapesOf-prop [] [] = hlevel props
+AreShapesOf-prop [] (s ∷ stages) = hlevel props
+AreShapesOf-prop (shape ∷ shapes) [] = hlevel props
+AreShapesOf-prop (shape ∷ shapes) (s ∷ stages) = hlevel (IsShapeOf-prop shape s.body, AreShapesOf-prop shapes stages, props)

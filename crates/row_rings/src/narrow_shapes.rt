@@ -1,0 +1,71 @@
+#![tactic(auto)]
+//! How the rows of each stage are made in 16 bits, which is found once.
+
+ghost use Rattle.std.specs.Prelude.{◌≡◌, ◌<◌, length, map, Some, IfOk, slice_get};
+ghost use Rattle.std.specs.Option.{option_map};
+ghost use Rattle.job.specs.Kept.{pipeline_in};
+ghost use Rattle.job.specs.Pipeline.{function as function_body};
+ghost use Rattle.job.specs.Views.{case_view, formula_view, stage_view};
+ghost use Rattle.row_rings.specs.NarrowShapes.{IsShapeOf, AreShapesOf};
+
+use job::{Body, Function, Job, Stage};
+use narrow_mixes::{NarrowMix, find_narrow_mix};
+use std::alloc::{AllocError, Global};
+
+/// How the rows of a stage are made: as those of a mix, or by its formulas.
+#[derive(Clone, Copy)]
+pub(crate) enum NarrowShape<'a> {
+    Mix(NarrowMix<'a>),
+    Other,
+}
+
+// The shape of a function.
+fn find_narrow_ring_shape_of_function(function: &Function) -> NarrowShape<'_>
+    ensures { IsShapeOf result (function_body (map case_view function.now.cases.items)
+        (option_map formula_view function.now.otherwise)) }
+{
+    match find_narrow_mix(function) {
+        Some(mix) => NarrowShape::Mix(mix),
+        None => NarrowShape::Other,
+    }
+}
+
+// The shape of a stage.
+fn find_narrow_ring_shape(stage: &Stage) -> NarrowShape<'_>
+    ensures { IsShapeOf result (stage_view stage.now).body }
+{
+    match stage.body() {
+        Body::Function(function) => find_narrow_ring_shape_of_function(function),
+        Body::Plane(_) | Body::Accumulator(_) => NarrowShape::Other,
+    }
+}
+
+/// The shape of each stage.
+///
+/// # Errors
+///
+/// Fails only where memory is refused.
+pub(crate) fn list_narrow_ring_shapes<'a>(
+    alloc: Global,
+    job: &'a Job,
+) -> Result<Vec<NarrowShape<'a>>, AllocError>
+    ensures { IfOk result (λ shapes. AreShapesOf shapes.items (pipeline_in job.now).stages) }
+{
+    let mut shapes = Vec::with_capacity(alloc, job.stages().len())?;
+    for stage in job.stages() {
+        shapes.push(find_narrow_ring_shape(stage))?;
+    }
+    Ok(shapes)
+}
+
+/// The shape of one stage among those of all.
+#[inline]
+pub(crate) fn borrow_narrow_ring_shape<'s, 'a>(
+    shapes: &'s [NarrowShape<'a>],
+    stage: usize,
+) -> &'s NarrowShape<'a>
+    requires { stage < length shapes.now }
+    ensures { slice_get shapes.now stage ≡ Some result.now }
+{
+    &shapes[stage]
+}
