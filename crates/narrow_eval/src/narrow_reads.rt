@@ -75,6 +75,16 @@ fn find_row_of_narrow_read(points: &RowSpan, index: &Index) -> i32
     }
 }
 
+// The first column that an index takes which only adds.
+#[inline(always)]
+fn find_first_column_of_narrow_read(points: &RowSpan, index: &Index) -> i32
+    requires mul { index.now.mul ≡ pos 1 }
+    requires div { index.now.div ≡ pos 1 }
+    ensures { result ≡ index_at index.now points.now.col }
+{
+    points.col + index.add()
+}
+
 impl<'a, S: NarrowSource> NarrowPoints<'a, S> {
     // The samples at the columns of an index that only adds.
     #[inline(always)]
@@ -90,7 +100,7 @@ impl<'a, S: NarrowSource> NarrowPoints<'a, S> {
             (index_at col.now (self.now.points.col +ℤ pos k))) }
     {
         let row = find_row_of_narrow_read(&self.points, row);
-        let first = self.points.first_column_at_index(col);
+        let first = find_first_column_of_narrow_read(&self.points, col);
         self.source
             .borrow_narrow_row(stage, row, first, self.points.len)
     }
