@@ -1,13 +1,9 @@
 -- Sums of clamped differences from one center, gathered in a group.
 use Rattle.std.proofs.Common.{arith, ℕ, ℤ, ◌≡◌, ◌+◌, ◌<◌, pos, ◌+ℤ◌, ◌-ℤ◌, ◌*ℤ◌, w16, w32, FitsSigned, sym, ap, ◌∙◌, subst, refl}
-use Rattle.std.proofs.Common.{Bool, true, false, not, ◌&&◌, List, [], ◌∷◌, ◌++◌, length, take, set}
+use Rattle.std.proofs.Common.{true, false, List, [], ◌∷◌, ◌++◌, length, take, set}
 use Rattle.std.specs.Int.{int_wrap}
 use Rattle.std.proofs.lemmas.Int.{ints, int_wrap_fits}
 use Rattle.std.proofs.lemmas.List.{take_more_set}
-use Rattle.std.specs.Ordering.{int_eq}
-use Rattle.std.proofs.lemmas.Bool.{false≢true}
-use Rattle.std.proofs.lemmas.Bool.Decides.{Decides-int_eq}
-use Rattle.domains.specs.Index.{Scale}
 use Rattle.domains.specs.Arithmetic.{wrapped, clamped}
 use Rattle.job.specs.Formula.{Formula, binary, ternary}
 use Rattle.job.specs.Values.{Valuation, formula_value}
@@ -141,23 +137,3 @@ ended_with v group k e fits =
   where
     all_of : (x : ℤ) → x ≡ pos 0 → pos 0 +ℤ v -ℤ x ≡ v
     all_of x e = omega (arith, ints, e)
-
--- ---- reads that are the same
-
-both_hold : (a b : Bool) → (a && b) ≡ true → (a ≡ true) × (b ≡ true)
-both_hold true b e = (refl, e)
-both_hold false b e = absurd (false≢true e)
-
-pub holds_if_not : (a : Bool) → false ≡ not a → a ≡ true
-holds_if_not true e = refl
-holds_if_not false e = absurd (false≢true e)
-
-pub same_index : (x y : Scale) → (int_eq x.mul y.mul && (int_eq x.add y.add && int_eq x.div y.div)) ≡ true → x ≡ y
-same_index x y e =
-    let one = both_hold (int_eq x.mul y.mul) (int_eq x.add y.add && int_eq x.div y.div) e in
-    let two = both_hold (int_eq x.add y.add) (int_eq x.div y.div) one.1 in
-    λ i. record {
-      mul = (Decides-int_eq x.mul y.mul).0 one.0 i;
-      add = (Decides-int_eq x.add y.add).0 two.0 i;
-      div = (Decides-int_eq x.div y.div).0 two.1 i;
-    }

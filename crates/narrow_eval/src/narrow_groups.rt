@@ -12,10 +12,13 @@ ghost use Rattle.narrow_eval.specs.NarrowSums.{HasAddends, adds};
 ghost use Rattle.narrow_eval.specs.NarrowGroups.{IsGroup, GivesSumWith, HasCenterValues};
 
 use crate::narrow_points::NarrowPoints;
-use crate::narrow_reads::{find_narrow_formula_constant, find_narrow_formula_number};
+use crate::narrow_reads::{
+    find_narrow_formula_constant, find_narrow_formula_number, is_narrow_formula_constant,
+};
 use crate::narrow_source::NarrowSource;
 use crate::narrow_sum::{NarrowSum, sign_narrow_sum_factor};
 use crate::narrow_sum_formulas::is_narrow_sum_operator;
+use domains::Index;
 use job::Formula;
 use narrow_kernels::{NarrowCenter, NarrowTap};
 use operators::{BinaryOp, TernaryOp};
@@ -106,6 +109,14 @@ impl<'a> NarrowGroup<'a> {
     }
 }
 
+// Whether two indices are the same, by one comparison of all their numbers.
+#[inline(always)]
+fn is_same_index_of_narrow_group(index: &Index, other: &Index) -> bool
+    ensures { IsTrue result → index.now ≡ other.now }
+{
+    (index.mul() == other.mul()) & (index.add() == other.add()) & (index.div() == other.div())
+}
+
 // Whether two formulas are the same read.
 #[inline(always)]
 fn is_same_read_of_narrow_group(formula: &Formula, other: &Formula) -> bool
@@ -120,10 +131,7 @@ fn is_same_read_of_narrow_group(formula: &Formula, other: &Formula) -> bool
     if *stage != *other {
         return false;
     }
-    if *row != *i {
-        return false;
-    }
-    *col == *j
+    is_same_index_of_narrow_group(row, i) & is_same_index_of_narrow_group(col, j)
 }
 
 // A formula without its factor.
@@ -132,29 +140,6 @@ fn strip_narrow_group_factor(formula: &Formula) -> &Formula {
     match formula {
         Formula::Binary(BinaryOp::Mul, _, of) => of,
         _ => formula,
-    }
-}
-
-// Whether a formula is an addend for which nothing is to be computed, as far as is seen at once.
-#[inline]
-fn is_narrow_group_addend(formula: &Formula) -> bool {
-    match strip_narrow_group_factor(formula) {
-        Formula::Read(_, _, _) => true,
-        Formula::Ternary(TernaryOp::Clamp, of, _, _) => {
-            matches!(&**of, Formula::Binary(BinaryOp::Sub, _, _))
-        }
-        _ => false,
-    }
-}
-
-// Whether each addend of a sum is one for which nothing is to be computed, as far as is seen at once.
-#[inline(never)]
-fn has_only_narrow_group_addends(formula: &Formula) -> bool {
-    match formula {
-        Formula::Binary(op, front, last) if is_narrow_sum_operator(*op) => {
-            is_narrow_group_addend(last) && has_only_narrow_group_addends(front)
-        }
-        _ => is_narrow_group_addend(formula),
     }
 }
 
@@ -172,8 +157,8 @@ fn is_narrow_group_difference(
         return false;
     };
     is_same_read_of_narrow_group(own, right)
-        && find_narrow_formula_constant(low) == Some(center.low)
-        && find_narrow_formula_constant(high) == Some(center.high)
+        && is_narrow_formula_constant(low, center.low)
+        && is_narrow_formula_constant(high, center.high)
 }
 
 // Whether the last addends of a sum, `wanted` of them, are clamped differences from a center.
@@ -221,9 +206,10 @@ impl<'a, S: NarrowSource> NarrowPoints<'a, S> {
         let Formula::Binary(BinaryOp::Sub, left, own) = &**of else {
             return None;
         };
-        let low = find_narrow_formula_constant(low)?;
-        let high = find_narrow_formula_constant(high)?;
-        if low != center.low || high != center.high {
+        if !is_narrow_formula_constant(low, center.low) {
+            return None;
+        }
+        if !is_narrow_formula_constant(high, center.high) {
             return None;
         }
         if !is_same_read_of_narrow_group(own, right) {
@@ -448,9 +434,7 @@ impl<'a, S: NarrowSource> NarrowPoints<'a, S> {
         let Some((right, center)) = self.match_narrow_group_center_of_last(formula) else {
             return false;
         };
-        if !has_narrow_group_differences_at_end(formula, right, &center, LEAST)
-            || !has_only_narrow_group_addends(formula)
-        {
+        if !has_narrow_group_differences_at_end(formula, right, &center, LEAST) {
             return false;
         }
         self.write_narrow_sum_of_group(formula, right, center, out)

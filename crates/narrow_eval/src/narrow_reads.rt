@@ -46,6 +46,22 @@ pub fn find_narrow_formula_constant(formula: &Formula) -> Option<i16>
     }
 }
 
+/// Whether a formula is a number of the text all along a row, or one with the other sign.
+#[inline(always)]
+pub(crate) fn is_narrow_formula_constant(formula: &Formula, number: i16) -> bool
+    ensures { IsTrue result → (env : Valuation) (r c : ℤ)
+        → formula_value env (formula_view formula.now) r c ≡ number }
+{
+    match formula {
+        Formula::Number(own) => *own == i32::from(number),
+        Formula::Unary(UnaryOp::Neg, of) => match &**of {
+            Formula::Number(own) => *own == -i32::from(number),
+            _ => false,
+        },
+        _ => false,
+    }
+}
+
 // Whether an index only adds, so that it takes adjacent columns to adjacent columns.
 #[inline]
 fn is_narrow_read_shifting(index: &Index) -> bool

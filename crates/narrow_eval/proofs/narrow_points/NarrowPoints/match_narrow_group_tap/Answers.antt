@@ -1,4 +1,4 @@
-use Rattle.std.proofs.Common.{rules, ℤ, pos, ◌+ℤ◌, ◌≡◌, w16, FitsSigned, sym, ap, ◌∙◌}
+use Rattle.std.proofs.Common.{rules, ℤ, true, pos, ◌+ℤ◌, ◌≡◌, w16, FitsSigned, sym, ap, ◌∙◌}
 use Rattle.std.proofs.lemmas.Int.{to_z-of_z}
 use Rattle.job.specs.Formula.{Formula, binary, ternary}
 use Rattle.job.specs.Values.{Valuation, formula_value}
@@ -14,13 +14,15 @@ returns-clause-values g c = λ k l.
     (formula_view c.deref-2.result.now) (formula_view c.deref-3.result.now) = search rules in
     let same : formula_view c.deref-4.result.now ≡ formula_view c.args.right.now = search rules in
     let factor : FitsSigned w16 c.args.factor = search rules in
-    let low : c.args.center.now.low ≡ c.in_ok-low.low = search rules in
-    let high : c.args.center.now.high ≡ c.in_ok-high.high = search rules in
+    let low : c.is_narrow_formula_constant.result ≡ true = search rules in
+    let high : c.is_narrow_formula_constant-2.result ≡ true = search rules in
+    let low_fits : FitsSigned w16 c.args.center.now.low = search rules in
+    let high_fits : FitsSigned w16 c.args.center.now.high = search rules in
     let env : Valuation = g.S.NarrowSource.samples c.args.self.now.source.now in
     let col : ℤ = c.args.self.now.points.col +ℤ pos k in
     centered_difference (g.S.NarrowSource.samples c.args.self.now.source.now) c.args.self.now.points.row c.args.self.now.points.col
     c.args.self.now.points.len _ _ _ _ _ is c.requires.narrow _ c.args.factor _ _ _ _ k l (to_z-of_z w16 c.args.factor factor)
     (c.in_ok-line.ensures.values k l)
     (c.requires.center k l ∙ ap (λ (x : Formula). formula_value env x c.args.self.now.points.row col) (sym same))
-    (low ∙ sym (c.in_ok-low.ensures env c.args.self.now.points.row col))
-    (high ∙ sym (c.in_ok-high.ensures env c.args.self.now.points.row col))
+    (sym (c.is_narrow_formula_constant.ensures low env c.args.self.now.points.row col ∙ to_z-of_z w16 c.args.center.now.low low_fits))
+    (sym (c.is_narrow_formula_constant-2.ensures high env c.args.self.now.points.row col ∙ to_z-of_z w16 c.args.center.now.high high_fits))
