@@ -26,9 +26,10 @@ use crate::narrow_shapes::NarrowShape;
 use crate::ring::{RowRing, RowRings};
 use domains::Area;
 use job::{Body, Function, Job};
-use narrow_eval::evaluate_narrow_function;
+use narrow_eval::{NarrowSource, evaluate_narrow_function};
 use narrow_kernels::convert_samples_to_narrow_row;
 use narrow_mixes::write_narrow_mix;
+use narrow_pieces::{find_narrow_pieces, write_narrow_pieces};
 use netpbm::Picture;
 use row_plans::RowState;
 use tile_eval::RowSpan;
@@ -41,6 +42,31 @@ fn write_samples_to_narrow_ring(picture: &Picture, plane: usize, row: usize, out
         (λ k. at out.new k ≡ sample_at picture.now plane (pos row) (pos k)) }
 {
     convert_samples_to_narrow_row(&picture.samples(plane), row * out.len(), out);
+}
+
+// Writes a row of a function that is no mix: from its pieces if it has any, else by its formulas. The contents of `temps` have no
+// meaning.
+fn write_formula_row_to_narrow_ring<S: NarrowSource>(
+    source: &S,
+    function: &Function,
+    points: &RowSpan,
+    out: &mut [i16],
+    temps: &mut [i16],
+)
+    requires some { 0 < length out.old }
+    requires fits { length out.old ≡ points.now.len }
+    requires function { IsNarrowComputable (S.has source.now) (S.samples source.now) points.now.row
+        points.now.col (length out.old) (length temps.old) (map case_view function.now.cases.items)
+        (option_map formula_view function.now.otherwise) }
+    ensures { EachPlace (length out.old) (λ k. at out.new k
+        ≡ function_value (S.samples source.now) (map case_view function.now.cases.items)
+        (option_map formula_view function.now.otherwise) points.now.row
+        (points.now.col +ℤ pos k)) }
+{
+    match find_narrow_pieces(function) {
+        Some(pieces) => write_narrow_pieces(source, function, &pieces, points, out),
+        None => evaluate_narrow_function(source, function, points, out, temps),
+    }
 }
 
 // Writes a row of a function of this shape, which is counted from the first one of its domain. The contents of the operands' buffer
@@ -82,7 +108,9 @@ fn write_function_row_to_narrow_ring(
     let source = NarrowRingSource { job, known };
     match shape {
         NarrowShape::Mix(mix) => write_narrow_mix(&source, mix, &points, out),
-        NarrowShape::Other => evaluate_narrow_function(&source, function, &points, out, temps),
+        NarrowShape::Other => {
+            write_formula_row_to_narrow_ring(&source, function, &points, out, temps)
+        }
     }
 }
 

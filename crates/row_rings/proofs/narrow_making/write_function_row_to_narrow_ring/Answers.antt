@@ -37,8 +37,8 @@ write_narrow_mix-requires-clause-reads c =
     formula_read (IsKeptPoint c.args.known.now.rings.items) (mix_formula c.in-Mix.mix) (map case_view f.cases.items)
     (option_map formula_view f.otherwise) _ _ is.0 (c.requires.reads k h))))
 
-pub evaluate_narrow_function-requires-clause-function : goal.evaluate_narrow_function-requires-clause-function
-evaluate_narrow_function-requires-clause-function c =
+pub write_formula_row_to_narrow_ring-requires-clause-function : goal.write_formula_row_to_narrow_ring-requires-clause-function
+write_formula_row_to_narrow_ring-requires-clause-function c =
     let f = c.args.function.now in
     let points = c.from_area_row-points.ensures in
     let plain = subst (λ (shape : NarrowShape). IsShapeOf shape (function (map case_view f.cases.items) (option_map formula_view f.otherwise)))
@@ -65,6 +65,6 @@ pub returns-in-Other : goal.returns-in-Other
 returns-in-Other c = λ k h.
     let f = c.args.function.now in
     let points = c.from_area_row-points.ensures in
-    c.evaluate_narrow_function.ensures k h
+    c.write_formula_row_to_narrow_ring.ensures k h
     ∙ (λ i. function_value (value (pipeline_in c.args.job.now)) (map case_view f.cases.items) (option_map formula_view f.otherwise)
     (points.row i) (points.col i +ℤ pos k))
