@@ -8,7 +8,7 @@ ghost use Rattle.narrow_kernels.specs.NarrowCenters.{centered_tap_at, IsCenter};
 ghost use Rattle.row_loops.specs.Rows.{EachPlace, at};
 ghost use Rattle.tile_eval.specs.Reading.{ReadsWithin};
 ghost use Rattle.narrow_eval.specs.NarrowFormulas.{NarrowWithin};
-ghost use Rattle.narrow_eval.specs.NarrowSums.{HasAddends, adds};
+ghost use Rattle.narrow_eval.specs.NarrowSums.{HasAddends, GivesSum, adds};
 ghost use Rattle.narrow_eval.specs.NarrowGroups.{IsGroup, GivesSumWith, HasCenterValues};
 
 use crate::narrow_points::NarrowPoints;
@@ -219,6 +219,30 @@ impl<'a, S: NarrowSource> NarrowPoints<'a, S> {
         Some(NarrowTap { line, factor })
     }
 
+    // Adds a factor times a read or a clamped difference of two to a sum, beside its group. Returns whether this is done. (Apart,
+    // so that a group is gathered without what this holds.)
+    #[inline(never)]
+    fn push_narrow_addend_beside_group(
+        &self,
+        factor: i16,
+        formula: &Formula,
+        sum: &mut NarrowSum<'a>,
+        out: &mut [i16],
+    ) -> bool
+        requires fits { length out.old ≡ self.now.points.len }
+        requires narrow { NarrowWithin (S.samples self.now.source.now) (formula_view formula.now)
+            self.now.points.row self.now.points.col self.now.points.len }
+        requires reads { ReadsWithin (S.has self.now.source.now) (formula_view formula.now)
+            self.now.points.row self.now.points.col self.now.points.len }
+        requires addends { HasAddends (length out.old) sum.old }
+        ensures addends { HasAddends (length out.old) sum.new }
+        ensures pushed { IsTrue result → (f : ℕ → ℤ) → GivesSum (length out.old) f sum.old out.old
+            → GivesSum (length out.old) (λ k. f k +ℤ factor *ℤ formula_value (S.samples self.now.source.now)
+            (formula_view formula.now) self.now.points.row (self.now.points.col +ℤ pos k)) sum.new out.new }
+    {
+        self.push_narrow_addend_times(factor, formula, sum, out)
+    }
+
     // Adds a factor times a formula to a sum: to the group if it is a clamped difference from its center. Returns whether this is done.
     #[inline(always)]
     fn push_narrow_group_addend_times(
@@ -253,7 +277,7 @@ impl<'a, S: NarrowSource> NarrowPoints<'a, S> {
                 group.push_narrow_group_tap(tap, sum, out);
                 true
             }
-            None => self.push_narrow_addend_times(factor, formula, sum, out),
+            None => self.push_narrow_addend_beside_group(factor, formula, sum, out),
         }
     }
 

@@ -30,7 +30,7 @@ returns-in-None-clause-pushed g c = λ e f h.
     c.args.self.now.points.row (c.args.self.now.points.col +ℤ pos k))
     (λ k. f k +ℤ c.args.factor *ℤ formula_value (g.S.NarrowSource.samples c.args.self.now.source.now) (formula_view c.args.formula.now)
     c.args.self.now.points.row (c.args.self.now.points.col +ℤ pos k))
-    c.args.group.now c.push_narrow_addend_times.new.sum c.push_narrow_addend_times.new.out
+    c.args.group.now c.push_narrow_addend_beside_group.new.sum c.push_narrow_addend_beside_group.new.out
     (λ k l. same_sum (f k) _ _
     (ap (λ (z : ℤ). z *ℤ formula_value (g.S.NarrowSource.samples c.args.self.now.source.now) (formula_view c.args.formula.now)
     c.args.self.now.points.row (c.args.self.now.points.col +ℤ pos k))
@@ -38,5 +38,5 @@ returns-in-None-clause-pushed g c = λ e f h.
     (gives_beside (length c.args.out.now) f
     (λ k. to_z w16 (of_z w16 c.args.factor) *ℤ formula_value (g.S.NarrowSource.samples c.args.self.now.source.now) (formula_view c.args.formula.now)
     c.args.self.now.points.row (c.args.self.now.points.col +ℤ pos k))
-    c.args.group.now c.push_narrow_addend_times.new.sum c.push_narrow_addend_times.new.out
-    (c.push_narrow_addend_times.ensures.pushed e (λ k. f k -ℤ group_at c.args.group.now k) h))
+    c.args.group.now c.push_narrow_addend_beside_group.new.sum c.push_narrow_addend_beside_group.new.out
+    (c.push_narrow_addend_beside_group.ensures.pushed e (λ k. f k -ℤ group_at c.args.group.now k) h))
