@@ -15,7 +15,9 @@ ghost use Rattle.narrow_eval.specs.NarrowFormulas.{NarrowWithin};
 ghost use Rattle.narrow_eval.specs.NarrowOperators.{JoinsTwo};
 
 use crate::narrow_points::NarrowPoints;
-use crate::narrow_reads::{find_narrow_formula_constant, find_narrow_formula_number};
+use crate::narrow_reads::{
+    find_narrow_formula_constant, find_narrow_formula_number, is_borrowable_narrow_read,
+};
 use crate::narrow_source::NarrowSource;
 use job::Formula;
 use narrow_kernels::{
@@ -164,6 +166,40 @@ impl<'a, S: NarrowSource> NarrowPoints<'a, S> {
         }
     }
 
+    // Writes the results of an operator on two formulas, if it joins more than two reads in passes over several. Returns whether it does.
+    #[cycle(evaluate_narrow)]
+    fn try_narrow_binary_of_several_reads(
+        &self,
+        formula: &Formula,
+        out: &mut [i16],
+        temps: &mut [i16],
+    ) -> bool
+        requires fits { length out.old ≡ self.now.points.len }
+        requires formula { IsFormula (formula_view formula.now) }
+        requires narrow { NarrowWithin (S.samples self.now.source.now) (formula_view formula.now)
+            self.now.points.row self.now.points.col (length out.old) }
+        requires reads { ReadsWithin (S.has self.now.source.now) (formula_view formula.now)
+            self.now.points.row self.now.points.col (length out.old) }
+        requires room { HasRoom (formula_view formula.now) (length out.old) (length temps.old) }
+        ensures { IsTrue result → EachPlace (length out.old) (λ k. at out.new k
+            ≡ formula_value (S.samples self.now.source.now)
+            (formula_view formula.now) self.now.points.row (self.now.points.col +ℤ pos k)) }
+    {
+        let Formula::Binary(_, a, b) = formula else {
+            return false;
+        };
+        if is_borrowable_narrow_read(a) && is_borrowable_narrow_read(b) {
+            return false;
+        }
+        if self.try_narrow_sum_of_group(formula, out) {
+            return true;
+        }
+        if self.try_narrow_sum(formula, out, temps) {
+            return true;
+        }
+        self.try_narrow_formula_of_three_reads(formula, out)
+    }
+
     // The results of an operator on two formulas.
     #[cycle(evaluate_narrow)]
     fn evaluate_narrow_binary(&self, formula: &Formula, out: &mut [i16], temps: &mut [i16])
@@ -182,13 +218,7 @@ impl<'a, S: NarrowSource> NarrowPoints<'a, S> {
         let Formula::Binary(op, a, b) = formula else {
             return;
         };
-        if self.try_narrow_sum_of_group(formula, out) {
-            return;
-        }
-        if self.try_narrow_sum(formula, out, temps) {
-            return;
-        }
-        if self.try_narrow_formula_of_three_reads(formula, out) {
+        if self.try_narrow_binary_of_several_reads(formula, out, temps) {
             return;
         }
         let left = self.borrow_or_write_narrow_formula(a, out, temps);
