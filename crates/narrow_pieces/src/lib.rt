@@ -1,5 +1,5 @@
-//! Functions that take the lesser or the greater ones of two or three pieces, which are affine maps of reads. The pieces of a
-//! function are found once, and its rows are written from them in one pass.
+//! Functions that take the lesser or the greater ones of two or three pieces, which are affine maps of reads. The pieces are found
+//! in the function's formula alone, and a row is written from them in one pass.
 //!
 //! Words: narrow piece, narrow pieces.
 #![tactic(auto)]
