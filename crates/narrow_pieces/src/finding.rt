@@ -27,17 +27,14 @@ struct NarrowMappedPiece<'a> {
 }
 
 // The same values by a map that has the last operator of the formula in it, if it can be.
-fn peel_narrow_piece_operator(of: NarrowMappedPiece<'_>) -> NarrowMappedPiece<'_>
-    ensures { (whole : FormulaView) → IsMapped of.entry.map (formula_view of.entry.formula.now) whole
-        → IsMapped result.map (formula_view result.formula.now) whole }
+fn peel_narrow_piece_operator(of: NarrowMappedPiece<'_>) -> Option<NarrowMappedPiece<'_>>
+    ensures { IfSome result (λ it. (whole : FormulaView)
+        → IsMapped of.entry.map (formula_view of.entry.formula.now) whole
+        → IsMapped it.map (formula_view it.formula.now) whole) }
 {
-    match match_narrow_piece_step(of.formula) {
-        Some((step, formula)) => match prepend_narrow_piece_step(of.map, step) {
-            Some(map) => NarrowMappedPiece { map, formula },
-            None => of,
-        },
-        None => of,
-    }
+    let (step, formula) = match_narrow_piece_step(of.formula)?;
+    let map = prepend_narrow_piece_step(of.map, step)?;
+    Some(NarrowMappedPiece { map, formula })
 }
 
 // The values of a formula by a map of as few operators as can be.
@@ -49,7 +46,10 @@ fn peel_narrow_piece(formula: &Formula) -> NarrowMappedPiece<'_>
         formula,
     };
     for _ in 0..MOST_OPERATORS {
-        peeled = peel_narrow_piece_operator(peeled);
+        let Some(next) = peel_narrow_piece_operator(peeled) else {
+            break;
+        };
+        peeled = next;
     }
     peeled
 }

@@ -6,6 +6,3 @@ pub loop-init : goal.loop-init
 loop-init c =
     unpeeled c.identity_on_narrow_numbers.result (formula_view c.args.formula.now) c.identity_on_narrow_numbers.ensures.value
     c.identity_on_narrow_numbers.ensures.fits
-
-pub loop-preserved : goal.loop-preserved
-loop-preserved c = c.peel_narrow_piece_operator-peeled.ensures (formula_view c.args.formula.now) c.loop.invariant
