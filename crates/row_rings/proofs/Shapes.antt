@@ -14,6 +14,7 @@ use Rattle.job.specs.Values.{Valuation, formula_value}
 use Rattle.job.specs.Views.{stage_view}
 use Rattle.job.specs.declared.stage.Stage.{Stage as KeptStage}
 use Rattle.tile_eval.specs.Cases.{function_value}
+use Rattle.value_ranges.specs.Narrow.{IsNarrow, IsNarrowFunction}
 use Rattle.row_rings.specs.NarrowShapes.{IsFormulaBody, IsShapeOf, AreShapesOf}
 use Rattle.row_rings.specs.declared.narrow_shapes.NarrowShape.{NarrowShape}
 
@@ -26,6 +27,13 @@ formula_read P f cases None r c is h = absurd (∥∥₁_elim is (λ x y. absurd
 formula_read P f cases (Some g) r c is h =
     subst (λ xs. All (λ x. EachTaken P x r c) xs) (∥∥₁_elim is (same_reads-prop (reads_in g) (reads_in f)) (λ e. ap reads_in (same_Some g f e.1)))
     (h.1 g refl)
+
+-- where the function is narrow, so is the formula, if that can be so in one way
+pub formula_narrow : (env : Valuation) (f : Formula) (cases : List JobCase) (otherwise : Option Formula) (r c : ℤ)
+    → IsProp (IsNarrow env f r c) → IsFormulaBody f (function cases otherwise) → IsNarrowFunction env cases otherwise r c → IsNarrow env f r c
+formula_narrow env f cases None r c once is h = absurd (∥∥₁_elim is (λ x y. absurd x) (λ e. none-some f e.1))
+formula_narrow env f cases (Some g) r c once is h =
+    ∥∥₁_elim is once (λ e. subst (λ (x : Formula). IsNarrow env x r c) (same_Some g f e.1) (h.other g refl))
 
 -- they have one value
 pub formula_everywhere : (env : Valuation) (f : Formula) (cases : List JobCase) (otherwise : Option Formula) (r c : ℤ)

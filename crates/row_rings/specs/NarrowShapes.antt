@@ -3,8 +3,11 @@ use Rattle.std.specs.Prelude.{ℕ, ◌≡◌, false, Some, List, [], ◌∷◌, 
 use Rattle.job.specs.Formula.{Formula}
 use Rattle.job.specs.Pipeline.{Body, plane, function, accumulator, Stage, Pipeline}
 use Rattle.narrow_mixes.specs.NarrowMixes.{mix_formula, IsRightMix}
+use Rattle.narrow_averages.specs.NarrowAverages.{average_formula, IsRightAverage}
+use Rattle.narrow_pieces.specs.Pieces.{AreFunctionPieces}
+use Rattle.narrow_pieces.specs.declared.piece.NarrowPieces.{NarrowPieces}
 use Rattle.row_rings.specs.declared.narrow_shapes.NarrowShape.{NarrowShape}
-use Rattle.row_rings.specs.declared.narrow_shapes.NarrowShape.TheVariants.{Mix, Other}
+use Rattle.row_rings.specs.declared.narrow_shapes.NarrowShape.TheVariants.{Mix, Pieces, Average, Other}
 use Rattle.row_rings.specs.NarrowRings.{is_mix_body}
 
 -- a function that is this formula everywhere
@@ -13,9 +16,17 @@ IsFormulaBody f (plane n) = ⊥
 IsFormulaBody f (function cases otherwise) = ∥ (cases ≡ []) × (otherwise ≡ Some f) ∥₁
 IsFormulaBody f (accumulator fold bins value bin) = ⊥
 
--- rows that are made so are those of the body. What is made by its formulas is no mix
+-- a function that has these pieces
+abbrev pub ArePiecesOfBody : NarrowPieces → Body → Type 0
+ArePiecesOfBody pieces (plane n) = ⊥
+ArePiecesOfBody pieces (function cases otherwise) = AreFunctionPieces pieces cases otherwise
+ArePiecesOfBody pieces (accumulator fold bins value bin) = ⊥
+
+-- rows that are made so are those of the body. What is made otherwise than as a mix is none
 abbrev pub IsShapeOf : NarrowShape → Body → Type 0
 IsShapeOf (Mix mix) body = IsFormulaBody (mix_formula mix) body × IsRightMix mix
+IsShapeOf (Pieces pieces) body = ArePiecesOfBody pieces body × (is_mix_body body ≡ false)
+IsShapeOf (Average average) body = IsFormulaBody (average_formula average) body × IsRightAverage average × (is_mix_body body ≡ false)
 IsShapeOf Other body = is_mix_body body ≡ false
 
 -- and so for stage g

@@ -4,17 +4,27 @@ use Rattle.std.proofs.Props.{props}
 use Rattle.job.specs.Formula.{Formula}
 use Rattle.job.specs.Pipeline.{Body, plane, function, accumulator, Stage}
 use Rattle.narrow_mixes.specs.MixesOnce.{IsRightMix-prop}
+use Rattle.narrow_averages.specs.AveragesOnce.{IsRightAverage-prop}
+use Rattle.narrow_pieces.specs.PiecesOnce.{AreFunctionPieces-prop}
+use Rattle.narrow_pieces.specs.declared.piece.NarrowPieces.{NarrowPieces}
 use Rattle.row_rings.specs.declared.narrow_shapes.NarrowShape.{NarrowShape}
-use Rattle.row_rings.specs.declared.narrow_shapes.NarrowShape.TheVariants.{Mix, Other}
-use Rattle.row_rings.specs.NarrowShapes.{IsFormulaBody, IsShapeOf, AreShapesOf}
+use Rattle.row_rings.specs.declared.narrow_shapes.NarrowShape.TheVariants.{Mix, Pieces, Average, Other}
+use Rattle.row_rings.specs.NarrowShapes.{IsFormulaBody, ArePiecesOfBody, IsShapeOf, AreShapesOf}
 
 IsFormulaBody-prop : (f : Formula) (body : Body) → IsProp (IsFormulaBody f body)
 IsFormulaBody-prop f (plane n) = hlevel props
 IsFormulaBody-prop f (function cases otherwise) = hlevel props
 IsFormulaBody-prop f (accumulator fold bins value bin) = hlevel props
 
+ArePiecesOfBody-prop : (pieces : NarrowPieces) (body : Body) → IsProp (ArePiecesOfBody pieces body)
+ArePiecesOfBody-prop pieces (plane n) = hlevel props
+ArePiecesOfBody-prop pieces (function cases otherwise) = AreFunctionPieces-prop pieces cases otherwise
+ArePiecesOfBody-prop pieces (accumulator fold bins value bin) = hlevel props
+
 IsShapeOf-prop : (shape : NarrowShape) (body : Body) → IsProp (IsShapeOf shape body)
 IsShapeOf-prop (Mix mix) body = hlevel (IsFormulaBody-prop, IsRightMix-prop, props)
+IsShapeOf-prop (Pieces pieces) body = hlevel (ArePiecesOfBody-prop, props)
+IsShapeOf-prop (Average average) body = hlevel (IsFormulaBody-prop, IsRightAverage-prop, props)
 IsShapeOf-prop Other body = hlevel props
 
 pub AreShapesOf-prop : (shapes : List NarrowShape) (stages : List Stage) → IsProp (AreShapesOf shapes stages)

@@ -26,10 +26,11 @@ use crate::narrow_shapes::NarrowShape;
 use crate::ring::{RowRing, RowRings};
 use domains::Area;
 use job::{Body, Function, Job};
-use narrow_eval::{NarrowSource, evaluate_narrow_function};
+use narrow_averages::write_narrow_average;
+use narrow_eval::{NarrowSource, evaluate_narrow_formula, evaluate_narrow_function};
 use narrow_kernels::convert_samples_to_narrow_row;
 use narrow_mixes::write_narrow_mix;
-use narrow_pieces::{find_narrow_pieces, write_narrow_pieces};
+use narrow_pieces::write_narrow_pieces;
 use netpbm::Picture;
 use row_plans::RowState;
 use tile_eval::RowSpan;
@@ -44,8 +45,7 @@ fn write_samples_to_narrow_ring(picture: &Picture, plane: usize, row: usize, out
     convert_samples_to_narrow_row(&picture.samples(plane), row * out.len(), out);
 }
 
-// Writes a row of a function that is no mix: from its pieces if it has any, else by its formulas. The contents of `temps` have no
-// meaning.
+// Writes a row of a function by its formulas. The contents of `temps` have no meaning.
 fn write_formula_row_to_narrow_ring<S: NarrowSource>(
     source: &S,
     function: &Function,
@@ -63,9 +63,45 @@ fn write_formula_row_to_narrow_ring<S: NarrowSource>(
         (option_map formula_view function.now.otherwise) points.now.row
         (points.now.col +ℤ pos k)) }
 {
-    match find_narrow_pieces(function) {
-        Some(pieces) => write_narrow_pieces(source, function, &pieces, points, out),
-        None => evaluate_narrow_function(source, function, points, out, temps),
+    match (function.cases(), function.otherwise()) {
+        ([], Some(formula)) => evaluate_narrow_formula(source, points, formula, out, temps),
+        _ => evaluate_narrow_function(source, function, points, out, temps),
+    }
+}
+
+// Writes a row of a function of this shape. The contents of `temps` have no meaning.
+fn write_shaped_row_to_narrow_ring<S: NarrowSource>(
+    source: &S,
+    function: &Function,
+    shape: &NarrowShape<'_>,
+    points: &RowSpan,
+    out: &mut [i16],
+    temps: &mut [i16],
+)
+    requires some { 0 < length out.old }
+    requires fits { length out.old ≡ points.now.len }
+    requires shape { IsShapeOf shape.now (function_body (map case_view function.now.cases.items)
+        (option_map formula_view function.now.otherwise)) }
+    requires reads { EachPlace (length out.old) (λ k. BodyReads (S.has source.now)
+        (function_body (map case_view function.now.cases.items)
+        (option_map formula_view function.now.otherwise)) points.now.row (points.now.col +ℤ pos k)) }
+    requires function { is_mix (map case_view function.now.cases.items)
+        (option_map formula_view function.now.otherwise) ≡ false
+        → IsNarrowComputable (S.has source.now) (S.samples source.now) points.now.row
+        points.now.col (length out.old) (length temps.old) (map case_view function.now.cases.items)
+        (option_map formula_view function.now.otherwise) }
+    ensures { EachPlace (length out.old) (λ k. at out.new k
+        ≡ function_value (S.samples source.now) (map case_view function.now.cases.items)
+        (option_map formula_view function.now.otherwise) points.now.row
+        (points.now.col +ℤ pos k)) }
+{
+    match shape {
+        NarrowShape::Mix(mix) => write_narrow_mix(source, mix, points, out),
+        NarrowShape::Pieces(pieces) => write_narrow_pieces(source, function, pieces, points, out),
+        NarrowShape::Average(average) => write_narrow_average(source, average, points, out),
+        NarrowShape::Other => {
+            write_formula_row_to_narrow_ring(source, function, points, out, temps)
+        }
     }
 }
 
@@ -106,12 +142,7 @@ fn write_function_row_to_narrow_ring(
 {
     let points = RowSpan::from_area_row(area, row);
     let source = NarrowRingSource { job, known };
-    match shape {
-        NarrowShape::Mix(mix) => write_narrow_mix(&source, mix, &points, out),
-        NarrowShape::Other => {
-            write_formula_row_to_narrow_ring(&source, function, &points, out, temps)
-        }
-    }
+    write_shaped_row_to_narrow_ring(&source, function, shape, &points, out, temps);
 }
 
 // Writes the next row of a stage of this shape, from the rows that it reads.

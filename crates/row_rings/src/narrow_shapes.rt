@@ -1,22 +1,43 @@
 #![tactic(auto)]
 //! How the rows of each stage are made in 16 bits, which is found once.
 
-ghost use Rattle.std.specs.Prelude.{◌≡◌, ◌<◌, length, map, Some, IfOk, slice_get};
+ghost use Rattle.std.specs.Prelude.{◌≡◌, ◌<◌, false, length, map, Some, IfOk, slice_get};
 ghost use Rattle.std.specs.Option.{option_map};
 ghost use Rattle.job.specs.Kept.{pipeline_in};
 ghost use Rattle.job.specs.Pipeline.{function as function_body};
 ghost use Rattle.job.specs.Views.{case_view, formula_view, stage_view};
+ghost use Rattle.narrow_mixes.specs.NarrowMixes.{is_mix};
 ghost use Rattle.row_rings.specs.NarrowShapes.{IsShapeOf, AreShapesOf};
 
 use job::{Body, Function, Job, Stage};
+use narrow_averages::{NarrowAverage, find_narrow_average};
 use narrow_mixes::{NarrowMix, find_narrow_mix};
+use narrow_pieces::{NarrowPieces, find_narrow_pieces};
 use std::alloc::{AllocError, Global};
 
-/// How the rows of a stage are made: as those of a mix, or by its formulas.
+/// How the rows of a stage are made: as those of a mix, from pieces, as those of an average, or by its formulas.
 #[derive(Clone, Copy)]
 pub(crate) enum NarrowShape<'a> {
     Mix(NarrowMix<'a>),
+    Pieces(NarrowPieces<'a>),
+    Average(NarrowAverage<'a>),
     Other,
+}
+
+// The shape of a function that is no mix.
+fn find_narrow_ring_shape_besides_mix(function: &Function) -> NarrowShape<'_>
+    requires { is_mix (map case_view function.now.cases.items)
+        (option_map formula_view function.now.otherwise) ≡ false }
+    ensures { IsShapeOf result (function_body (map case_view function.now.cases.items)
+        (option_map formula_view function.now.otherwise)) }
+{
+    if let Some(pieces) = find_narrow_pieces(function) {
+        return NarrowShape::Pieces(pieces);
+    }
+    match find_narrow_average(function) {
+        Some(average) => NarrowShape::Average(average),
+        None => NarrowShape::Other,
+    }
 }
 
 // The shape of a function.
@@ -26,7 +47,7 @@ fn find_narrow_ring_shape_of_function(function: &Function) -> NarrowShape<'_>
 {
     match find_narrow_mix(function) {
         Some(mix) => NarrowShape::Mix(mix),
-        None => NarrowShape::Other,
+        None => find_narrow_ring_shape_besides_mix(function),
     }
 }
 

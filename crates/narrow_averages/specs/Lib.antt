@@ -1,0 +1,2 @@
+pub mod NarrowAverages
+pub mod AveragesOnce

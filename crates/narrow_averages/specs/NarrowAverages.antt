@@ -1,0 +1,34 @@
+-- Functions that are averages: sums of two reads, shifted to the right.
+use Rattle.std.specs.Prelude.{ℕ, ◌≡◌, ◌<◌, ◌^◌, ℤ, pos}
+use Rattle.domains.specs.Arithmetic.{floor_div}
+use Rattle.operators.specs.declared.operator.BinaryOp.TheVariants.{Add}
+use Rattle.operators.specs.declared.operator.LiteralOp.{LiteralOp}
+use Rattle.job.specs.Formula.{Formula, read, binary, literal}
+use Rattle.job.specs.Values.{literal_value}
+use Rattle.narrow_averages.specs.declared.narrow_averages.NarrowAverageRead.{NarrowAverageRead}
+use Rattle.narrow_averages.specs.declared.narrow_averages.NarrowAverage.{NarrowAverage}
+
+-- ---- the formulas of their parts
+
+abbrev pub average_read : NarrowAverageRead → Formula
+average_read x = read x.stage x.row.now x.col.now
+
+abbrev pub average_formula : NarrowAverage → Formula
+average_formula p = literal p.op (binary Add (average_read p.left) (average_read p.right)) p.literal
+
+-- ---- what can be computed of them
+
+-- an operation with a literal divides each number by a power of two, rounded down
+abbrev pub ShiftsBy : LiteralOp → (literal bits : ℕ) → Type 0
+ShiftsBy op n bits = (v : ℤ) → literal_value op v n ≡ floor_div v (pos (2 ^ bits))
+
+-- the index of the column only adds
+abbrev pub IsRightRead : NarrowAverageRead → Type 0
+IsRightRead x = (x.col.now.mul ≡ pos 1) × (x.col.now.div ≡ pos 1)
+
+-- the operation shifts by these bits, which are fewer than 16
+pub record IsRightAverage (p : NarrowAverage) : Type 0 where
+  pub left : IsRightRead p.left
+  pub right : IsRightRead p.right
+  pub few : p.bits < 16
+  pub shift : ShiftsBy p.op p.literal p.bits

@@ -1,0 +1,8 @@
+//! Functions that are the sum of two reads everywhere, shifted to the right, as a mean of two neighbours is. They are written in one pass.
+//!
+//! Words: narrow average.
+#![tactic(auto)]
+
+mod narrow_averages;
+
+pub use narrow_averages::{NarrowAverage, find_narrow_average, write_narrow_average};

@@ -1,0 +1,94 @@
+use Rattle.std.proofs.Common.{arith, ◌+ℤ◌, pos, map, ◌∙◌, subst}
+use Rattle.std.proofs.Props.{props}
+use Rattle.std.specs.Option.{option_map}
+use Rattle.job.specs.Pipeline.{function}
+use Rattle.job.specs.Views.{case_view, formula_view}
+use Rattle.narrow_mixes.specs.NarrowMixes.{mix_formula}
+use Rattle.narrow_averages.specs.NarrowAverages.{average_formula}
+use Rattle.row_rings.specs.NarrowShapes.{IsShapeOf}
+use Rattle.row_rings.specs.declared.narrow_shapes.NarrowShape.{NarrowShape}
+use Rattle.row_rings.proofs.Shapes.{formula_read, formula_narrow, formula_everywhere}
+use Rattle.row_rings.proofs.narrow_making.write_shaped_row_to_narrow_ring.Goals as goal
+
+-- ---- a mix
+
+pub write_narrow_mix-requires-clause-right : goal.write_narrow_mix-requires-clause-right
+write_narrow_mix-requires-clause-right g c =
+    let f = c.args.function.now in
+    (subst (λ (shape : NarrowShape). IsShapeOf shape (function (map case_view f.cases.items) (option_map formula_view f.otherwise)))
+    c.in-Mix.is c.requires.shape).1
+
+pub write_narrow_mix-requires-clause-reads : goal.write_narrow_mix-requires-clause-reads
+write_narrow_mix-requires-clause-reads g c = λ k h.
+    let f = c.args.function.now in
+    let is = subst (λ (shape : NarrowShape). IsShapeOf shape (function (map case_view f.cases.items) (option_map formula_view f.otherwise)))
+    c.in-Mix.is c.requires.shape in
+    formula_read (g.S.NarrowSource.has c.args.source.now) (mix_formula c.in-Mix.mix) (map case_view f.cases.items)
+    (option_map formula_view f.otherwise) _ _ is.0 (c.requires.reads k (omega (arith, h, c.requires.fits)))
+
+pub returns-in-Mix : goal.returns-in-Mix
+returns-in-Mix g c = λ k h.
+    let f = c.args.function.now in
+    let is = subst (λ (shape : NarrowShape). IsShapeOf shape (function (map case_view f.cases.items) (option_map formula_view f.otherwise)))
+    c.in-Mix.is c.requires.shape in
+    c.write_narrow_mix.ensures k h
+    ∙ formula_everywhere (g.S.NarrowSource.samples c.args.source.now) (mix_formula c.in-Mix.mix) (map case_view f.cases.items)
+    (option_map formula_view f.otherwise) _ _ is.0
+
+-- ---- pieces
+
+pub write_narrow_pieces-requires-clause-pieces : goal.write_narrow_pieces-requires-clause-pieces
+write_narrow_pieces-requires-clause-pieces g c =
+    let f = c.args.function.now in
+    (subst (λ (shape : NarrowShape). IsShapeOf shape (function (map case_view f.cases.items) (option_map formula_view f.otherwise)))
+    c.in-Pieces.is c.requires.shape).0
+
+pub write_narrow_pieces-requires-clause-narrow : goal.write_narrow_pieces-requires-clause-narrow
+write_narrow_pieces-requires-clause-narrow g c =
+    let f = c.args.function.now in
+    let is = subst (λ (shape : NarrowShape). IsShapeOf shape (function (map case_view f.cases.items) (option_map formula_view f.otherwise)))
+    c.in-Pieces.is c.requires.shape in
+    (c.requires.function is.1).narrow
+
+-- ---- an average
+
+pub write_narrow_average-requires-clause-right : goal.write_narrow_average-requires-clause-right
+write_narrow_average-requires-clause-right g c =
+    let f = c.args.function.now in
+    (subst (λ (shape : NarrowShape). IsShapeOf shape (function (map case_view f.cases.items) (option_map formula_view f.otherwise)))
+    c.in-Average.is c.requires.shape).1
+
+pub write_narrow_average-requires-clause-reads : goal.write_narrow_average-requires-clause-reads
+write_narrow_average-requires-clause-reads g c = λ k h.
+    let f = c.args.function.now in
+    let is = subst (λ (shape : NarrowShape). IsShapeOf shape (function (map case_view f.cases.items) (option_map formula_view f.otherwise)))
+    c.in-Average.is c.requires.shape in
+    formula_read (g.S.NarrowSource.has c.args.source.now) (average_formula c.in-Average.average) (map case_view f.cases.items)
+    (option_map formula_view f.otherwise) _ _ is.0 (c.requires.reads k (omega (arith, h, c.requires.fits)))
+
+pub write_narrow_average-requires-clause-narrow : goal.write_narrow_average-requires-clause-narrow
+write_narrow_average-requires-clause-narrow g c = λ k h.
+    let f = c.args.function.now in
+    let is = subst (λ (shape : NarrowShape). IsShapeOf shape (function (map case_view f.cases.items) (option_map formula_view f.otherwise)))
+    c.in-Average.is c.requires.shape in
+    formula_narrow (g.S.NarrowSource.samples c.args.source.now) (average_formula c.in-Average.average) (map case_view f.cases.items)
+    (option_map formula_view f.otherwise) _ _ (hlevel props) is.0
+    ((c.requires.function is.2).narrow k (omega (arith, h, c.requires.fits)))
+
+pub returns-in-Average : goal.returns-in-Average
+returns-in-Average g c = λ k h.
+    let f = c.args.function.now in
+    let is = subst (λ (shape : NarrowShape). IsShapeOf shape (function (map case_view f.cases.items) (option_map formula_view f.otherwise)))
+    c.in-Average.is c.requires.shape in
+    c.write_narrow_average.ensures k h
+    ∙ formula_everywhere (g.S.NarrowSource.samples c.args.source.now) (average_formula c.in-Average.average) (map case_view f.cases.items)
+    (option_map formula_view f.otherwise) _ _ is.0
+
+-- ---- any other
+
+pub write_formula_row_to_narrow_ring-requires-clause-function : goal.write_formula_row_to_narrow_ring-requires-clause-function
+write_formula_row_to_narrow_ring-requires-clause-function g c =
+    let f = c.args.function.now in
+    c.requires.function
+    (subst (λ (shape : NarrowShape). IsShapeOf shape (function (map case_view f.cases.items) (option_map formula_view f.otherwise)))
+    c.in-Other.is c.requires.shape)
