@@ -3,3 +3,4 @@ pub mod NarrowAddends
 pub mod NarrowSums
 pub mod NarrowReady
 pub mod NarrowGroups
+pub mod NarrowSobel

@@ -1,7 +1,7 @@
 #![tactic(auto)]
 //! Stencils along rows of points, in 16 bits.
 
-ghost use Rattle.std.specs.Prelude.{◌≡◌, ◌<◌, ◌≤◌, ◌+◌, ◌+ℤ◌, pos, suc, ℕ, ℤ, length};
+ghost use Rattle.std.specs.Prelude.{◌≡◌, ◌<◌, ◌≤◌, ◌+◌, ◌+ℤ◌, pos, suc, ℕ, ℤ, true, length};
 ghost use Rattle.std.specs.Int.{w16, int_wrap};
 ghost use Rattle.domains.specs.Arithmetic.{wrapped, floor_div};
 ghost use Rattle.job.specs.Values.{kernel_row, kernel_column, weighted_sum};
@@ -10,6 +10,7 @@ ghost use Rattle.row_loops.specs.Rows.{EachPlace, at};
 ghost use Rattle.tile_eval.specs.Reading.{KernelWithin};
 ghost use Rattle.value_ranges.specs.Narrow.{IsNarrowStencil};
 ghost use Rattle.tile_eval.specs.inside.Stencil.{IsUnder};
+ghost use Rattle.narrow_sobel.specs.Sobel.{is_sobel};
 ghost use Rattle.narrow_eval.specs.NarrowStencils.{rows_below, line_total};
 ghost use Rattle.narrow_eval.specs.NarrowSums.{HasAddends, GivesSum};
 
@@ -18,6 +19,7 @@ use crate::narrow_source::NarrowSource;
 use crate::narrow_sum::NarrowSum;
 use job::Kernel;
 use narrow_kernels::{NarrowOperand, write_narrow_literal_op_results};
+use narrow_sobel::{NarrowSobel, find_narrow_sobel, write_narrow_sobel_sums};
 use operators::LiteralOp;
 use row_kernels::RowSpan;
 
@@ -95,8 +97,33 @@ impl<'a, S: NarrowSource> NarrowPoints<'a, S> {
         add_narrow_stencil_products(line, factors, sum, out);
     }
 
-    // The sums of a stencil, wrapped at 16 bits.
-    fn write_narrow_stencil_sums(&self, stage: usize, kernel: &Kernel, out: &mut [i16])
+    // The sums of a stencil whose kernel is one of Sobel, wrapped at 16 bits.
+    fn write_narrow_stencil_sums_by_sobel(
+        &self,
+        stage: usize,
+        kernel: &Kernel,
+        sobel: NarrowSobel,
+        out: &mut [i16],
+    )
+        requires fits { length out.old ≡ self.now.points.len }
+        requires kernel { IsKernel kernel.now }
+        requires sobel { is_sobel sobel kernel.now ≡ true }
+        requires reads { KernelWithin (S.has self.now.source.now stage) kernel.now
+            self.now.points.row self.now.points.col (length out.old) }
+        ensures { EachPlace (length out.old) (λ k. at out.new k
+            ≡ int_wrap w16 (weighted_sum kernel.now (S.samples self.now.source.now stage)
+            self.now.points.row (self.now.points.col +ℤ pos k))) }
+    {
+        let count = out.len() + 2;
+        let points = &self.points;
+        let above = borrow_narrow_stencil_line(self.source, stage, kernel, 0, points, count);
+        let own = borrow_narrow_stencil_line(self.source, stage, kernel, 1, points, count);
+        let below = borrow_narrow_stencil_line(self.source, stage, kernel, 2, points, count);
+        write_narrow_sobel_sums(out, sobel, above, own, below);
+    }
+
+    // The sums of a stencil, wrapped at 16 bits, from the products of its factors.
+    fn write_narrow_stencil_sums_by_factors(&self, stage: usize, kernel: &Kernel, out: &mut [i16])
         requires fits { length out.old ≡ self.now.points.len }
         requires kernel { IsKernel kernel.now }
         requires reads { KernelWithin (S.has self.now.source.now stage) kernel.now
@@ -110,6 +137,22 @@ impl<'a, S: NarrowSource> NarrowPoints<'a, S> {
             self.add_narrow_stencil_row(stage, kernel, a, &mut sum, out);
         }
         sum.write_narrow_sum(out);
+    }
+
+    // The sums of a stencil, wrapped at 16 bits.
+    fn write_narrow_stencil_sums(&self, stage: usize, kernel: &Kernel, out: &mut [i16])
+        requires fits { length out.old ≡ self.now.points.len }
+        requires kernel { IsKernel kernel.now }
+        requires reads { KernelWithin (S.has self.now.source.now stage) kernel.now
+            self.now.points.row self.now.points.col (length out.old) }
+        ensures { EachPlace (length out.old) (λ k. at out.new k
+            ≡ int_wrap w16 (weighted_sum kernel.now (S.samples self.now.source.now stage)
+            self.now.points.row (self.now.points.col +ℤ pos k))) }
+    {
+        match find_narrow_sobel(kernel) {
+            Some(sobel) => self.write_narrow_stencil_sums_by_sobel(stage, kernel, sobel, out),
+            None => self.write_narrow_stencil_sums_by_factors(stage, kernel, out),
+        }
     }
 
     /// The values of a stencil.
