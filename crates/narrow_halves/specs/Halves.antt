@@ -1,0 +1,45 @@
+-- Functions of two cases that alternate along a row. The formula of each is an operator with a literal, on the sum of two terms and
+-- a number, and its terms are read at halved columns.
+use Rattle.std.specs.Prelude.{◌≡◌, ℤ, pos, List, [], ◌∷◌, map}
+use Rattle.operators.specs.declared.operator.BinaryOp.TheVariants.{Add, Mul}
+use Rattle.job.specs.Formula.{Formula, number, read, binary, literal}
+use Rattle.job.specs.Pipeline.{JobCase}
+use Rattle.narrow_halves.specs.declared.half.NarrowHalfRead.{NarrowHalfRead}
+use Rattle.narrow_halves.specs.declared.half.NarrowHalfTerm.{NarrowHalfTerm}
+use Rattle.narrow_halves.specs.declared.half.NarrowHalfTerm.TheVariants.{Sample, Product}
+use Rattle.narrow_halves.specs.declared.half.NarrowHalf.{NarrowHalf}
+use Rattle.narrow_halves.specs.declared.half.NarrowHalves.{NarrowHalves}
+
+-- ---- the formulas that they are
+
+abbrev pub half_read : NarrowHalfRead → Formula
+half_read x = read x.stage x.row.now x.col.now
+
+abbrev pub half_term : NarrowHalfTerm → Formula
+half_term (Sample x) = half_read x
+half_term (Product factor x) = binary Mul (number factor) (half_read x)
+
+abbrev pub half_sum : NarrowHalfTerm → NarrowHalfTerm → ℤ → Formula
+half_sum first second n = binary Add (binary Add (half_term first) (half_term second)) (number n)
+
+abbrev pub half_formula : NarrowHalf → Formula
+half_formula half = literal half.op (half_sum half.first half.second half.number) half.literal
+
+-- ---- where they read
+
+-- the index of the column halves, so that every second point takes the next sample
+abbrev pub IsHalvingRead : NarrowHalfRead → Type 0
+IsHalvingRead x = (x.col.now.mul ≡ pos 1) × (x.col.now.div ≡ pos 2)
+
+abbrev pub IsHalvingTerm : NarrowHalfTerm → Type 0
+IsHalvingTerm (Sample x) = IsHalvingRead x
+IsHalvingTerm (Product factor x) = IsHalvingRead x
+
+abbrev pub IsHalvingHalf : NarrowHalf → Type 0
+IsHalvingHalf half = IsHalvingTerm half.first × IsHalvingTerm half.second
+
+-- they are the formulas of the two cases
+pub record AreHalvesOf (halves : NarrowHalves) (ps : List JobCase) : Type 0 where
+  pub formulas : map (λ p. p.formula) ps ≡ half_formula halves.first ∷ half_formula halves.second ∷ []
+  pub first : IsHalvingHalf halves.first
+  pub second : IsHalvingHalf halves.second

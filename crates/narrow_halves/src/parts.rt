@@ -1,0 +1,96 @@
+#![tactic(auto)]
+//! Where along a row two cases alternate.
+
+ghost use Rattle.std.specs.Prelude.{◌≡◌, ◌≤◌, ◌<◌, ◌-◌, ◌+ℤ◌, ◌↔◌, ◌⊎◌, ℕ, ℤ, List, pos, not, All, IfSome};
+ghost use Rattle.domains.specs.Area.{HoldsPoint};
+ghost use Rattle.job.specs.Boxes.{BoundsHold};
+ghost use Rattle.job.specs.Formula.{Test};
+ghost use Rattle.job.specs.Values.{all_passed};
+ghost use Rattle.job.specs.Views.{case_view};
+ghost use Rattle.job.specs.WellFormed.{IsTest};
+ghost use Rattle.row_kernels.specs.RowMask.{HoldsWhere};
+ghost use Rattle.row_loops.specs.Rows.{EachPlace};
+ghost use Rattle.tile_eval.specs.Cases.{InBox};
+ghost use Rattle.narrow_halves.specs.inside.Turns.{has_turn, BoxBounds, TakeTurns};
+
+use domains::Area;
+use domains::arithmetic::floor_rem;
+use job::JobCase;
+use row_kernels::{RowMask, RowSpan, find_row_mask};
+
+/// A part of a row of points at which two cases alternate, and whether the first of them has the part's first point.
+#[derive(Clone, Copy, Debug)]
+pub(crate) struct NarrowHalvesPart {
+    pub(crate) from: usize,
+    pub(crate) to: usize,
+    pub(crate) leads: bool,
+}
+
+// The places of a row of points that lie in an area: the first one, and the end.
+fn find_narrow_halves_interval(area: &Area, points: &RowSpan) -> Option<(usize, usize)>
+    requires { 0 < points.now.len }
+    ensures some { IfSome result (λ p. (p.0 < p.1) × (p.1 ≤ points.now.len)) }
+    ensures inside { IfSome result (λ p. (k : ℕ) → k < points.now.len
+        → HoldsPoint area.now points.now.row (points.now.col +ℤ pos k) ↔ ((p.0 ≤ k) × (k < p.1))) }
+{
+    if !area.rows.holds(points.row) {
+        return None;
+    }
+    let columns = points.columns()?;
+    let common = area.cols.meet(&columns)?;
+    Some((
+        points.column_offset(common.lo()),
+        points.column_offset(common.hi()) + 1,
+    ))
+}
+
+// Whether the first of two cases has the first point, if they alternate along the points.
+fn find_narrow_halves_turn(first: RowMask, second: RowMask, points: &RowSpan) -> Option<bool>
+    ensures first { IfSome result (λ leads. (xs : List Test) (r : ℤ) → HoldsWhere first xs r → (k : ℕ)
+        → BoundsHold xs r (points.now.col +ℤ pos k)
+        → all_passed xs r (points.now.col +ℤ pos k) ≡ has_turn leads k) }
+    ensures second { IfSome result (λ leads. (xs : List Test) (r : ℤ) → HoldsWhere second xs r → (k : ℕ)
+        → BoundsHold xs r (points.now.col +ℤ pos k)
+        → all_passed xs r (points.now.col +ℤ pos k) ≡ not (has_turn leads k)) }
+{
+    match (first, second) {
+        (RowMask::Leaving(2, 0), RowMask::Leaving(2, 1)) => Some(floor_rem(points.col, 2) == 0),
+        (RowMask::Leaving(2, 1), RowMask::Leaving(2, 0)) => Some(floor_rem(points.col, 2) == 1),
+        _ => None,
+    }
+}
+
+/// The part of a row where both boxes of two cases lie and the cases alternate. None if the boxes cut out different parts.
+pub(crate) fn find_narrow_halves_part(
+    first: &JobCase,
+    second: &JobCase,
+    points: &RowSpan,
+) -> Option<NarrowHalvesPart>
+    requires some { 0 < points.now.len }
+    requires first { All IsTest (case_view first.now).tests }
+    requires second { All IsTest (case_view second.now).tests }
+    requires bounds { EachPlace points.now.len (λ k. BoxBounds (case_view first.now) points.now.row (points.now.col +ℤ pos k)
+        × BoxBounds (case_view second.now) points.now.row (points.now.col +ℤ pos k)) }
+    ensures within { IfSome result (λ p. (p.from < p.to) × (p.to ≤ points.now.len)) }
+    ensures outside { IfSome result (λ p. EachPlace points.now.len (λ k. (k < p.from) ⊎ (p.to ≤ k)
+        → ¬ (InBox (case_view first.now).box points.now.row (points.now.col +ℤ pos k))
+        × ¬ (InBox (case_view second.now).box points.now.row (points.now.col +ℤ pos k)))) }
+    ensures turns { IfSome result (λ p. TakeTurns p.leads (case_view first.now)
+        (case_view second.now) points.now.row (points.now.col +ℤ pos p.from) (p.to - p.from)) }
+{
+    let (Some(area), Some(other)) = (first.area(), second.area()) else {
+        return None;
+    };
+    let (from, to) = find_narrow_halves_interval(area, points)?;
+    let (start, end) = find_narrow_halves_interval(other, points)?;
+    if start != from || end != to {
+        return None;
+    }
+    let part = points.slice_points(from, to);
+    let leads = find_narrow_halves_turn(
+        find_row_mask(first.tests(), &part),
+        find_row_mask(second.tests(), &part),
+        &part,
+    )?;
+    Some(NarrowHalvesPart { from, to, leads })
+}
