@@ -1,0 +1,3 @@
+pub mod FoundTaps
+pub mod TapRows
+pub mod FilterValues

@@ -1,0 +1,3 @@
+pub mod Filters
+pub mod FiltersOnce
+pub mod inside

@@ -1,0 +1,45 @@
+#![tactic(auto)]
+//! Filters, and their parts.
+
+use domains::Index;
+use operators::LiteralOp;
+
+/// A read. The index of its column only adds.
+#[derive(Clone, Copy)]
+pub struct NarrowFilterRead<'a> {
+    pub(crate) stage: usize,
+    pub(crate) row: &'a Index,
+    pub(crate) col: &'a Index,
+}
+
+/// The read that differences are taken from, and how far below it and above it other reads count at most. Neither is below 0.
+#[derive(Clone, Copy)]
+pub struct NarrowFilterCenter<'a> {
+    pub(crate) read: NarrowFilterRead<'a>,
+    pub(crate) below: i16,
+    pub(crate) above: i16,
+}
+
+/// A factor, and the read whose clamped difference from the center it multiplies.
+#[derive(Clone, Copy)]
+pub struct NarrowFilterTap<'a> {
+    pub(crate) factor: i16,
+    pub(crate) read: NarrowFilterRead<'a>,
+}
+
+/// What is done with the sum: a number is added, and the result is divided or shifted to the right.
+#[derive(Clone, Copy)]
+pub struct NarrowFilterScale {
+    pub(crate) number: i16,
+    pub(crate) op: LiteralOp,
+    pub(crate) literal: u32,
+}
+
+/// A filter: the scaled sum of the taps' clamped differences is added to the center. The taps are listed from the last one of the
+/// text on.
+#[derive(Drop)]
+pub struct NarrowFilter<'a> {
+    pub(crate) center: NarrowFilterCenter<'a>,
+    pub(crate) taps: Vec<NarrowFilterTap<'a>>,
+    pub(crate) scale: NarrowFilterScale,
+}
