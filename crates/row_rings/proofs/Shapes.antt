@@ -13,6 +13,10 @@ use Rattle.job.specs.ReadViews.{same_reads-prop}
 use Rattle.job.specs.Values.{Valuation, formula_value}
 use Rattle.job.specs.Views.{stage_view}
 use Rattle.job.specs.declared.stage.Stage.{Stage as KeptStage}
+use Rattle.narrow_filters.specs.Filters.{taps_formula, filter_formula}
+use Rattle.narrow_filters.specs.declared.filter.NarrowFilter.{NarrowFilter}
+use Rattle.narrow_filters.specs.declared.filter.NarrowFilterCenter.{NarrowFilterCenter}
+use Rattle.narrow_filters.specs.declared.filter.NarrowFilterTap.{NarrowFilterTap}
 use Rattle.tile_eval.specs.Cases.{function_value}
 use Rattle.value_ranges.specs.Narrow.{IsNarrow, IsNarrowFunction}
 use Rattle.row_rings.specs.NarrowShapes.{IsFormulaBody, IsShapeOf, AreShapesOf}
@@ -40,6 +44,18 @@ pub formula_everywhere : (env : Valuation) (f : Formula) (cases : List JobCase) 
     → IsFormulaBody f (function cases otherwise) → formula_value env f r c ≡ function_value env cases otherwise r c
 formula_everywhere env f cases otherwise r c is =
     ∥∥₁_elim is (hlevel props) (λ e i. function_value env (sym e.0 i) (sym e.1 i) r c)
+
+-- ---- filters
+
+-- a filter is narrow at a point in one way
+taps_narrow-prop : (env : Valuation) (center : NarrowFilterCenter) (ts : List NarrowFilterTap) (r c : ℤ)
+    → IsProp (IsNarrow env (taps_formula center ts) r c)
+taps_narrow-prop env center [] r c = hlevel props
+taps_narrow-prop env center (t ∷ []) r c = hlevel props
+taps_narrow-prop env center (t ∷ u ∷ ts) r c = hlevel (taps_narrow-prop env center (u ∷ ts) r c, props)
+
+pub filter_narrow-prop : (env : Valuation) (filter : NarrowFilter) (r c : ℤ) → IsProp (IsNarrow env (filter_formula filter) r c)
+filter_narrow-prop env filter r c = hlevel (taps_narrow-prop env filter.center filter.taps.items r c, props)
 
 -- ---- the shapes of stages
 

@@ -28,6 +28,8 @@ use domains::Area;
 use job::{Body, Function, Job};
 use narrow_averages::write_narrow_average;
 use narrow_eval::{NarrowSource, evaluate_narrow_formula, evaluate_narrow_function};
+use narrow_filters::write_narrow_filter;
+use narrow_halves::{find_narrow_halves, write_narrow_halves};
 use narrow_kernels::convert_samples_to_narrow_row;
 use narrow_mixes::write_narrow_mix;
 use narrow_pieces::write_narrow_pieces;
@@ -69,6 +71,30 @@ fn write_formula_row_to_narrow_ring<S: NarrowSource>(
     }
 }
 
+// Writes a row of a function from its halves, if it has any, else by its formulas. The contents of `temps` have no meaning.
+fn write_halved_row_to_narrow_ring<S: NarrowSource>(
+    source: &S,
+    function: &Function,
+    points: &RowSpan,
+    out: &mut [i16],
+    temps: &mut [i16],
+)
+    requires some { 0 < length out.old }
+    requires fits { length out.old ≡ points.now.len }
+    requires function { IsNarrowComputable (S.has source.now) (S.samples source.now) points.now.row
+        points.now.col (length out.old) (length temps.old) (map case_view function.now.cases.items)
+        (option_map formula_view function.now.otherwise) }
+    ensures { EachPlace (length out.old) (λ k. at out.new k
+        ≡ function_value (S.samples source.now) (map case_view function.now.cases.items)
+        (option_map formula_view function.now.otherwise) points.now.row
+        (points.now.col +ℤ pos k)) }
+{
+    match find_narrow_halves(function) {
+        Some(halves) => write_narrow_halves(source, function, &halves, points, out, temps),
+        None => write_formula_row_to_narrow_ring(source, function, points, out, temps),
+    }
+}
+
 // Writes a row of a function of this shape. The contents of `temps` have no meaning.
 fn write_shaped_row_to_narrow_ring<S: NarrowSource>(
     source: &S,
@@ -99,6 +125,10 @@ fn write_shaped_row_to_narrow_ring<S: NarrowSource>(
         NarrowShape::Mix(mix) => write_narrow_mix(source, mix, points, out),
         NarrowShape::Pieces(pieces) => write_narrow_pieces(source, function, pieces, points, out),
         NarrowShape::Average(average) => write_narrow_average(source, average, points, out),
+        NarrowShape::Filter(filter) => write_narrow_filter(source, filter, points, out),
+        NarrowShape::Halves => write_halved_row_to_narrow_ring(
+            source, function, points, out, temps,
+        ),
         NarrowShape::Other => {
             write_formula_row_to_narrow_ring(source, function, points, out, temps)
         }

@@ -11,53 +11,73 @@ ghost use Rattle.row_rings.specs.NarrowShapes.{IsShapeOf, AreShapesOf};
 
 use job::{Body, Function, Job, Stage};
 use narrow_averages::{NarrowAverage, find_narrow_average};
+use narrow_filters::{NarrowFilter, find_narrow_filter};
+use narrow_halves::find_narrow_halves;
 use narrow_mixes::{NarrowMix, find_narrow_mix};
 use narrow_pieces::{NarrowPieces, find_narrow_pieces};
 use std::alloc::{AllocError, Global};
 
-/// How the rows of a stage are made: as those of a mix, from pieces, as those of an average, or by its formulas.
-#[derive(Clone, Copy)]
+/// How the rows of a stage are made: as those of a mix, from pieces, as those of an average or a filter, from halves where the row has
+/// them, or by its formulas.
+#[derive(Drop)]
 pub(crate) enum NarrowShape<'a> {
     Mix(NarrowMix<'a>),
     Pieces(NarrowPieces<'a>),
     Average(NarrowAverage<'a>),
+    Filter(NarrowFilter<'a>),
+    Halves,
     Other,
 }
 
 // The shape of a function that is no mix.
-fn find_narrow_ring_shape_besides_mix(function: &Function) -> NarrowShape<'_>
+fn find_narrow_ring_shape_besides_mix<'a>(
+    alloc: Global,
+    function: &'a Function,
+) -> Result<NarrowShape<'a>, AllocError>
     requires { is_mix (map case_view function.now.cases.items)
         (option_map formula_view function.now.otherwise) ≡ false }
-    ensures { IsShapeOf result (function_body (map case_view function.now.cases.items)
-        (option_map formula_view function.now.otherwise)) }
+    ensures { IfOk result (λ shape. IsShapeOf shape (function_body (map case_view function.now.cases.items)
+        (option_map formula_view function.now.otherwise))) }
 {
     if let Some(pieces) = find_narrow_pieces(function) {
-        return NarrowShape::Pieces(pieces);
+        return Ok(NarrowShape::Pieces(pieces));
     }
-    match find_narrow_average(function) {
-        Some(average) => NarrowShape::Average(average),
-        None => NarrowShape::Other,
+    if let Some(average) = find_narrow_average(function) {
+        return Ok(NarrowShape::Average(average));
+    }
+    if let Some(filter) = find_narrow_filter(alloc, function)? {
+        return Ok(NarrowShape::Filter(filter));
+    }
+    match find_narrow_halves(function) {
+        Some(_) => Ok(NarrowShape::Halves),
+        None => Ok(NarrowShape::Other),
     }
 }
 
 // The shape of a function.
-fn find_narrow_ring_shape_of_function(function: &Function) -> NarrowShape<'_>
-    ensures { IsShapeOf result (function_body (map case_view function.now.cases.items)
-        (option_map formula_view function.now.otherwise)) }
+fn find_narrow_ring_shape_of_function<'a>(
+    alloc: Global,
+    function: &'a Function,
+) -> Result<NarrowShape<'a>, AllocError>
+    ensures { IfOk result (λ shape. IsShapeOf shape (function_body (map case_view function.now.cases.items)
+        (option_map formula_view function.now.otherwise))) }
 {
     match find_narrow_mix(function) {
-        Some(mix) => NarrowShape::Mix(mix),
-        None => find_narrow_ring_shape_besides_mix(function),
+        Some(mix) => Ok(NarrowShape::Mix(mix)),
+        None => find_narrow_ring_shape_besides_mix(alloc, function),
     }
 }
 
 // The shape of a stage.
-fn find_narrow_ring_shape(stage: &Stage) -> NarrowShape<'_>
-    ensures { IsShapeOf result (stage_view stage.now).body }
+fn find_narrow_ring_shape<'a>(
+    alloc: Global,
+    stage: &'a Stage,
+) -> Result<NarrowShape<'a>, AllocError>
+    ensures { IfOk result (λ shape. IsShapeOf shape (stage_view stage.now).body) }
 {
     match stage.body() {
-        Body::Function(function) => find_narrow_ring_shape_of_function(function),
-        Body::Plane(_) | Body::Accumulator(_) => NarrowShape::Other,
+        Body::Function(function) => find_narrow_ring_shape_of_function(alloc, function),
+        Body::Plane(_) | Body::Accumulator(_) => Ok(NarrowShape::Other),
     }
 }
 
@@ -74,7 +94,7 @@ pub(crate) fn list_narrow_ring_shapes<'a>(
 {
     let mut shapes = Vec::with_capacity(alloc, job.stages().len())?;
     for stage in job.stages() {
-        shapes.push(find_narrow_ring_shape(stage))?;
+        shapes.push(find_narrow_ring_shape(alloc, stage)?)?;
     }
     Ok(shapes)
 }

@@ -4,10 +4,11 @@ use Rattle.std.specs.Option.{option_map}
 use Rattle.job.specs.Pipeline.{function}
 use Rattle.job.specs.Views.{case_view, formula_view}
 use Rattle.narrow_mixes.specs.NarrowMixes.{mix_formula}
+use Rattle.narrow_filters.specs.Filters.{filter_formula}
 use Rattle.narrow_averages.specs.NarrowAverages.{average_formula}
 use Rattle.row_rings.specs.NarrowShapes.{IsShapeOf}
 use Rattle.row_rings.specs.declared.narrow_shapes.NarrowShape.{NarrowShape}
-use Rattle.row_rings.proofs.Shapes.{formula_read, formula_narrow, formula_everywhere}
+use Rattle.row_rings.proofs.Shapes.{formula_read, formula_narrow, formula_everywhere, filter_narrow-prop}
 use Rattle.row_rings.proofs.narrow_making.write_shaped_row_to_narrow_ring.Goals as goal
 
 -- ---- a mix
@@ -83,6 +84,49 @@ returns-in-Average g c = λ k h.
     c.write_narrow_average.ensures k h
     ∙ formula_everywhere (g.S.NarrowSource.samples c.args.source.now) (average_formula c.in-Average.average) (map case_view f.cases.items)
     (option_map formula_view f.otherwise) _ _ is.0
+
+-- ---- a filter
+
+pub write_narrow_filter-requires-clause-right : goal.write_narrow_filter-requires-clause-right
+write_narrow_filter-requires-clause-right g c =
+    let f = c.args.function.now in
+    (subst (λ (shape : NarrowShape). IsShapeOf shape (function (map case_view f.cases.items) (option_map formula_view f.otherwise)))
+    c.in-Filter.is c.requires.shape).1
+
+pub write_narrow_filter-requires-clause-reads : goal.write_narrow_filter-requires-clause-reads
+write_narrow_filter-requires-clause-reads g c = λ k h.
+    let f = c.args.function.now in
+    let is = subst (λ (shape : NarrowShape). IsShapeOf shape (function (map case_view f.cases.items) (option_map formula_view f.otherwise)))
+    c.in-Filter.is c.requires.shape in
+    formula_read (g.S.NarrowSource.has c.args.source.now) (filter_formula c.in-Filter.filter) (map case_view f.cases.items)
+    (option_map formula_view f.otherwise) _ _ is.0 (c.requires.reads k (omega (arith, h, c.requires.fits)))
+
+pub write_narrow_filter-requires-clause-narrow : goal.write_narrow_filter-requires-clause-narrow
+write_narrow_filter-requires-clause-narrow g c = λ k h.
+    let f = c.args.function.now in
+    let is = subst (λ (shape : NarrowShape). IsShapeOf shape (function (map case_view f.cases.items) (option_map formula_view f.otherwise)))
+    c.in-Filter.is c.requires.shape in
+    formula_narrow (g.S.NarrowSource.samples c.args.source.now) (filter_formula c.in-Filter.filter) (map case_view f.cases.items)
+    (option_map formula_view f.otherwise) _ _ (filter_narrow-prop (g.S.NarrowSource.samples c.args.source.now) c.in-Filter.filter _ _) is.0
+    ((c.requires.function is.2).narrow k (omega (arith, h, c.requires.fits)))
+
+pub returns-in-Filter : goal.returns-in-Filter
+returns-in-Filter g c = λ k h.
+    let f = c.args.function.now in
+    let is = subst (λ (shape : NarrowShape). IsShapeOf shape (function (map case_view f.cases.items) (option_map formula_view f.otherwise)))
+    c.in-Filter.is c.requires.shape in
+    c.write_narrow_filter.ensures k h
+    ∙ formula_everywhere (g.S.NarrowSource.samples c.args.source.now) (filter_formula c.in-Filter.filter) (map case_view f.cases.items)
+    (option_map formula_view f.otherwise) _ _ is.0
+
+-- ---- halves
+
+pub write_halved_row_to_narrow_ring-requires-clause-function : goal.write_halved_row_to_narrow_ring-requires-clause-function
+write_halved_row_to_narrow_ring-requires-clause-function g c =
+    let f = c.args.function.now in
+    c.requires.function
+    (subst (λ (shape : NarrowShape). IsShapeOf shape (function (map case_view f.cases.items) (option_map formula_view f.otherwise)))
+    c.in-Halves.is c.requires.shape)
 
 -- ---- any other
 

@@ -12,8 +12,8 @@ pub loop-stage-preserved : goal.loop-stage-preserved
 loop-stage-preserved c =
     let after : List Stage = map stage_view (take (c.loop-stage.stage-index + 1) c.stages-stage-items.result.now) in
     subst (λ (xs : List NarrowShape). AreShapesOf xs after) (sym c.in_ok-push.ensures.items)
-    (shapes_more c.loop-stage.shapes.items c.find_narrow_ring_shape.result c.stages-stage-items.result.now c.loop-stage.stage-index
-    c.stage-item.result c.loop-stage-test.true c.stage-item.is c.loop-stage.invariant c.find_narrow_ring_shape.ensures)
+    (shapes_more c.loop-stage.shapes.items c.in_ok-find_narrow_ring_shape.field-0 c.stages-stage-items.result.now c.loop-stage.stage-index
+    c.stage-item.result c.loop-stage-test.true c.stage-item.is c.loop-stage.invariant c.in_ok-find_narrow_ring_shape.ensures)
 
 pub returns : goal.returns
 returns c =
