@@ -1,0 +1,2 @@
+pub mod NarrowLimits
+pub mod LimitsOnce
