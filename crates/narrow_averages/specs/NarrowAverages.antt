@@ -1,4 +1,4 @@
--- Functions that are averages: sums of two reads, shifted to the right.
+-- Functions that are averages: sums of two or four reads, shifted to the right.
 use Rattle.std.specs.Prelude.{ℕ, ◌≡◌, ◌<◌, ◌^◌, ℤ, pos}
 use Rattle.domains.specs.Arithmetic.{floor_div}
 use Rattle.operators.specs.declared.operator.BinaryOp.TheVariants.{Add}
@@ -6,6 +6,8 @@ use Rattle.operators.specs.declared.operator.LiteralOp.{LiteralOp}
 use Rattle.job.specs.Formula.{Formula, read, binary, literal}
 use Rattle.job.specs.Values.{literal_value}
 use Rattle.narrow_averages.specs.declared.narrow_averages.NarrowAverageRead.{NarrowAverageRead}
+use Rattle.narrow_averages.specs.declared.narrow_averages.NarrowAverageSum.{NarrowAverageSum}
+use Rattle.narrow_averages.specs.declared.narrow_averages.NarrowAverageSum.TheVariants.{Two, Four}
 use Rattle.narrow_averages.specs.declared.narrow_averages.NarrowAverage.{NarrowAverage}
 
 -- ---- the formulas of their parts
@@ -13,8 +15,12 @@ use Rattle.narrow_averages.specs.declared.narrow_averages.NarrowAverage.{NarrowA
 abbrev pub average_read : NarrowAverageRead → Formula
 average_read x = read x.stage x.row.now x.col.now
 
+abbrev pub sum_formula : NarrowAverageSum → Formula
+sum_formula (Two a b) = binary Add (average_read a) (average_read b)
+sum_formula (Four a b c d) = binary Add (binary Add (binary Add (average_read a) (average_read b)) (average_read c)) (average_read d)
+
 abbrev pub average_formula : NarrowAverage → Formula
-average_formula p = literal p.op (binary Add (average_read p.left) (average_read p.right)) p.literal
+average_formula p = literal p.op (sum_formula p.sum) p.literal
 
 -- ---- what can be computed of them
 
@@ -26,9 +32,12 @@ ShiftsBy op n bits = (v : ℤ) → literal_value op v n ≡ floor_div v (pos (2 
 abbrev pub IsRightRead : NarrowAverageRead → Type 0
 IsRightRead x = (x.col.now.mul ≡ pos 1) × (x.col.now.div ≡ pos 1)
 
+abbrev pub IsRightSum : NarrowAverageSum → Type 0
+IsRightSum (Two a b) = IsRightRead a × IsRightRead b
+IsRightSum (Four a b c d) = IsRightRead a × IsRightRead b × IsRightRead c × IsRightRead d
+
 -- the operation shifts by these bits, which are fewer than 16
 pub record IsRightAverage (p : NarrowAverage) : Type 0 where
-  pub left : IsRightRead p.left
-  pub right : IsRightRead p.right
+  pub sum : IsRightSum p.sum
   pub few : p.bits < 16
   pub shift : ShiftsBy p.op p.literal p.bits

@@ -1,16 +1,18 @@
 #![tactic(auto)]
-//! Averages: sums of two reads, shifted to the right.
+//! Averages: sums of two or four reads, shifted to the right.
 
 ghost use Rattle.std.specs.Prelude.{◌≡◌, ◌<◌, ◌^◌, ◌+ℤ◌, ℤ, pos, [], Some, length, map, IfSome};
 ghost use Rattle.std.specs.Option.{option_map};
 ghost use Rattle.domains.specs.Arithmetic.{floor_div};
 ghost use Rattle.domains.specs.Index.{index_at};
+ghost use Rattle.job.specs.Formula.{binary};
 ghost use Rattle.job.specs.Reads.{EachRead};
 ghost use Rattle.job.specs.Values.{formula_value, literal_value};
 ghost use Rattle.job.specs.Views.{case_view, formula_view};
+ghost use Rattle.operators.specs.declared.operator.BinaryOp.TheVariants.{Add};
 ghost use Rattle.row_loops.specs.Rows.{EachPlace, at};
 ghost use Rattle.value_ranges.specs.Narrow.{Fits16, IsNarrow};
-ghost use Rattle.narrow_averages.specs.NarrowAverages.{average_formula, average_read, ShiftsBy, IsRightRead, IsRightAverage};
+ghost use Rattle.narrow_averages.specs.NarrowAverages.{average_formula, average_read, sum_formula, ShiftsBy, IsRightRead, IsRightSum, IsRightAverage};
 
 use domains::Index;
 use job::{Formula, Function};
@@ -26,11 +28,22 @@ pub struct NarrowAverageRead<'a> {
     col: &'a Index,
 }
 
-/// The sum of two reads, and the operation with a literal that shifts it to the right.
+/// The reads of a sum, in their order.
+#[derive(Clone, Copy)]
+pub enum NarrowAverageSum<'a> {
+    Two(NarrowAverageRead<'a>, NarrowAverageRead<'a>),
+    Four(
+        NarrowAverageRead<'a>,
+        NarrowAverageRead<'a>,
+        NarrowAverageRead<'a>,
+        NarrowAverageRead<'a>,
+    ),
+}
+
+/// A sum of reads, and the operation with a literal that shifts it to the right.
 #[derive(Clone, Copy)]
 pub struct NarrowAverage<'a> {
-    left: NarrowAverageRead<'a>,
-    right: NarrowAverageRead<'a>,
+    sum: NarrowAverageSum<'a>,
     op: LiteralOp,
     literal: u32,
     // By how many bits it shifts.
@@ -73,6 +86,37 @@ fn find_narrow_average_shift(op: LiteralOp, literal: u32) -> Option<u32>
     }
 }
 
+// Two formulas that are added.
+fn split_narrow_average_sum(formula: &Formula) -> Option<(&Formula, &Formula)>
+    ensures { IfSome result (λ it. formula_view formula.now
+        ≡ binary Add (formula_view it.0.now) (formula_view it.1.now)) }
+{
+    match formula {
+        Formula::Binary(BinaryOp::Add, front, last) => Some((front, last)),
+        _ => None,
+    }
+}
+
+// A sum of two reads, or of four.
+fn match_narrow_average_sum(formula: &Formula) -> Option<NarrowAverageSum<'_>>
+    ensures some { IfSome result (λ it. formula_view formula.now ≡ sum_formula it) }
+    ensures right { IfSome result IsRightSum }
+{
+    let (front, last) = split_narrow_average_sum(formula)?;
+    let last = match_narrow_average_read(last)?;
+    if let Some(first) = match_narrow_average_read(front) {
+        return Some(NarrowAverageSum::Two(first, last));
+    }
+    let (front, third) = split_narrow_average_sum(front)?;
+    let (first, second) = split_narrow_average_sum(front)?;
+    Some(NarrowAverageSum::Four(
+        match_narrow_average_read(first)?,
+        match_narrow_average_read(second)?,
+        match_narrow_average_read(third)?,
+        last,
+    ))
+}
+
 // A formula that is an average.
 fn match_narrow_average(formula: &Formula) -> Option<NarrowAverage<'_>>
     ensures some { IfSome result (λ it. formula_view formula.now ≡ average_formula it) }
@@ -81,12 +125,8 @@ fn match_narrow_average(formula: &Formula) -> Option<NarrowAverage<'_>>
     let Formula::Literal(op, of, literal) = formula else {
         return None;
     };
-    let Formula::Binary(BinaryOp::Add, left, right) = &**of else {
-        return None;
-    };
     Some(NarrowAverage {
-        left: match_narrow_average_read(left)?,
-        right: match_narrow_average_read(right)?,
+        sum: match_narrow_average_sum(of)?,
         op: *op,
         literal: *literal,
         bits: find_narrow_average_shift(*op, *literal)?,
@@ -126,27 +166,63 @@ fn borrow_narrow_average_line<'a, S: NarrowSource>(
     source.borrow_narrow_row(read.stage, row, first, points.len)
 }
 
-// The sum of two numbers, which fits in 16 bits, shifted to the right.
+// A sum that fits in 16 bits, shifted to the right.
 #[inline(always)]
-fn shift_narrow_average_sum(left: i16, right: i16, bits: u32) -> i16
-    requires bits { bits < 16 }
-    requires fits { Fits16 (left +ℤ right) }
-    ensures { result ≡ floor_div (left +ℤ right) (pos (2 ^ bits)) }
+fn shift_narrow_average_sum(sum: i16, bits: u32) -> i16
+    requires { bits < 16 }
+    ensures { result ≡ floor_div sum (pos (2 ^ bits)) }
 {
-    (left + right) >> bits
+    sum >> bits
 }
 
-// Writes the sums of two lines, each of which fits in 16 bits, shifted to the right.
-fn write_shifted_narrow_average_sums(out: &mut [i16], left: &[i16], right: &[i16], bits: u32)
-    requires left { length left.now ≡ length out.old }
-    requires right { length right.now ≡ length out.old }
+// Writes the sums of two lines, shifted to the right, where each sum fits in 16 bits.
+fn write_narrow_averages_of_two(out: &mut [i16], a: &[i16], b: &[i16], bits: u32)
+    requires a { length a.now ≡ length out.old }
+    requires b { length b.now ≡ length out.old }
     requires bits { bits < 16 }
-    requires fits { EachPlace (length out.old) (λ k. Fits16 (at left.now k +ℤ at right.now k)) }
+    requires fits { EachPlace (length out.old) (λ k. Fits16 (at a.now k +ℤ at b.now k)) }
     ensures { EachPlace (length out.old) (λ k. at out.new k
-        ≡ floor_div (at left.now k +ℤ at right.now k) (pos (2 ^ bits))) }
+        ≡ floor_div (at a.now k +ℤ at b.now k) (pos (2 ^ bits))) }
 {
     for k in 0..out.len() {
-        out[k] = shift_narrow_average_sum(left[k], right[k], bits);
+        out[k] = shift_narrow_average_sum(a[k] + b[k], bits);
+    }
+}
+
+// The sum of four numbers, where each sum of the first ones fits in 16 bits, shifted to the right.
+#[inline(always)]
+fn compute_narrow_average_of_four(a: i16, b: i16, c: i16, d: i16, bits: u32) -> i16
+    requires bits { bits < 16 }
+    requires two { Fits16 (a +ℤ b) }
+    requires three { Fits16 (a +ℤ b +ℤ c) }
+    requires four { Fits16 (a +ℤ b +ℤ c +ℤ d) }
+    ensures { result ≡ floor_div (a +ℤ b +ℤ c +ℤ d) (pos (2 ^ bits)) }
+{
+    shift_narrow_average_sum(a + b + c + d, bits)
+}
+
+// Writes the sums of four lines, shifted to the right, where each sum of the first ones fits in 16 bits.
+fn write_narrow_averages_of_four(
+    out: &mut [i16],
+    a: &[i16],
+    b: &[i16],
+    c: &[i16],
+    d: &[i16],
+    bits: u32,
+)
+    requires a { length a.now ≡ length out.old }
+    requires b { length b.now ≡ length out.old }
+    requires c { length c.now ≡ length out.old }
+    requires d { length d.now ≡ length out.old }
+    requires bits { bits < 16 }
+    requires fits { EachPlace (length out.old) (λ k. Fits16 (at a.now k +ℤ at b.now k)
+        × Fits16 (at a.now k +ℤ at b.now k +ℤ at c.now k)
+        × Fits16 (at a.now k +ℤ at b.now k +ℤ at c.now k +ℤ at d.now k)) }
+    ensures { EachPlace (length out.old) (λ k. at out.new k
+        ≡ floor_div (at a.now k +ℤ at b.now k +ℤ at c.now k +ℤ at d.now k) (pos (2 ^ bits))) }
+{
+    for k in 0..out.len() {
+        out[k] = compute_narrow_average_of_four(a[k], b[k], c[k], d[k], bits);
     }
 }
 
@@ -169,7 +245,18 @@ pub fn write_narrow_average<S: NarrowSource>(
         ≡ formula_value (S.samples source.now) (average_formula average.now) points.now.row
         (points.now.col +ℤ pos k)) }
 {
-    let left = borrow_narrow_average_line(source, &average.left, points);
-    let right = borrow_narrow_average_line(source, &average.right, points);
-    write_shifted_narrow_average_sums(out, left, right, average.bits);
+    match &average.sum {
+        NarrowAverageSum::Two(first, last) => {
+            let a = borrow_narrow_average_line(source, first, points);
+            let b = borrow_narrow_average_line(source, last, points);
+            write_narrow_averages_of_two(out, a, b, average.bits);
+        }
+        NarrowAverageSum::Four(first, second, third, last) => {
+            let a = borrow_narrow_average_line(source, first, points);
+            let b = borrow_narrow_average_line(source, second, points);
+            let c = borrow_narrow_average_line(source, third, points);
+            let d = borrow_narrow_average_line(source, last, points);
+            write_narrow_averages_of_four(out, a, b, c, d, average.bits);
+        }
+    }
 }

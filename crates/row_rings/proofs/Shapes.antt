@@ -13,6 +13,10 @@ use Rattle.job.specs.ReadViews.{same_reads-prop}
 use Rattle.job.specs.Values.{Valuation, formula_value}
 use Rattle.job.specs.Views.{stage_view}
 use Rattle.job.specs.declared.stage.Stage.{Stage as KeptStage}
+use Rattle.narrow_averages.specs.NarrowAverages.{sum_formula, average_formula}
+use Rattle.narrow_averages.specs.declared.narrow_averages.NarrowAverage.{NarrowAverage}
+use Rattle.narrow_averages.specs.declared.narrow_averages.NarrowAverageSum.{NarrowAverageSum}
+use Rattle.narrow_averages.specs.declared.narrow_averages.NarrowAverageSum.TheVariants.{Two, Four}
 use Rattle.narrow_filters.specs.Filters.{taps_formula, filter_formula}
 use Rattle.narrow_filters.specs.declared.filter.NarrowFilter.{NarrowFilter}
 use Rattle.narrow_filters.specs.declared.filter.NarrowFilterCenter.{NarrowFilterCenter}
@@ -44,6 +48,16 @@ pub formula_everywhere : (env : Valuation) (f : Formula) (cases : List JobCase) 
     → IsFormulaBody f (function cases otherwise) → formula_value env f r c ≡ function_value env cases otherwise r c
 formula_everywhere env f cases otherwise r c is =
     ∥∥₁_elim is (hlevel props) (λ e i. function_value env (sym e.0 i) (sym e.1 i) r c)
+
+-- ---- averages
+
+-- an average is narrow at a point in one way
+sum_narrow-prop : (env : Valuation) (s : NarrowAverageSum) (r c : ℤ) → IsProp (IsNarrow env (sum_formula s) r c)
+sum_narrow-prop env (Two a b) r c = hlevel props
+sum_narrow-prop env (Four a b d e) r c = hlevel props
+
+pub average_narrow-prop : (env : Valuation) (average : NarrowAverage) (r c : ℤ) → IsProp (IsNarrow env (average_formula average) r c)
+average_narrow-prop env average r c = hlevel (sum_narrow-prop env average.sum r c, props)
 
 -- ---- filters
 

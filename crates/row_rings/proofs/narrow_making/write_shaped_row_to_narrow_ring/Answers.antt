@@ -1,5 +1,4 @@
 use Rattle.std.proofs.Common.{arith, ◌+ℤ◌, pos, map, ◌∙◌, subst}
-use Rattle.std.proofs.Props.{props}
 use Rattle.std.specs.Option.{option_map}
 use Rattle.job.specs.Pipeline.{function}
 use Rattle.job.specs.Views.{case_view, formula_view}
@@ -8,7 +7,7 @@ use Rattle.narrow_filters.specs.Filters.{filter_formula}
 use Rattle.narrow_averages.specs.NarrowAverages.{average_formula}
 use Rattle.row_rings.specs.NarrowShapes.{IsShapeOf}
 use Rattle.row_rings.specs.declared.narrow_shapes.NarrowShape.{NarrowShape}
-use Rattle.row_rings.proofs.Shapes.{formula_read, formula_narrow, formula_everywhere, filter_narrow-prop}
+use Rattle.row_rings.proofs.Shapes.{formula_read, formula_narrow, formula_everywhere, average_narrow-prop, filter_narrow-prop}
 use Rattle.row_rings.proofs.narrow_making.write_shaped_row_to_narrow_ring.Goals as goal
 
 -- ---- a mix
@@ -73,7 +72,7 @@ write_narrow_average-requires-clause-narrow g c = λ k h.
     let is = subst (λ (shape : NarrowShape). IsShapeOf shape (function (map case_view f.cases.items) (option_map formula_view f.otherwise)))
     c.in-Average.is c.requires.shape in
     formula_narrow (g.S.NarrowSource.samples c.args.source.now) (average_formula c.in-Average.average) (map case_view f.cases.items)
-    (option_map formula_view f.otherwise) _ _ (hlevel props) is.0
+    (option_map formula_view f.otherwise) _ _ (average_narrow-prop (g.S.NarrowSource.samples c.args.source.now) c.in-Average.average _ _) is.0
     ((c.requires.function is.2).narrow k (omega (arith, h, c.requires.fits)))
 
 pub returns-in-Average : goal.returns-in-Average
