@@ -29,10 +29,11 @@ choice_formula p = select (difference_formula p.near) AtMost (difference_formula
 abbrev pub IsRightRead : NarrowChoiceRead → Type 0
 IsRightRead x = (x.col.now.mul ≡ pos 1) × (x.col.now.div ≡ pos 1)
 
+-- of both reads
 abbrev pub IsRightDifference : NarrowChoiceDifference → Type 0
 IsRightDifference d = IsRightRead d.left × IsRightRead d.right
 
--- so do those of all reads
+-- of all reads
 pub record IsRightChoice (p : NarrowChoice) : Type 0 where
   pub near : IsRightDifference p.near
   pub far : IsRightDifference p.far
@@ -42,13 +43,13 @@ pub record IsRightChoice (p : NarrowChoice) : Type 0 where
 -- ---- the numbers at a place
 
 -- how far two numbers lie apart
-abbrev pub apart : ℤ → ℤ → ℤ
-apart a b = unary_value Abs (binary_value Sub a b)
+abbrev pub absolute_difference : ℤ → ℤ → ℤ
+absolute_difference a b = unary_value Abs (binary_value Sub a b)
 
 -- their difference fits in 16 bits, and so does its absolute value
-abbrev pub FitApart : ℤ → ℤ → Type 0
-FitApart a b = Fits16 (binary_value Sub a b) × Fits16 (apart a b)
+abbrev pub FitsDifference : ℤ → ℤ → Type 0
+FitsDifference a b = Fits16 (binary_value Sub a b) × Fits16 (absolute_difference a b)
 
 -- the first number where the two near ones lie at most as far apart as the two far ones, else the other one
 abbrev pub choice_value : (a b c d first other : ℤ) → ℤ
-choice_value a b c d first other = if int_le (apart a b) (apart c d) then first else other
+choice_value a b c d first other = if int_le (absolute_difference a b) (absolute_difference c d) then first else other

@@ -1,5 +1,5 @@
-//! Functions that are one of two reads everywhere, as the lesser of two absolute differences tells, as a choice along an edge is. They
-//! are written in one pass.
+//! Functions that take one of two reads at each point: the first where one absolute difference of two reads is at most another.
+//! They are written in one pass.
 //!
 //! Words: narrow choice.
 #![tactic(auto)]

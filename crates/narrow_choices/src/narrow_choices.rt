@@ -11,7 +11,7 @@ ghost use Rattle.job.specs.Values.{formula_value};
 ghost use Rattle.job.specs.Views.{case_view, formula_view};
 ghost use Rattle.row_loops.specs.Rows.{EachPlace, at};
 ghost use Rattle.value_ranges.specs.Narrow.{IsNarrow};
-ghost use Rattle.narrow_choices.specs.NarrowChoices.{choice_read, difference_formula, choice_formula, IsRightRead, IsRightDifference, IsRightChoice, apart, FitApart, choice_value};
+ghost use Rattle.narrow_choices.specs.NarrowChoices.{choice_read, difference_formula, choice_formula, IsRightRead, IsRightDifference, IsRightChoice, absolute_difference, FitsDifference, choice_value};
 
 use domains::Index;
 use job::{Formula, Function};
@@ -34,7 +34,8 @@ pub struct NarrowChoiceDifference<'a> {
     right: NarrowChoiceRead<'a>,
 }
 
-/// Two reads, and the two differences that tell them: the first one is taken where the near difference is at most the far one.
+/// Two reads, and the two differences that choose between them: the first read is taken where the near difference is at most
+/// the far one.
 #[derive(Clone, Copy)]
 pub struct NarrowChoice<'a> {
     near: NarrowChoiceDifference<'a>,
@@ -129,7 +130,7 @@ fn borrow_narrow_choice_line<'a, S: NarrowSource>(
 // The difference of two numbers.
 #[inline(always)]
 fn subtract_for_narrow_choice(left: i16, right: i16) -> i16
-    requires { FitApart left right }
+    requires { FitsDifference left right }
     ensures { result ≡ binary_value Sub left right }
 {
     left - right
@@ -138,8 +139,8 @@ fn subtract_for_narrow_choice(left: i16, right: i16) -> i16
 // How far two numbers lie apart.
 #[inline(always)]
 fn compute_narrow_choice_difference(left: i16, right: i16) -> i16
-    requires { FitApart left right }
-    ensures { result ≡ apart left right }
+    requires { FitsDifference left right }
+    ensures { result ≡ absolute_difference left right }
 {
     subtract_for_narrow_choice(left, right).wrapping_abs()
 }
@@ -155,8 +156,8 @@ fn take_narrow_choice(holds: bool, first: i16, other: i16) -> i16
 // The choice between two numbers at one place.
 #[inline(always)]
 fn compute_narrow_choice(near: (i16, i16), far: (i16, i16), first: i16, other: i16) -> i16
-    requires near { FitApart near.0 near.1 }
-    requires far { FitApart far.0 far.1 }
+    requires near { FitsDifference near.0 near.1 }
+    requires far { FitsDifference far.0 far.1 }
     ensures { result ≡ choice_value near.0 near.1 far.0 far.1 first other }
 {
     let near = compute_narrow_choice_difference(near.0, near.1);
@@ -176,8 +177,9 @@ fn write_numbers_of_narrow_choice(
     requires far { (length far.0.now ≡ length out.old) × (length far.1.now ≡ length out.old) }
     requires first { length first.now ≡ length out.old }
     requires other { length other.now ≡ length out.old }
-    requires fits { EachPlace (length out.old) (λ k. FitApart (at near.0.now k) (at near.1.now k)
-        × FitApart (at far.0.now k) (at far.1.now k)) }
+    requires fits { EachPlace (length out.old)
+        (λ k. FitsDifference (at near.0.now k) (at near.1.now k)
+        × FitsDifference (at far.0.now k) (at far.1.now k)) }
     ensures { EachPlace (length out.old) (λ k. at out.new k
         ≡ choice_value (at near.entry.0.now k) (at near.entry.1.now k) (at far.entry.0.now k)
         (at far.entry.1.now k) (at first.now k) (at other.now k)) }
