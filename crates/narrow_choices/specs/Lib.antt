@@ -1,0 +1,2 @@
+pub mod NarrowChoices
+pub mod ChoicesOnce
