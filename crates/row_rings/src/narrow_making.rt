@@ -27,10 +27,12 @@ use crate::ring::{RowRing, RowRings};
 use domains::Area;
 use job::{Body, Function, Job};
 use narrow_averages::write_narrow_average;
+use narrow_choices::write_narrow_choice;
 use narrow_eval::{NarrowSource, evaluate_narrow_formula, evaluate_narrow_function};
 use narrow_filters::write_narrow_filter;
 use narrow_halves::{find_narrow_halves, write_narrow_halves};
 use narrow_kernels::convert_samples_to_narrow_row;
+use narrow_limits::write_narrow_limit;
 use narrow_mixes::write_narrow_mix;
 use narrow_pieces::write_narrow_pieces;
 use netpbm::Picture;
@@ -125,6 +127,8 @@ fn write_shaped_row_to_narrow_ring<S: NarrowSource>(
         NarrowShape::Mix(mix) => write_narrow_mix(source, mix, points, out),
         NarrowShape::Pieces(pieces) => write_narrow_pieces(source, function, pieces, points, out),
         NarrowShape::Average(average) => write_narrow_average(source, average, points, out),
+        NarrowShape::Limit(limit) => write_narrow_limit(source, limit, points, out),
+        NarrowShape::Choice(choice) => write_narrow_choice(source, choice, points, out),
         NarrowShape::Filter(filter) => write_narrow_filter(source, filter, points, out),
         NarrowShape::Halves => write_halved_row_to_narrow_ring(
             source, function, points, out, temps,

@@ -11,19 +11,23 @@ ghost use Rattle.row_rings.specs.NarrowShapes.{IsShapeOf, AreShapesOf};
 
 use job::{Body, Function, Job, Stage};
 use narrow_averages::{NarrowAverage, find_narrow_average};
+use narrow_choices::{NarrowChoice, find_narrow_choice};
 use narrow_filters::{NarrowFilter, find_narrow_filter};
 use narrow_halves::find_narrow_halves;
+use narrow_limits::{NarrowLimit, find_narrow_limit};
 use narrow_mixes::{NarrowMix, find_narrow_mix};
 use narrow_pieces::{NarrowPieces, find_narrow_pieces};
 use std::alloc::{AllocError, Global};
 
-/// How the rows of a stage are made: as those of a mix, from pieces, as those of an average or a filter, from halves where the row has
-/// them, or by its formulas.
+/// How the rows of a stage are made: as those of a function of a kind that is written in one pass or a few, from halves where the row
+/// has them, or by its formulas.
 #[derive(Drop)]
 pub(crate) enum NarrowShape<'a> {
     Mix(NarrowMix<'a>),
     Pieces(NarrowPieces<'a>),
     Average(NarrowAverage<'a>),
+    Limit(NarrowLimit<'a>),
+    Choice(NarrowChoice<'a>),
     Filter(NarrowFilter<'a>),
     Halves,
     Other,
@@ -44,6 +48,12 @@ fn find_narrow_ring_shape_besides_mix<'a>(
     }
     if let Some(average) = find_narrow_average(function) {
         return Ok(NarrowShape::Average(average));
+    }
+    if let Some(limit) = find_narrow_limit(function) {
+        return Ok(NarrowShape::Limit(limit));
+    }
+    if let Some(choice) = find_narrow_choice(function) {
+        return Ok(NarrowShape::Choice(choice));
     }
     if let Some(filter) = find_narrow_filter(alloc, function)? {
         return Ok(NarrowShape::Filter(filter));

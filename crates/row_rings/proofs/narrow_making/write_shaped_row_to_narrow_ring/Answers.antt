@@ -1,8 +1,11 @@
 use Rattle.std.proofs.Common.{arith, ◌+ℤ◌, pos, map, ◌∙◌, subst}
+use Rattle.std.proofs.Props.{props}
 use Rattle.std.specs.Option.{option_map}
 use Rattle.job.specs.Pipeline.{function}
 use Rattle.job.specs.Views.{case_view, formula_view}
 use Rattle.narrow_mixes.specs.NarrowMixes.{mix_formula}
+use Rattle.narrow_choices.specs.NarrowChoices.{choice_formula}
+use Rattle.narrow_limits.specs.NarrowLimits.{limit_formula}
 use Rattle.narrow_filters.specs.Filters.{filter_formula}
 use Rattle.narrow_averages.specs.NarrowAverages.{average_formula}
 use Rattle.row_rings.specs.NarrowShapes.{IsShapeOf}
@@ -82,6 +85,65 @@ returns-in-Average g c = λ k h.
     c.in-Average.is c.requires.shape in
     c.write_narrow_average.ensures k h
     ∙ formula_everywhere (g.S.NarrowSource.samples c.args.source.now) (average_formula c.in-Average.average) (map case_view f.cases.items)
+    (option_map formula_view f.otherwise) _ _ is.0
+
+-- ---- a limit
+
+pub write_narrow_limit-requires-clause-right : goal.write_narrow_limit-requires-clause-right
+write_narrow_limit-requires-clause-right g c =
+    let f = c.args.function.now in
+    (subst (λ (shape : NarrowShape). IsShapeOf shape (function (map case_view f.cases.items) (option_map formula_view f.otherwise)))
+    c.in-Limit.is c.requires.shape).1
+
+pub write_narrow_limit-requires-clause-reads : goal.write_narrow_limit-requires-clause-reads
+write_narrow_limit-requires-clause-reads g c = λ k h.
+    let f = c.args.function.now in
+    let is = subst (λ (shape : NarrowShape). IsShapeOf shape (function (map case_view f.cases.items) (option_map formula_view f.otherwise)))
+    c.in-Limit.is c.requires.shape in
+    formula_read (g.S.NarrowSource.has c.args.source.now) (limit_formula c.in-Limit.limit) (map case_view f.cases.items)
+    (option_map formula_view f.otherwise) _ _ is.0 (c.requires.reads k (omega (arith, h, c.requires.fits)))
+
+pub returns-in-Limit : goal.returns-in-Limit
+returns-in-Limit g c = λ k h.
+    let f = c.args.function.now in
+    let is = subst (λ (shape : NarrowShape). IsShapeOf shape (function (map case_view f.cases.items) (option_map formula_view f.otherwise)))
+    c.in-Limit.is c.requires.shape in
+    c.write_narrow_limit.ensures k h
+    ∙ formula_everywhere (g.S.NarrowSource.samples c.args.source.now) (limit_formula c.in-Limit.limit) (map case_view f.cases.items)
+    (option_map formula_view f.otherwise) _ _ is.0
+
+-- ---- a choice
+
+pub write_narrow_choice-requires-clause-right : goal.write_narrow_choice-requires-clause-right
+write_narrow_choice-requires-clause-right g c =
+    let f = c.args.function.now in
+    (subst (λ (shape : NarrowShape). IsShapeOf shape (function (map case_view f.cases.items) (option_map formula_view f.otherwise)))
+    c.in-Choice.is c.requires.shape).1
+
+pub write_narrow_choice-requires-clause-reads : goal.write_narrow_choice-requires-clause-reads
+write_narrow_choice-requires-clause-reads g c = λ k h.
+    let f = c.args.function.now in
+    let is = subst (λ (shape : NarrowShape). IsShapeOf shape (function (map case_view f.cases.items) (option_map formula_view f.otherwise)))
+    c.in-Choice.is c.requires.shape in
+    formula_read (g.S.NarrowSource.has c.args.source.now) (choice_formula c.in-Choice.choice) (map case_view f.cases.items)
+    (option_map formula_view f.otherwise) _ _ is.0 (c.requires.reads k (omega (arith, h, c.requires.fits)))
+
+pub write_narrow_choice-requires-clause-narrow : goal.write_narrow_choice-requires-clause-narrow
+write_narrow_choice-requires-clause-narrow g c = λ k h.
+    let f = c.args.function.now in
+    let is = subst (λ (shape : NarrowShape). IsShapeOf shape (function (map case_view f.cases.items) (option_map formula_view f.otherwise)))
+    c.in-Choice.is c.requires.shape in
+    formula_narrow (g.S.NarrowSource.samples c.args.source.now) (choice_formula c.in-Choice.choice) (map case_view f.cases.items)
+    (option_map formula_view f.otherwise) _ _ (hlevel props) is.0
+    ((c.requires.function is.2).narrow k (omega (arith, h, c.requires.fits)))
+
+pub returns-in-Choice : goal.returns-in-Choice
+returns-in-Choice g c = λ k h.
+    let f = c.args.function.now in
+    let is = subst (λ (shape : NarrowShape). IsShapeOf shape (function (map case_view f.cases.items) (option_map formula_view f.otherwise)))
+    c.in-Choice.is c.requires.shape in
+    c.write_narrow_choice.ensures k h
+    ∙ formula_everywhere (g.S.NarrowSource.samples c.args.source.now) (choice_formula c.in-Choice.choice) (map case_view f.cases.items)
     (option_map formula_view f.otherwise) _ _ is.0
 
 -- ---- a filter
