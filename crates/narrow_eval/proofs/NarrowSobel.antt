@@ -1,10 +1,11 @@
 -- The sums under the kernels of Sobel.
-use Rattle.std.proofs.Common.{arith, ℕ, ℤ, ◌≡◌, ◌+◌, ◌<◌, pos, negsuc, ◌+ℤ◌, ◌*ℤ◌, List, [], ◌∷◌, length, Bool, true, false, true≢false, sym, ap, subst, refl, ◌∙◌, w16}
+use Rattle.std.proofs.Common.{arith, ℕ, ℤ, ◌≡◌, ◌+◌, ◌<◌, ◌^◌, pos, negsuc, ◌+ℤ◌, ◌*ℤ◌, List, [], ◌∷◌, length, Bool, true, false, true≢false, sym, ap, subst, refl, ◌∙◌, w16}
 use Rattle.std.specs.Prelude.{◌&&◌}
 use Rattle.std.specs.Ordering.{int_eq}
 use Rattle.std.specs.Int.{int_wrap}
 use Rattle.std.proofs.lemmas.Bool.Decides.{Decides-int_eq}
 use Rattle.std.proofs.lemmas.Int.{ints}
+use Rattle.domains.specs.Arithmetic.{floor_div}
 use Rattle.job.specs.Values.{sum_below, under, factors, weighted_sum}
 use Rattle.row_loops.specs.Rows.{at}
 use Rattle.tile_eval.specs.inside.Stencil.{IsUnder}
@@ -111,7 +112,7 @@ module _ (f : ℤ → ℤ → ℤ) (r c : ℤ) (a b d : List ℤ) (k : ℕ) wher
       (first a _ (tap_down 0 0 a x (omega arith)) i) (tap_down 0 1 a x (omega arith) i) (tap_down 0 2 a x (omega arith) i))
       ∙ down_sum number
 
-  pub sobel_is : (sobel : NarrowSobel) (rows : List (List ℤ)) → is_sobel sobel rows ≡ true → IsLine rows 0 a → IsLine rows 1 b
+  sobel_is : (sobel : NarrowSobel) (rows : List (List ℤ)) → is_sobel sobel rows ≡ true → IsLine rows 0 a → IsLine rows 1 b
       → IsLine rows 2 d → (y : ℤ) → y ≡ int_wrap w16 (sobel_sum sobel a b d k)
       → y ≡ int_wrap w16 (weighted_sum rows f r (c +ℤ pos k))
   sobel_is sobel rows is u v w y e =
@@ -120,3 +121,10 @@ module _ (f : ℤ → ℤ → ℤ) (r c : ℤ) (a b d : List ℤ) (k : ℕ) wher
       total sobel (subst (λ (rs : List (List ℤ)). IsLine rs 0 a) same u) (subst (λ (rs : List (List ℤ)). IsLine rs 1 b) same v)
       (subst (λ (rs : List (List ℤ)). IsLine rs 2 d) same w) in
       e ∙ ap (int_wrap w16) (exact ∙ ap (λ (rs : List (List ℤ)). weighted_sum rs f r (c +ℤ pos k)) (sym same))
+
+  -- and shifted
+  pub shifted_sobel_is : (sobel : NarrowSobel) (rows : List (List ℤ)) → is_sobel sobel rows ≡ true → (bits : ℕ) → IsLine rows 0 a
+      → IsLine rows 1 b → IsLine rows 2 d → (y : ℤ) → y ≡ floor_div (int_wrap w16 (sobel_sum sobel a b d k)) (pos (2 ^ bits))
+      → y ≡ floor_div (int_wrap w16 (weighted_sum rows f r (c +ℤ pos k))) (pos (2 ^ bits))
+  shifted_sobel_is sobel rows is bits u v w y e =
+      e ∙ ap (λ (z : ℤ). floor_div z (pos (2 ^ bits))) (sobel_is sobel rows is u v w _ refl)

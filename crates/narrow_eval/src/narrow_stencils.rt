@@ -1,7 +1,7 @@
 #![tactic(auto)]
 //! Stencils along rows of points, in 16 bits.
 
-ghost use Rattle.std.specs.Prelude.{◌≡◌, ◌<◌, ◌≤◌, ◌+◌, ◌+ℤ◌, pos, suc, ℕ, ℤ, true, length};
+ghost use Rattle.std.specs.Prelude.{◌≡◌, ◌<◌, ◌≤◌, ◌+◌, ◌^◌, ◌+ℤ◌, pos, suc, ℕ, ℤ, true, length, IfSome};
 ghost use Rattle.std.specs.Int.{w16, int_wrap};
 ghost use Rattle.domains.specs.Arithmetic.{wrapped, floor_div};
 ghost use Rattle.job.specs.Values.{kernel_row, kernel_column, weighted_sum};
@@ -66,6 +66,20 @@ pub fn borrow_narrow_stencil_line<'a, S: NarrowSource>(
     source.borrow_narrow_row(stage, row, col, count)
 }
 
+// By how many bits a division shifts to the right, if it does, and by fewer than 16.
+fn find_narrow_stencil_shift(divisor: u32) -> Option<u32>
+    requires { IsDivisor divisor }
+    ensures few { IfSome result (λ bits. bits < 16) }
+    ensures shift { IfSome result (λ bits. 2 ^ bits ≡ divisor) }
+{
+    let bits = divisor.ilog2();
+    if bits < 16 && divisor == 1 << bits {
+        Some(bits)
+    } else {
+        None
+    }
+}
+
 impl<'a, S: NarrowSource> NarrowPoints<'a, S> {
     // Adds what a row of a kernel gives.
     fn add_narrow_stencil_row(
@@ -97,33 +111,35 @@ impl<'a, S: NarrowSource> NarrowPoints<'a, S> {
         add_narrow_stencil_products(line, factors, sum, out);
     }
 
-    // The sums of a stencil whose kernel is one of Sobel, wrapped at 16 bits.
-    fn write_narrow_stencil_sums_by_sobel(
+    // The values of a stencil whose kernel is one of Sobel and whose divisor is a power of two. The sums are wrapped at 16 bits.
+    fn write_narrow_stencil_by_sobel(
         &self,
         stage: usize,
         kernel: &Kernel,
         sobel: NarrowSobel,
+        bits: u32,
         out: &mut [i16],
     )
+        requires bits { bits < 16 }
         requires fits { length out.old ≡ self.now.points.len }
         requires kernel { IsKernel kernel.now }
         requires sobel { is_sobel sobel kernel.now ≡ true }
         requires reads { KernelWithin (S.has self.now.source.now stage) kernel.now
             self.now.points.row self.now.points.col (length out.old) }
         ensures { EachPlace (length out.old) (λ k. at out.new k
-            ≡ int_wrap w16 (weighted_sum kernel.now (S.samples self.now.source.now stage)
-            self.now.points.row (self.now.points.col +ℤ pos k))) }
+            ≡ floor_div (int_wrap w16 (weighted_sum kernel.now (S.samples self.now.source.now stage)
+            self.now.points.row (self.now.points.col +ℤ pos k))) (pos (2 ^ bits))) }
     {
         let count = out.len() + 2;
         let points = &self.points;
         let above = borrow_narrow_stencil_line(self.source, stage, kernel, 0, points, count);
         let own = borrow_narrow_stencil_line(self.source, stage, kernel, 1, points, count);
         let below = borrow_narrow_stencil_line(self.source, stage, kernel, 2, points, count);
-        write_narrow_sobel_sums(out, sobel, above, own, below);
+        write_narrow_sobel_sums(out, sobel, above, own, below, bits);
     }
 
-    // The sums of a stencil, wrapped at 16 bits, from the products of its factors.
-    fn write_narrow_stencil_sums_by_factors(&self, stage: usize, kernel: &Kernel, out: &mut [i16])
+    // The sums of a stencil, wrapped at 16 bits.
+    fn write_narrow_stencil_sums(&self, stage: usize, kernel: &Kernel, out: &mut [i16])
         requires fits { length out.old ≡ self.now.points.len }
         requires kernel { IsKernel kernel.now }
         requires reads { KernelWithin (S.has self.now.source.now stage) kernel.now
@@ -139,19 +155,29 @@ impl<'a, S: NarrowSource> NarrowPoints<'a, S> {
         sum.write_narrow_sum(out);
     }
 
-    // The sums of a stencil, wrapped at 16 bits.
-    fn write_narrow_stencil_sums(&self, stage: usize, kernel: &Kernel, out: &mut [i16])
+    // The values of a stencil, from the products of its factors.
+    fn evaluate_narrow_stencil_by_factors(
+        &self,
+        stage: usize,
+        divisor: u32,
+        kernel: &Kernel,
+        out: &mut [i16],
+    )
         requires fits { length out.old ≡ self.now.points.len }
+        requires divisor { IsDivisor divisor }
         requires kernel { IsKernel kernel.now }
+        requires narrow { EachPlace (length out.old)
+            (λ k. IsNarrowStencil (S.samples self.now.source.now stage) kernel.now
+            self.now.points.row (self.now.points.col +ℤ pos k)) }
         requires reads { KernelWithin (S.has self.now.source.now stage) kernel.now
             self.now.points.row self.now.points.col (length out.old) }
         ensures { EachPlace (length out.old) (λ k. at out.new k
-            ≡ int_wrap w16 (weighted_sum kernel.now (S.samples self.now.source.now stage)
-            self.now.points.row (self.now.points.col +ℤ pos k))) }
+            ≡ floor_div (wrapped (weighted_sum kernel.now (S.samples self.now.source.now stage)
+            self.now.points.row (self.now.points.col +ℤ pos k))) (pos divisor)) }
     {
-        match find_narrow_sobel(kernel) {
-            Some(sobel) => self.write_narrow_stencil_sums_by_sobel(stage, kernel, sobel, out),
-            None => self.write_narrow_stencil_sums_by_factors(stage, kernel, out),
+        self.write_narrow_stencil_sums(stage, kernel, out);
+        if divisor != 1 {
+            write_narrow_literal_op_results(LiteralOp::Div, out, NarrowOperand::Written, divisor);
         }
     }
 
@@ -175,9 +201,14 @@ impl<'a, S: NarrowSource> NarrowPoints<'a, S> {
             ≡ floor_div (wrapped (weighted_sum kernel.now (S.samples self.now.source.now stage)
             self.now.points.row (self.now.points.col +ℤ pos k))) (pos divisor)) }
     {
-        self.write_narrow_stencil_sums(stage, kernel, out);
-        if divisor != 1 {
-            write_narrow_literal_op_results(LiteralOp::Div, out, NarrowOperand::Written, divisor);
+        match (
+            find_narrow_sobel(kernel),
+            find_narrow_stencil_shift(divisor),
+        ) {
+            (Some(sobel), Some(bits)) => {
+                self.write_narrow_stencil_by_sobel(stage, kernel, sobel, bits, out)
+            }
+            _ => self.evaluate_narrow_stencil_by_factors(stage, divisor, kernel, out),
         }
     }
 }

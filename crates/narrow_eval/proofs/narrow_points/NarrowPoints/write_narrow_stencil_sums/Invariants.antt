@@ -1,7 +1,7 @@
 use Rattle.std.proofs.Common.{◌+ℤ◌, pos, length}
 use Rattle.narrow_eval.specs.NarrowStencils.{rows_below}
 use Rattle.narrow_eval.specs.NarrowSums.{HasAddends, GivesSum}
-use Rattle.narrow_eval.proofs.narrow_points.NarrowPoints.write_narrow_stencil_sums_by_factors.Given as goal
+use Rattle.narrow_eval.proofs.narrow_points.NarrowPoints.write_narrow_stencil_sums.Given as goal
 
 abbrev pub invariant-loop-a : goal.invariant-loop-a
 invariant-loop-a g l =

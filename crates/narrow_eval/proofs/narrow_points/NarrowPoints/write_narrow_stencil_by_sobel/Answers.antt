@@ -1,6 +1,6 @@
 use Rattle.std.proofs.Common.{arith, ◌<◌, length}
-use Rattle.narrow_eval.proofs.NarrowSobel.{sobel_is}
-use Rattle.narrow_eval.proofs.narrow_points.NarrowPoints.write_narrow_stencil_sums_by_sobel.Goals as goal
+use Rattle.narrow_eval.proofs.NarrowSobel.{shifted_sobel_is}
+use Rattle.narrow_eval.proofs.narrow_points.NarrowPoints.write_narrow_stencil_by_sobel.Goals as goal
 
 pub returns : goal.returns
 returns g c = λ k h.
@@ -9,7 +9,7 @@ returns g c = λ k h.
     let own = c.borrow_narrow_stencil_line-own in
     let below = c.borrow_narrow_stencil_line-below in
     let f = g.S.NarrowSource.samples c.args.self.now.source.now c.args.stage in
-    sobel_is f points.row points.col above.result.now own.result.now below.result.now k c.args.sobel c.args.kernel.now c.requires.sobel
+    shifted_sobel_is f points.row points.col above.result.now own.result.now below.result.now k c.args.sobel c.args.kernel.now c.requires.sobel c.args.bits
     (record { long = omega (arith, h, above.ensures.count); under_row = above.ensures.under })
     (record { long = omega (arith, h, own.ensures.count); under_row = own.ensures.under })
     (record { long = omega (arith, h, below.ensures.count); under_row = below.ensures.under })

@@ -2,7 +2,7 @@ use Rattle.std.proofs.Common.{arith, ℕ, ◌≡◌, ◌<◌, ◌+ℤ◌, pos, a
 use Rattle.narrow_eval.specs.NarrowStencils.{rows_below}
 use Rattle.narrow_eval.specs.NarrowSums.{HasAddends, GivesSum}
 use Rattle.narrow_eval.proofs.NarrowAddends.{no_addends, gives_nothing}
-use Rattle.narrow_eval.proofs.narrow_points.NarrowPoints.write_narrow_stencil_sums_by_factors.Goals as goal
+use Rattle.narrow_eval.proofs.narrow_points.NarrowPoints.write_narrow_stencil_sums.Goals as goal
 
 pub loop-a-init : goal.loop-a-init
 loop-a-init g c =
