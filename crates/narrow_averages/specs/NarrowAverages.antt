@@ -5,19 +5,16 @@ use Rattle.operators.specs.declared.operator.BinaryOp.TheVariants.{Add}
 use Rattle.operators.specs.declared.operator.LiteralOp.{LiteralOp}
 use Rattle.job.specs.Formula.{Formula, read, binary, literal}
 use Rattle.job.specs.Values.{literal_value}
-use Rattle.narrow_averages.specs.declared.narrow_averages.NarrowAverageRead.{NarrowAverageRead}
+use Rattle.adjacent_reads.specs.Reads.{read_formula, IsAdjacentRead}
 use Rattle.narrow_averages.specs.declared.narrow_averages.NarrowAverageSum.{NarrowAverageSum}
 use Rattle.narrow_averages.specs.declared.narrow_averages.NarrowAverageSum.TheVariants.{Two, Four}
 use Rattle.narrow_averages.specs.declared.narrow_averages.NarrowAverage.{NarrowAverage}
 
 -- ---- the formulas of their parts
 
-abbrev pub average_read : NarrowAverageRead → Formula
-average_read x = read x.stage x.row.now x.col.now
-
 abbrev pub sum_formula : NarrowAverageSum → Formula
-sum_formula (Two a b) = binary Add (average_read a) (average_read b)
-sum_formula (Four a b c d) = binary Add (binary Add (binary Add (average_read a) (average_read b)) (average_read c)) (average_read d)
+sum_formula (Two a b) = binary Add (read_formula a) (read_formula b)
+sum_formula (Four a b c d) = binary Add (binary Add (binary Add (read_formula a) (read_formula b)) (read_formula c)) (read_formula d)
 
 abbrev pub average_formula : NarrowAverage → Formula
 average_formula p = literal p.op (sum_formula p.sum) p.literal
@@ -28,13 +25,9 @@ average_formula p = literal p.op (sum_formula p.sum) p.literal
 abbrev pub ShiftsBy : LiteralOp → (literal bits : ℕ) → Type 0
 ShiftsBy op n bits = (v : ℤ) → literal_value op v n ≡ floor_div v (pos (2 ^ bits))
 
--- the index of the column only adds
-abbrev pub IsRightRead : NarrowAverageRead → Type 0
-IsRightRead x = (x.col.now.mul ≡ pos 1) × (x.col.now.div ≡ pos 1)
-
 abbrev pub IsRightSum : NarrowAverageSum → Type 0
-IsRightSum (Two a b) = IsRightRead a × IsRightRead b
-IsRightSum (Four a b c d) = IsRightRead a × IsRightRead b × IsRightRead c × IsRightRead d
+IsRightSum (Two a b) = IsAdjacentRead a × IsAdjacentRead b
+IsRightSum (Four a b c d) = IsAdjacentRead a × IsAdjacentRead b × IsAdjacentRead c × IsAdjacentRead d
 
 -- the operation shifts by these bits, which are fewer than 16
 pub record IsRightAverage (p : NarrowAverage) : Type 0 where

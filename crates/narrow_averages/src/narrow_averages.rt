@@ -4,7 +4,6 @@
 ghost use Rattle.std.specs.Prelude.{◌≡◌, ◌<◌, ◌^◌, ◌+ℤ◌, ℤ, pos, [], Some, length, map, IfSome};
 ghost use Rattle.std.specs.Option.{option_map};
 ghost use Rattle.domains.specs.Arithmetic.{floor_div};
-ghost use Rattle.domains.specs.Index.{index_at};
 ghost use Rattle.job.specs.Formula.{binary};
 ghost use Rattle.job.specs.Reads.{EachRead};
 ghost use Rattle.job.specs.Values.{formula_value, literal_value};
@@ -12,32 +11,19 @@ ghost use Rattle.job.specs.Views.{case_view, formula_view};
 ghost use Rattle.operators.specs.declared.operator.BinaryOp.TheVariants.{Add};
 ghost use Rattle.row_loops.specs.Rows.{EachPlace, at};
 ghost use Rattle.value_ranges.specs.Narrow.{Fits16, IsNarrow};
-ghost use Rattle.narrow_averages.specs.NarrowAverages.{average_formula, average_read, sum_formula, ShiftsBy, IsRightRead, IsRightSum, IsRightAverage};
+ghost use Rattle.narrow_averages.specs.NarrowAverages.{average_formula, sum_formula, ShiftsBy, IsRightSum, IsRightAverage};
 
-use domains::Index;
+use adjacent_reads::{AdjacentRead, borrow_adjacent_read, match_adjacent_read};
 use job::{Formula, Function};
 use narrow_eval::NarrowSource;
 use operators::{BinaryOp, LiteralOp};
 use row_kernels::RowSpan;
 
-/// A read. The index of the column only adds.
-#[derive(Clone, Copy)]
-pub struct NarrowAverageRead<'a> {
-    stage: usize,
-    row: &'a Index,
-    col: &'a Index,
-}
-
 /// The reads of a sum, in their order.
 #[derive(Clone, Copy)]
 pub enum NarrowAverageSum<'a> {
-    Two(NarrowAverageRead<'a>, NarrowAverageRead<'a>),
-    Four(
-        NarrowAverageRead<'a>,
-        NarrowAverageRead<'a>,
-        NarrowAverageRead<'a>,
-        NarrowAverageRead<'a>,
-    ),
+    Two(AdjacentRead<'a>, AdjacentRead<'a>),
+    Four(AdjacentRead<'a>, AdjacentRead<'a>, AdjacentRead<'a>, AdjacentRead<'a>),
 }
 
 /// A sum of reads, and the operation with a literal that shifts it to the right.
@@ -48,23 +34,6 @@ pub struct NarrowAverage<'a> {
     literal: u32,
     // By how many bits it shifts.
     bits: u32,
-}
-
-// A read whose samples can be borrowed.
-fn match_narrow_average_read(formula: &Formula) -> Option<NarrowAverageRead<'_>>
-    ensures some { IfSome result (λ it. formula_view formula.now ≡ average_read it) }
-    ensures right { IfSome result IsRightRead }
-{
-    match formula {
-        Formula::Read(stage, row, col) if col.mul() == 1 && col.div() == 1 => Some(
-            NarrowAverageRead {
-                stage: *stage,
-                row,
-                col,
-            },
-        ),
-        _ => None,
-    }
 }
 
 // By how many bits an operation with a literal shifts to the right, if it does, and by fewer than 16.
@@ -103,16 +72,16 @@ fn match_narrow_average_sum(formula: &Formula) -> Option<NarrowAverageSum<'_>>
     ensures right { IfSome result IsRightSum }
 {
     let (front, last) = split_narrow_average_sum(formula)?;
-    let last = match_narrow_average_read(last)?;
-    if let Some(first) = match_narrow_average_read(front) {
+    let last = match_adjacent_read(last)?;
+    if let Some(first) = match_adjacent_read(front) {
         return Some(NarrowAverageSum::Two(first, last));
     }
     let (front, third) = split_narrow_average_sum(front)?;
     let (first, second) = split_narrow_average_sum(front)?;
     Some(NarrowAverageSum::Four(
-        match_narrow_average_read(first)?,
-        match_narrow_average_read(second)?,
-        match_narrow_average_read(third)?,
+        match_adjacent_read(first)?,
+        match_adjacent_read(second)?,
+        match_adjacent_read(third)?,
         last,
     ))
 }
@@ -144,26 +113,6 @@ pub fn find_narrow_average(function: &Function) -> Option<NarrowAverage<'_>>
         ([], Some(formula)) => match_narrow_average(formula),
         _ => None,
     }
-}
-
-// The samples that a read takes along the points.
-fn borrow_narrow_average_line<'a, S: NarrowSource>(
-    source: &'a S,
-    read: &NarrowAverageRead<'_>,
-    points: &RowSpan,
-) -> &'a [i16]
-    requires right { IsRightRead read.now }
-    requires reads { EachPlace points.now.len (λ k. S.has source.now read.now.stage
-        (index_at read.now.row.now points.now.row)
-        (index_at read.now.col.now (points.now.col +ℤ pos k))) }
-    ensures count { length result.now ≡ points.now.len }
-    ensures values { EachPlace points.now.len (λ k. at result.now k
-        ≡ formula_value (S.samples source.now) (average_read read.now) points.now.row
-        (points.now.col +ℤ pos k)) }
-{
-    let row = points.row_at_index(read.row);
-    let first = points.first_column_at_index(read.col);
-    source.borrow_narrow_row(read.stage, row, first, points.len)
 }
 
 // A sum that fits in 16 bits, shifted to the right.
@@ -247,15 +196,15 @@ pub fn write_narrow_average<S: NarrowSource>(
 {
     match &average.sum {
         NarrowAverageSum::Two(first, last) => {
-            let a = borrow_narrow_average_line(source, first, points);
-            let b = borrow_narrow_average_line(source, last, points);
+            let a = borrow_adjacent_read(source, first, points);
+            let b = borrow_adjacent_read(source, last, points);
             write_narrow_averages_of_two(out, a, b, average.bits);
         }
         NarrowAverageSum::Four(first, second, third, last) => {
-            let a = borrow_narrow_average_line(source, first, points);
-            let b = borrow_narrow_average_line(source, second, points);
-            let c = borrow_narrow_average_line(source, third, points);
-            let d = borrow_narrow_average_line(source, last, points);
+            let a = borrow_adjacent_read(source, first, points);
+            let b = borrow_adjacent_read(source, second, points);
+            let c = borrow_adjacent_read(source, third, points);
+            let d = borrow_adjacent_read(source, last, points);
             write_narrow_averages_of_four(out, a, b, c, d, average.bits);
         }
     }

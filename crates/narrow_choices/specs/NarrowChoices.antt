@@ -6,39 +6,32 @@ use Rattle.operators.specs.declared.operator.Relation.TheVariants.{AtMost}
 use Rattle.operators.specs.Values.{unary_value, binary_value}
 use Rattle.job.specs.Formula.{Formula, read, unary, binary, select}
 use Rattle.value_ranges.specs.Narrow.{Fits16}
-use Rattle.narrow_choices.specs.declared.narrow_choices.NarrowChoiceRead.{NarrowChoiceRead}
+use Rattle.adjacent_reads.specs.Reads.{read_formula, IsAdjacentRead}
 use Rattle.narrow_choices.specs.declared.narrow_choices.NarrowChoiceDifference.{NarrowChoiceDifference}
 use Rattle.narrow_choices.specs.declared.narrow_choices.NarrowChoice.{NarrowChoice}
 
 -- ---- the formulas of their parts
 
-abbrev pub choice_read : NarrowChoiceRead → Formula
-choice_read x = read x.stage x.row.now x.col.now
-
 -- how far two reads lie apart
 abbrev pub difference_formula : NarrowChoiceDifference → Formula
-difference_formula d = unary Abs (binary Sub (choice_read d.left) (choice_read d.right))
+difference_formula d = unary Abs (binary Sub (read_formula d.left) (read_formula d.right))
 
 -- the first read where the near difference is at most the far one, else the other read
 abbrev pub choice_formula : NarrowChoice → Formula
-choice_formula p = select (difference_formula p.near) AtMost (difference_formula p.far) (choice_read p.first) (choice_read p.other)
+choice_formula p = select (difference_formula p.near) AtMost (difference_formula p.far) (read_formula p.first) (read_formula p.other)
 
 -- ---- what can be computed of them
 
--- the index of the column only adds
-abbrev pub IsRightRead : NarrowChoiceRead → Type 0
-IsRightRead x = (x.col.now.mul ≡ pos 1) × (x.col.now.div ≡ pos 1)
-
 -- of both reads
 abbrev pub IsRightDifference : NarrowChoiceDifference → Type 0
-IsRightDifference d = IsRightRead d.left × IsRightRead d.right
+IsRightDifference d = IsAdjacentRead d.left × IsAdjacentRead d.right
 
 -- of all reads
 pub record IsRightChoice (p : NarrowChoice) : Type 0 where
   pub near : IsRightDifference p.near
   pub far : IsRightDifference p.far
-  pub first : IsRightRead p.first
-  pub other : IsRightRead p.other
+  pub first : IsAdjacentRead p.first
+  pub other : IsAdjacentRead p.other
 
 -- ---- the numbers at a place
 

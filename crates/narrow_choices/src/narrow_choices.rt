@@ -3,7 +3,6 @@
 
 ghost use Rattle.std.specs.Prelude.{◌≡◌, ◌+ℤ◌, ℤ, pos, [], Some, length, map, IfSome, if◌then◌else◌};
 ghost use Rattle.std.specs.Option.{option_map};
-ghost use Rattle.domains.specs.Index.{index_at};
 ghost use Rattle.operators.specs.declared.operator.BinaryOp.TheVariants.{Sub};
 ghost use Rattle.operators.specs.Values.{binary_value};
 ghost use Rattle.job.specs.Reads.{EachRead};
@@ -11,27 +10,19 @@ ghost use Rattle.job.specs.Values.{formula_value};
 ghost use Rattle.job.specs.Views.{case_view, formula_view};
 ghost use Rattle.row_loops.specs.Rows.{EachPlace, at};
 ghost use Rattle.value_ranges.specs.Narrow.{IsNarrow};
-ghost use Rattle.narrow_choices.specs.NarrowChoices.{choice_read, difference_formula, choice_formula, IsRightRead, IsRightDifference, IsRightChoice, absolute_difference, FitsDifference, choice_value};
+ghost use Rattle.narrow_choices.specs.NarrowChoices.{difference_formula, choice_formula, IsRightDifference, IsRightChoice, absolute_difference, FitsDifference, choice_value};
 
-use domains::Index;
+use adjacent_reads::{AdjacentRead, borrow_adjacent_read, match_adjacent_read};
 use job::{Formula, Function};
 use narrow_eval::NarrowSource;
 use operators::{BinaryOp, Relation, UnaryOp};
 use row_kernels::RowSpan;
 
-/// A read. The index of the column only adds.
-#[derive(Clone, Copy)]
-pub struct NarrowChoiceRead<'a> {
-    stage: usize,
-    row: &'a Index,
-    col: &'a Index,
-}
-
 /// The absolute difference of two reads.
 #[derive(Clone, Copy)]
 pub struct NarrowChoiceDifference<'a> {
-    left: NarrowChoiceRead<'a>,
-    right: NarrowChoiceRead<'a>,
+    left: AdjacentRead<'a>,
+    right: AdjacentRead<'a>,
 }
 
 /// Two reads, and the two differences that choose between them: the first read is taken where the near difference is at most
@@ -40,25 +31,8 @@ pub struct NarrowChoiceDifference<'a> {
 pub struct NarrowChoice<'a> {
     near: NarrowChoiceDifference<'a>,
     far: NarrowChoiceDifference<'a>,
-    first: NarrowChoiceRead<'a>,
-    other: NarrowChoiceRead<'a>,
-}
-
-// A read whose samples can be borrowed.
-fn match_narrow_choice_read(formula: &Formula) -> Option<NarrowChoiceRead<'_>>
-    ensures some { IfSome result (λ it. formula_view formula.now ≡ choice_read it) }
-    ensures right { IfSome result IsRightRead }
-{
-    match formula {
-        Formula::Read(stage, row, col) if col.mul() == 1 && col.div() == 1 => Some(
-            NarrowChoiceRead {
-                stage: *stage,
-                row,
-                col,
-            },
-        ),
-        _ => None,
-    }
+    first: AdjacentRead<'a>,
+    other: AdjacentRead<'a>,
 }
 
 // The absolute difference of two such reads.
@@ -73,8 +47,8 @@ fn match_narrow_choice_difference(formula: &Formula) -> Option<NarrowChoiceDiffe
         return None;
     };
     Some(NarrowChoiceDifference {
-        left: match_narrow_choice_read(left)?,
-        right: match_narrow_choice_read(right)?,
+        left: match_adjacent_read(left)?,
+        right: match_adjacent_read(right)?,
     })
 }
 
@@ -89,8 +63,8 @@ fn match_narrow_choice(formula: &Formula) -> Option<NarrowChoice<'_>>
     Some(NarrowChoice {
         near: match_narrow_choice_difference(near)?,
         far: match_narrow_choice_difference(far)?,
-        first: match_narrow_choice_read(first)?,
-        other: match_narrow_choice_read(other)?,
+        first: match_adjacent_read(first)?,
+        other: match_adjacent_read(other)?,
     })
 }
 
@@ -105,26 +79,6 @@ pub fn find_narrow_choice(function: &Function) -> Option<NarrowChoice<'_>>
         ([], Some(formula)) => match_narrow_choice(formula),
         _ => None,
     }
-}
-
-// The samples that a read takes along the points.
-fn borrow_narrow_choice_line<'a, S: NarrowSource>(
-    source: &'a S,
-    read: &NarrowChoiceRead<'_>,
-    points: &RowSpan,
-) -> &'a [i16]
-    requires right { IsRightRead read.now }
-    requires reads { EachPlace points.now.len (λ k. S.has source.now read.now.stage
-        (index_at read.now.row.now points.now.row)
-        (index_at read.now.col.now (points.now.col +ℤ pos k))) }
-    ensures count { length result.now ≡ points.now.len }
-    ensures values { EachPlace points.now.len (λ k. at result.now k
-        ≡ formula_value (S.samples source.now) (choice_read read.now) points.now.row
-        (points.now.col +ℤ pos k)) }
-{
-    let row = points.row_at_index(read.row);
-    let first = points.first_column_at_index(read.col);
-    source.borrow_narrow_row(read.stage, row, first, points.len)
 }
 
 // The difference of two numbers.
@@ -213,12 +167,12 @@ pub fn write_narrow_choice<S: NarrowSource>(
         ≡ formula_value (S.samples source.now) (choice_formula choice.now) points.now.row
         (points.now.col +ℤ pos k)) }
 {
-    let near_left = borrow_narrow_choice_line(source, &choice.near.left, points);
-    let near_right = borrow_narrow_choice_line(source, &choice.near.right, points);
-    let far_left = borrow_narrow_choice_line(source, &choice.far.left, points);
-    let far_right = borrow_narrow_choice_line(source, &choice.far.right, points);
-    let first = borrow_narrow_choice_line(source, &choice.first, points);
-    let other = borrow_narrow_choice_line(source, &choice.other, points);
+    let near_left = borrow_adjacent_read(source, &choice.near.left, points);
+    let near_right = borrow_adjacent_read(source, &choice.near.right, points);
+    let far_left = borrow_adjacent_read(source, &choice.far.left, points);
+    let far_right = borrow_adjacent_read(source, &choice.far.right, points);
+    let first = borrow_adjacent_read(source, &choice.first, points);
+    let other = borrow_adjacent_read(source, &choice.other, points);
     let (near, far) = ((near_left, near_right), (far_left, far_right));
     write_numbers_of_narrow_choice(out, near, far, first, other);
 }

@@ -4,55 +4,30 @@
 ghost use Rattle.std.specs.Prelude.{◌≡◌, ◌+ℤ◌, pos, [], Some, length, map, IfSome};
 ghost use Rattle.std.specs.Option.{option_map};
 ghost use Rattle.domains.specs.Arithmetic.{clamped};
-ghost use Rattle.domains.specs.Index.{index_at};
 ghost use Rattle.job.specs.Formula.{number, binary};
 ghost use Rattle.job.specs.Reads.{EachRead};
 ghost use Rattle.job.specs.Values.{formula_value};
 ghost use Rattle.job.specs.Views.{case_view, formula_view};
 ghost use Rattle.operators.specs.declared.operator.BinaryOp.TheVariants.{Max};
 ghost use Rattle.row_loops.specs.Rows.{EachPlace, at};
-ghost use Rattle.narrow_limits.specs.NarrowLimits.{greatest_of_four, limit_formula, limit_read, IsRightRead, IsRightLimit};
+ghost use Rattle.adjacent_reads.specs.Reads.{read_formula, IsAdjacentRead};
+ghost use Rattle.narrow_limits.specs.NarrowLimits.{greatest_of_four, limit_formula, IsRightLimit};
 
-use domains::Index;
+use adjacent_reads::{AdjacentRead, borrow_adjacent_read, match_adjacent_read};
 use job::{Formula, Function};
 use narrow_eval::NarrowSource;
 use operators::{BinaryOp, TernaryOp};
 use row_kernels::RowSpan;
 
-/// A read. The index of the column only adds.
-#[derive(Clone, Copy)]
-pub struct NarrowLimitRead<'a> {
-    stage: usize,
-    row: &'a Index,
-    col: &'a Index,
-}
-
 /// A read, the number that it is at least, and the four reads of which the greatest limits it.
 #[derive(Clone, Copy)]
 pub struct NarrowLimit<'a> {
-    value: NarrowLimitRead<'a>,
+    value: AdjacentRead<'a>,
     low: i16,
-    first: NarrowLimitRead<'a>,
-    second: NarrowLimitRead<'a>,
-    third: NarrowLimitRead<'a>,
-    fourth: NarrowLimitRead<'a>,
-}
-
-// A read whose samples can be borrowed.
-fn match_narrow_limit_read(formula: &Formula) -> Option<NarrowLimitRead<'_>>
-    ensures some { IfSome result (λ it. formula_view formula.now ≡ limit_read it) }
-    ensures right { IfSome result IsRightRead }
-{
-    match formula {
-        Formula::Read(stage, row, col) if col.mul() == 1 && col.div() == 1 => Some(
-            NarrowLimitRead {
-                stage: *stage,
-                row,
-                col,
-            },
-        ),
-        _ => None,
-    }
+    first: AdjacentRead<'a>,
+    second: AdjacentRead<'a>,
+    third: AdjacentRead<'a>,
+    fourth: AdjacentRead<'a>,
 }
 
 // A number of the text that fits in 16 bits.
@@ -66,15 +41,15 @@ fn match_narrow_limit_number(formula: &Formula) -> Option<i16>
 }
 
 // The greater of two reads.
-fn match_narrow_limit_pair(formula: &Formula) -> Option<(NarrowLimitRead<'_>, NarrowLimitRead<'_>)>
+fn match_narrow_limit_pair(formula: &Formula) -> Option<(AdjacentRead<'_>, AdjacentRead<'_>)>
     ensures some { IfSome result (λ it. formula_view formula.now
-        ≡ binary Max (limit_read it.0) (limit_read it.1)) }
-    ensures right { IfSome result (λ it. IsRightRead it.0 × IsRightRead it.1) }
+        ≡ binary Max (read_formula it.0) (read_formula it.1)) }
+    ensures right { IfSome result (λ it. IsAdjacentRead it.0 × IsAdjacentRead it.1) }
 {
     match formula {
         Formula::Binary(BinaryOp::Max, left, right) => Some((
-            match_narrow_limit_read(left)?,
-            match_narrow_limit_read(right)?,
+            match_adjacent_read(left)?,
+            match_adjacent_read(right)?,
         )),
         _ => None,
     }
@@ -94,7 +69,7 @@ fn match_narrow_limit(formula: &Formula) -> Option<NarrowLimit<'_>>
     let (first, second) = match_narrow_limit_pair(left)?;
     let (third, fourth) = match_narrow_limit_pair(right)?;
     Some(NarrowLimit {
-        value: match_narrow_limit_read(value)?,
+        value: match_adjacent_read(value)?,
         low: match_narrow_limit_number(low)?,
         first,
         second,
@@ -114,26 +89,6 @@ pub fn find_narrow_limit(function: &Function) -> Option<NarrowLimit<'_>>
         ([], Some(formula)) => match_narrow_limit(formula),
         _ => None,
     }
-}
-
-// The samples that a read takes along the points.
-fn borrow_narrow_limit_line<'a, S: NarrowSource>(
-    source: &'a S,
-    read: &NarrowLimitRead<'_>,
-    points: &RowSpan,
-) -> &'a [i16]
-    requires right { IsRightRead read.now }
-    requires reads { EachPlace points.now.len (λ k. S.has source.now read.now.stage
-        (index_at read.now.row.now points.now.row)
-        (index_at read.now.col.now (points.now.col +ℤ pos k))) }
-    ensures count { length result.now ≡ points.now.len }
-    ensures values { EachPlace points.now.len (λ k. at result.now k
-        ≡ formula_value (S.samples source.now) (limit_read read.now) points.now.row
-        (points.now.col +ℤ pos k)) }
-{
-    let row = points.row_at_index(read.row);
-    let first = points.first_column_at_index(read.col);
-    source.borrow_narrow_row(read.stage, row, first, points.len)
 }
 
 // The greatest of four numbers.
@@ -192,10 +147,10 @@ pub fn write_narrow_limit<S: NarrowSource>(
         ≡ formula_value (S.samples source.now) (limit_formula limit.now) points.now.row
         (points.now.col +ℤ pos k)) }
 {
-    let values = borrow_narrow_limit_line(source, &limit.value, points);
-    let first = borrow_narrow_limit_line(source, &limit.first, points);
-    let second = borrow_narrow_limit_line(source, &limit.second, points);
-    let third = borrow_narrow_limit_line(source, &limit.third, points);
-    let fourth = borrow_narrow_limit_line(source, &limit.fourth, points);
+    let values = borrow_adjacent_read(source, &limit.value, points);
+    let first = borrow_adjacent_read(source, &limit.first, points);
+    let second = borrow_adjacent_read(source, &limit.second, points);
+    let third = borrow_adjacent_read(source, &limit.third, points);
+    let fourth = borrow_adjacent_read(source, &limit.fourth, points);
     write_lines_under_narrow_limit(out, values, limit.low, first, second, third, fourth);
 }

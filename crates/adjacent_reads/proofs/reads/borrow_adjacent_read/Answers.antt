@@ -2,7 +2,7 @@ use Rattle.std.proofs.Common.{rules, ℤ, ◌≡◌, ◌+ℤ◌, pos, to_z, of_z
 use Rattle.std.proofs.lemmas.Int.{to_z-of_z}
 use Rattle.domains.specs.Index.{index_at}
 use Rattle.row_kernels.proofs.Columns.{columns_follow}
-use Rattle.narrow_limits.proofs.narrow_limits.borrow_narrow_limit_line.Goals as goal
+use Rattle.adjacent_reads.proofs.reads.borrow_adjacent_read.Goals as goal
 
 pub borrow_narrow_row-requires : goal.borrow_narrow_row-requires
 borrow_narrow_row-requires g c = λ k h.
@@ -15,7 +15,7 @@ borrow_narrow_row-requires g c = λ k h.
     to_z-of_z w32 _ row_fits ∙ c.row_at_index-row.ensures in
     let first : to_z w32 (of_z w32 c.first_column_at_index-first.result) +ℤ pos k ≡ index_at read.col.now (points.col +ℤ pos k) =
     ap (λ (z : ℤ). z +ℤ pos k) (to_z-of_z w32 _ col_fits ∙ c.first_column_at_index-first.ensures)
-    ∙ columns_follow read.col.now points.col k c.requires.right.0 c.requires.right.1 in
+    ∙ columns_follow read.col.now points.col k c.requires.adjacent.0 c.requires.adjacent.1 in
     subst (λ (z : ℤ). has z (to_z w32 (of_z w32 c.first_column_at_index-first.result) +ℤ pos k)) (sym row)
     (subst (λ (z : ℤ). has (index_at read.row.now points.row) z) (sym first) (c.requires.reads k h))
 
@@ -30,7 +30,7 @@ returns-clause-values g c = λ k l.
     to_z-of_z w32 _ row_fits ∙ c.row_at_index-row.ensures in
     let first : to_z w32 (of_z w32 c.first_column_at_index-first.result) +ℤ pos k ≡ index_at read.col.now (points.col +ℤ pos k) =
     ap (λ (z : ℤ). z +ℤ pos k) (to_z-of_z w32 _ col_fits ∙ c.first_column_at_index-first.ensures)
-    ∙ columns_follow read.col.now points.col k c.requires.right.0 c.requires.right.1 in
+    ∙ columns_follow read.col.now points.col k c.requires.adjacent.0 c.requires.adjacent.1 in
     c.borrow_narrow_row.ensures.values k l
     ∙ ap (λ (z : ℤ). samples z (to_z w32 (of_z w32 c.first_column_at_index-first.result) +ℤ pos k)) row
     ∙ ap (samples (index_at read.row.now points.row)) first
