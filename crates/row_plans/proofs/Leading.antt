@@ -5,7 +5,7 @@ use Rattle.std.proofs.lemmas.List.Elements.{All-weaker}
 use Rattle.domains.specs.Span.{len_of}
 use Rattle.job.specs.Pipeline.{Pipeline}
 use Rattle.row_plans.specs.Checks.{AreStagesRead, AreStatesOf}
-use Rattle.row_plans.specs.Leads.{CanMakeRow, IsOutputRowKept, Leads, copies_of}
+use Rattle.row_plans.specs.Leads.{IsOutputRowKept, Leads, copies_of}
 use Rattle.row_plans.specs.Moved.{rows_more, states_moved, times_of, AreReadsMoved, CanRepeat, IsLeft}
 use Rattle.row_plans.specs.Plans.{IsOutputKept, IsRunnable, states_after}
 use Rattle.row_plans.specs.declared.plan.PlanStep.{PlanStep}

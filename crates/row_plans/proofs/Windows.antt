@@ -1,5 +1,5 @@
 -- Windows and the states that they are of.
-use Rattle.std.proofs.Common.{ℕ, zero, suc, ◌+◌, ◌<◌, ◌≤◌, ◌≡◌, ℤ, pos, negsuc, w32, to_z, of_z, ◌+ℤ◌, ◌-ℤ◌, ◌≤ℤ◌, arith, refl, sym, ap, ◌∙◌, subst, ◌⊎◌, inl, inr, List, [], ◌∷◌, ◌++◌, length, take, drop, slice_get, slice_set, Some}
+use Rattle.std.proofs.Common.{ℕ, zero, suc, ◌+◌, ◌<◌, ◌≡◌, ℤ, pos, negsuc, w32, to_z, of_z, ◌+ℤ◌, ◌-ℤ◌, ◌≤ℤ◌, arith, refl, ap, ◌∙◌, subst, List, [], ◌∷◌, ◌++◌, length, take, drop, slice_get, slice_set, Some}
 use Rattle.std.specs.Prelude.{slice_index_or}
 use Rattle.std.proofs.Math.Seq.{drop-cons}
 use Rattle.std.proofs.lemmas.Int.{ints}
@@ -7,8 +7,8 @@ use Rattle.std.proofs.lemmas.Option.{same_Some}
 use Rattle.domains.proofs.Lengths.{gap_is}
 use Rattle.domains.specs.Span.{len_of}
 use Rattle.row_plans.specs.Moved.{rows_more}
-use Rattle.row_plans.specs.Rows.{IsKeptRow, next_row, one_row_more}
-use Rattle.row_plans.specs.Windows.{IsWindowOf, HasWindow, AreWindowsOf}
+use Rattle.row_plans.specs.Rows.{IsKeptRow, one_row_more}
+use Rattle.row_plans.specs.Windows.{IsWindowOf, AreWindowsOf}
 use Rattle.row_plans.specs.declared.plan.PlanStep.{PlanStep}
 use Rattle.row_plans.specs.declared.row_state.RowState.{RowState}
 use Rattle.row_plans.specs.declared.row_state_window.RowStateWindow.{RowStateWindow}

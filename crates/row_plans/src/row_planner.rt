@@ -103,7 +103,7 @@ pub(crate) struct RowPlanner<'a> {
     // The rows to be made before which others wait: of a stage all rows before a row.
     demands: Vec<(usize, i32)>,
     steps: Vec<PlanStep>,
-    // The period of which most copies were made, and how many.
+    // The period whose copies have the most steps, and how many these are.
     repeated: RepeatedPlanSteps,
     copied: usize,
 }

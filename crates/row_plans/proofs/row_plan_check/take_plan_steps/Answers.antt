@@ -1,4 +1,4 @@
-use Rattle.std.proofs.Common.{◌≡◌, ◌<◌, arith, sym, subst, take}
+use Rattle.std.proofs.Common.{sym, subst, take}
 use Rattle.row_plans.specs.Leads.{IsTaken, Leads}
 use Rattle.row_plans.specs.declared.plan.PlanStep.{PlanStep}
 use Rattle.row_plans.specs.declared.plan.PlanStep.TheVariants.{Make}

@@ -1,4 +1,4 @@
-use Rattle.std.proofs.Common.{◌≡◌, true, nat_eq, arith, ◌*ℤ◌, FitsSigned, w32, w64, to_z, of_z}
+use Rattle.std.proofs.Common.{◌≡◌, true, nat_eq, arith, ◌*ℤ◌, FitsSigned, w64, to_z, of_z}
 use Rattle.std.proofs.lemmas.Bool.{eqb-true}
 use Rattle.std.proofs.lemmas.Int.{ints, fits_signed_mul}
 use Rattle.row_plans.proofs.Taking.{index_moves}
