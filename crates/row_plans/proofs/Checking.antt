@@ -7,6 +7,7 @@ use Rattle.domains.specs.declared.area.Area.{Area}
 use Rattle.job.specs.Pipeline.{Pipeline}
 use Rattle.job.specs.Views.{stage_view}
 use Rattle.row_plans.specs.Checks.{AreStagesRead, AreStatesOf}
+use Rattle.row_plans.specs.Leads.{CanMakeRow}
 use Rattle.row_plans.specs.Plans.{CanMake, IsOutputKept, states_after}
 use Rattle.row_plans.specs.Rows.{IsKeptRow, next_row, one_row_more}
 use Rattle.row_plans.specs.Taken.{AreRowsReadOf, AreTakenKept}
@@ -35,31 +36,46 @@ read_stage_covered job list g x all is =
     rw (get_or_from_slice_get list g x x is) at (All-get_or (λ x. AreRowsReadOf (stage_view x.stage.now) x.reads.items) list g x (slice_get_within list g x is) all.covered)
 
 -- a row can be made whose window leaves one more, if all is kept that it is made of, and these are the windows then
-pub window_made : (job : Pipeline) (list : List StageRowsRead) (states : List RowState) (windows : List RowStateWindow) (g : ℕ) (x : StageRowsRead)
-    (w new : RowStateWindow) → AreStagesRead job list → AreStatesOf list states → AreWindowsOf states windows → slice_get list g ≡ Some x
+pub window_made : (list : List StageRowsRead) (states : List RowState) (windows : List RowStateWindow) (g : ℕ) (x : StageRowsRead)
+    (w new : RowStateWindow) → AreWindowsOf states windows → slice_get list g ≡ Some x
     → slice_get windows g ≡ Some w → w.next ≤ℤ w.last → All (AreTakenKept states g w.next) x.reads.items
     → ((s : RowState) → IsWindowOf s w → IsWindowOf (one_row_more s) new)
-    → CanMake job states g × AreWindowsOf (states_after states g) (slice_set windows g new)
-window_made job list states windows g x w new all areas are is there more reads step =
-    let covered = read_stage_covered job list g x all is in
+    → CanMakeRow list states g × AreWindowsOf (states_after states g) (slice_set windows g new)
+window_made list states windows g x w new are is there more reads step =
     let window = are g w there in
     let state = window.0 in
-    let own = window.1 in
-    let has = areas.each g state own in (
+    let own = window.1 in (
       record {
-        stage = stage_view x.stage.now;
-        there = read_stage_there job list g x all is;
-        valued = covered.valued;
+        read = x;
+        there = is;
         state = state;
         own = own;
-        area = rw (same_Some has.read x (sym has.there ∙ is)) at has.area;
         begun = window.2.begun;
         left = window_left state w window.2 more;
         some = window.2.some more;
-        reads = covered.covered states g (next_row state) (subst (λ r. All (AreTakenKept states g r) x.reads.items) window.2.next reads);
+        reads = subst (λ r. All (AreTakenKept states g r) x.reads.items) window.2.next reads;
       },
       rw own (windows_more states windows g state new are own (step state window.2)),
     )
+
+-- and so it can be made by the plan's definition
+pub row_can_be_made : (job : Pipeline) (list : List StageRowsRead) (states : List RowState) (g : ℕ) → AreStagesRead job list → AreStatesOf list states
+    → CanMakeRow list states g → CanMake job states g
+row_can_be_made job list states g all areas can =
+    let covered = read_stage_covered job list g can.read all can.there in
+    let has = areas.each g can.state can.own in
+    record {
+      stage = stage_view can.read.stage.now;
+      there = read_stage_there job list g can.read all can.there;
+      valued = covered.valued;
+      state = can.state;
+      own = can.own;
+      area = rw (same_Some has.read can.read (sym has.there ∙ can.there)) at has.area;
+      begun = can.begun;
+      left = can.left;
+      some = can.some;
+      reads = covered.covered states g (next_row can.state) can.reads;
+    }
 
 -- a state after a row is made has the area of the one before it
 same_area_after : (states : List RowState) (g k : ℕ) (y s : RowState) → slice_get states g ≡ Some y → slice_get (slice_set states g (one_row_more y)) k ≡ Some s

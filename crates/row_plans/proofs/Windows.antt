@@ -1,13 +1,14 @@
 -- Windows and the states that they are of.
-use Rattle.std.proofs.Common.{ℕ, zero, suc, ◌+◌, ◌<◌, ◌≤◌, ◌≡◌, ℤ, pos, negsuc, w32, to_z, of_z, ◌+ℤ◌, ◌≤ℤ◌, arith, refl, sym, ap, ◌∙◌, subst, ◌⊎◌, inl, inr, List, [], ◌∷◌, ◌++◌, length, take, drop, slice_get, slice_set, Some}
+use Rattle.std.proofs.Common.{ℕ, zero, suc, ◌+◌, ◌<◌, ◌≡◌, ℤ, pos, negsuc, w32, to_z, of_z, ◌+ℤ◌, ◌-ℤ◌, ◌≤ℤ◌, arith, refl, ap, ◌∙◌, subst, List, [], ◌∷◌, ◌++◌, length, take, drop, slice_get, slice_set, Some}
 use Rattle.std.specs.Prelude.{slice_index_or}
 use Rattle.std.proofs.Math.Seq.{drop-cons}
 use Rattle.std.proofs.lemmas.Int.{ints}
 use Rattle.std.proofs.lemmas.Option.{same_Some}
 use Rattle.domains.proofs.Lengths.{gap_is}
 use Rattle.domains.specs.Span.{len_of}
-use Rattle.row_plans.specs.Rows.{IsKeptRow, next_row, one_row_more}
-use Rattle.row_plans.specs.Windows.{IsWindowOf, HasWindow, AreWindowsOf}
+use Rattle.row_plans.specs.Moved.{rows_more}
+use Rattle.row_plans.specs.Rows.{IsKeptRow, one_row_more}
+use Rattle.row_plans.specs.Windows.{IsWindowOf, AreWindowsOf}
 use Rattle.row_plans.specs.declared.plan.PlanStep.{PlanStep}
 use Rattle.row_plans.specs.declared.row_state.RowState.{RowState}
 use Rattle.row_plans.specs.declared.row_state_window.RowStateWindow.{RowStateWindow}
@@ -65,3 +66,24 @@ place_number lo place least most =
     let far : to_z w32 place ≡ pos place = omega (arith, ints) in
     let whole : to_z w32 (of_z w32 (lo +ℤ pos place)) ≡ lo +ℤ pos place = omega (arith, ints) in
     rw (first, far) whole
+
+-- a gap that is taken from one side is given to the other
+pub gap_taken : (a k m : ℤ) → (a -ℤ k) ≤ℤ m → a ≤ℤ (m +ℤ k)
+gap_taken a k m h = omega (arith, ints)
+
+-- the window once n rows more are made
+pub window_moved : (n : ℕ) (s : RowState) (w new : RowStateWindow) → IsWindowOf s w → new.lo ≡ w.lo → new.next ≡ w.next +ℤ pos n → new.last ≡ w.last
+    → new.kept ≡ w.kept → w.first ≤ℤ new.first → new.next ≤ℤ (new.first +ℤ w.kept) → (w.next +ℤ pos n) ≤ℤ (w.last +ℤ pos 1)
+    → IsWindowOf (rows_more n s) new
+window_moved n s w new is e f g h above late most =
+    let lo = is.lo in let next = is.next in let kept = is.kept in let begun = is.begun in let low = is.low in let last = is.last in record {
+      lo = e ∙ lo;
+      next = omega (arith, ints);
+      kept = h ∙ kept;
+      begun = omega arith;
+      low = omega (arith, ints);
+      oldest = omega (arith, ints);
+      high = omega (arith, ints);
+      last = omega (arith, ints);
+      some = λ more. is.some (omega (arith, ints));
+    }

@@ -1,14 +1,10 @@
 -- What the steps of a check of a plan find.
-use Rattle.std.specs.Prelude.{ℕ, ◌≡◌, List, ◌∷◌, All, Some, map, slice_get}
+use Rattle.std.specs.Prelude.{ℕ, ◌≡◌, List, All, Some, map, slice_get}
 use Rattle.job.specs.Pipeline.{Pipeline}
 use Rattle.job.specs.Views.{stage_view}
-use Rattle.row_plans.specs.Plans.{IsRunnable}
 use Rattle.row_plans.specs.Taken.{AreRowsReadOf}
-use Rattle.row_plans.specs.Windows.{AreWindowsOf}
-use Rattle.row_plans.specs.declared.plan.PlanStep.{PlanStep}
 use Rattle.row_plans.specs.declared.row_state.RowState.{RowState}
 use Rattle.row_plans.specs.declared.stage_rows_read.StageRowsRead.{StageRowsRead}
-use Rattle.row_plans.specs.declared.row_state_window.RowStateWindow.{RowStateWindow}
 
 -- the list has the stages of the job, each with what its rows are made of
 pub record AreStagesRead (job : Pipeline) (list : List StageRowsRead) : Type 0 where
@@ -24,11 +20,3 @@ pub record HasStage (list : List StageRowsRead) (g : ℕ) (state : RowState) : T
 -- and so has each state
 pub record AreStatesOf (list : List StageRowsRead) (states : List RowState) : Type 0 where
   pub each : (g : ℕ) (state : RowState) → slice_get states g ≡ Some state → HasStage list g state
-
--- a step is taken at row y of the picture: once it is, the next row is z, and these are the windows of the states
-pub record IsTaken (job : Pipeline) (list : List StageRowsRead) (outputs : List ℕ) (end y : ℕ) (states : List RowState) (step : PlanStep)
-    (z : ℕ) (windows : List RowStateWindow) : Type 0 where
-  pub after : List RowState
-  pub areas : AreStatesOf list after
-  pub windows_after : AreWindowsOf after windows
-  pub runnable : (steps : List PlanStep) → IsRunnable job outputs end z after steps → IsRunnable job outputs end y states (step ∷ steps)

@@ -3,3 +3,5 @@ pub mod Plans
 pub mod Taken
 pub mod Checks
 pub mod Windows
+pub mod Leads
+pub mod Moved

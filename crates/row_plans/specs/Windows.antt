@@ -1,5 +1,5 @@
 -- Windows: states in the form in which reads are checked.
-use Rattle.std.specs.Prelude.{ℕ, ◌<◌, ◌≤◌, ◌≡◌, ℤ, pos, ◌+ℤ◌, ◌≤ℤ◌, Some, List, slice_get}
+use Rattle.std.specs.Prelude.{ℕ, ◌<◌, ◌≤◌, ◌≡◌, pos, ◌+ℤ◌, ◌≤ℤ◌, Some, List, slice_get}
 use Rattle.row_plans.specs.Rows.{next_row}
 use Rattle.row_plans.specs.declared.row_state.RowState.{RowState}
 use Rattle.row_plans.specs.declared.row_state_window.RowStateWindow.{RowStateWindow}

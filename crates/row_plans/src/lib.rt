@@ -4,9 +4,11 @@
 #![tactic(auto)]
 
 mod plan;
+mod repeated_plan_steps;
 mod row_plan_check;
 mod row_planner;
 mod row_state;
+mod row_state_repeats;
 mod row_state_window;
 mod row_state_windows;
 mod rows_read;

@@ -53,10 +53,10 @@ pub fn make_row_plan(
     let Some(rows) = list_rows_read_of_stages(alloc, job)? else {
         return Ok(None);
     };
-    let plan = RowPlanner::new(alloc, &rows, outputs)?.plan_rows(alloc, first, end)?;
+    let (plan, repeated) = RowPlanner::new(alloc, &rows, outputs)?.plan_rows(alloc, first, end)?;
     if count_numbers_kept_in_row_states(&plan.states) > MOST_NUMBERS
         || !are_row_states_at_start(&plan.states)
-        || !is_row_plan_runnable(alloc, job, &rows, &plan, outputs, first, end)?
+        || !is_row_plan_runnable(alloc, job, &rows, &plan, repeated, outputs, first, end)?
     {
         return Ok(None);
     }

@@ -1,15 +1,19 @@
 #![tactic(auto)]
 //! Checks of plans: whether each row is made of rows that are kept, and no row is output that is not kept.
 
-ghost use Rattle.std.specs.Prelude.{◌≡◌, ◌+◌, ◌<◌, ℕ, true, List, All, IfOk, IfSome, Some, length, slice_get, slice_set, ◌∷◌};
+ghost use Rattle.std.specs.Prelude.{◌≡◌, ◌+◌, ◌*◌, ◌<◌, ℕ, true, List, All, IfOk, IfSome, Some, length, slice_get, slice_set, ◌∷◌, []};
 ghost use Rattle.job.specs.Kept.{pipeline_in};
-ghost use Rattle.row_plans.specs.Plans.{CanMake, IsOutputKept, IsRunnable, states_after};
-ghost use Rattle.row_plans.specs.Checks.{AreStagesRead, AreStatesOf, IsTaken};
+ghost use Rattle.row_plans.specs.Plans.{IsRunnable, states_after};
+ghost use Rattle.row_plans.specs.Checks.{AreStagesRead, AreStatesOf};
+ghost use Rattle.row_plans.specs.Leads.{CanMakeRow, IsOutputRowKept, IsTaken, IsTakenThrough};
 ghost use Rattle.row_plans.specs.Windows.{AreWindowsOf};
 ghost use Rattle.row_plans.specs.declared.plan.PlanStep.{PlanStep};
+ghost use Rattle.row_plans.specs.declared.row_state.RowState.{RowState};
 
 use crate::plan::{PlanStep, RowPlan};
+use crate::repeated_plan_steps::{RepeatedPlanSteps, count_repeated_plan_steps};
 use crate::row_state::RowState;
+use crate::row_state_repeats::list_repeated_row_state_windows;
 use crate::row_state_window::RowStateWindow;
 use crate::row_state_windows::list_row_state_windows;
 use crate::stage_rows_read::StageRowsRead;
@@ -28,15 +32,12 @@ impl<'a> StageRowsRead<'a> {
 // Takes the step that makes the next row of a stage, and returns whether the row can be made.
 #[inline]
 fn take_plan_step_of_stage(
-    job: &Job,
     rows: &[StageRowsRead],
     windows: &mut [RowStateWindow],
     stage: usize,
 ) -> bool
-    requires { AreStagesRead (pipeline_in job.now) rows.now }
-    ensures { result ≡ true → (states : List RowState) → AreStatesOf rows.now states
-        → AreWindowsOf states windows.old → CanMake (pipeline_in job.now) states stage
-        × AreWindowsOf (states_after states stage) windows.new }
+    ensures { result ≡ true → (states : List RowState) → AreWindowsOf states windows.old
+        → CanMakeRow rows.now states stage × AreWindowsOf (states_after states stage) windows.new }
 {
     let (Some(read), Some(window)) = (rows.get(stage), windows.get(stage)) else {
         return false;
@@ -49,16 +50,9 @@ fn take_plan_step_of_stage(
 }
 
 // Whether a row of the picture is kept in a plane.
-fn is_planned_row_kept_for_output(
-    job: &Job,
-    rows: &[StageRowsRead],
-    windows: &[RowStateWindow],
-    row: usize,
-    output: usize,
-) -> bool
-    requires { AreStagesRead (pipeline_in job.now) rows.now }
-    ensures { result ≡ true → (states : List RowState) → AreStatesOf rows.now states
-        → AreWindowsOf states windows.now → IsOutputKept (pipeline_in job.now) states row output }
+fn is_planned_row_kept_for_output(windows: &[RowStateWindow], row: usize, output: usize) -> bool
+    ensures { result ≡ true → (states : List RowState) → AreWindowsOf states windows.now
+        → IsOutputRowKept states row output }
 {
     match windows.get(output) {
         Some(window) => window.keeps_row_of_place(row),
@@ -68,19 +62,15 @@ fn is_planned_row_kept_for_output(
 
 // Whether a row of the picture is kept in all its planes.
 fn is_planned_row_kept_for_all_outputs(
-    job: &Job,
-    rows: &[StageRowsRead],
     windows: &[RowStateWindow],
     row: usize,
     outputs: &[usize],
 ) -> bool
-    requires { AreStagesRead (pipeline_in job.now) rows.now }
-    ensures { result ≡ true → (states : List RowState) → AreStatesOf rows.now states
-        → AreWindowsOf states windows.now
-        → All (IsOutputKept (pipeline_in job.now) states row) outputs.now }
+    ensures { result ≡ true → (states : List RowState) → AreWindowsOf states windows.now
+        → All (IsOutputRowKept states row) outputs.now }
 {
     for output in outputs {
-        if !is_planned_row_kept_for_output(job, rows, windows, row, *output) {
+        if !is_planned_row_kept_for_output(windows, row, *output) {
             return false;
         }
     }
@@ -104,7 +94,6 @@ fn are_row_states_of_stages(rows: &[StageRowsRead], states: &[RowState]) -> bool
 
 // Takes a step of a plan, and returns the next row of the picture. None if the step cannot be taken.
 fn take_plan_step(
-    job: &Job,
     rows: &[StageRowsRead],
     windows: &mut [RowStateWindow],
     step: PlanStep,
@@ -112,26 +101,126 @@ fn take_plan_step(
     row: usize,
     end: usize,
 ) -> Option<usize>
-    requires { AreStagesRead (pipeline_in job.now) rows.now }
-    ensures { IfSome result (λ next. (states : List RowState) → AreStatesOf rows.now states
-        → AreWindowsOf states windows.old → IsTaken (pipeline_in job.now) rows.now outputs.now end row
-        states step next windows.new) }
+    ensures { IfSome result (λ next. (states : List RowState) → AreWindowsOf states windows.old
+        → IsTaken rows.now outputs.now row states (step ∷ []) next windows.new) }
 {
     match step {
         PlanStep::Make(stage) => {
-            if take_plan_step_of_stage(job, rows, windows, stage as usize) {
+            if take_plan_step_of_stage(rows, windows, stage as usize) {
                 Some(row)
             } else {
                 None
             }
         }
         PlanStep::Output => {
-            if row < end && is_planned_row_kept_for_all_outputs(job, rows, windows, row, outputs) {
+            if row < end && is_planned_row_kept_for_all_outputs(windows, row, outputs) {
                 Some(row + 1)
             } else {
                 None
             }
         }
+    }
+}
+
+// Takes steps of a plan one after the other, and returns the next row of the picture. None if one of them cannot be taken.
+fn take_plan_steps(
+    rows: &[StageRowsRead],
+    windows: &mut [RowStateWindow],
+    steps: &[PlanStep],
+    outputs: &[usize],
+    row: usize,
+    end: usize,
+) -> Option<usize>
+    ensures { IfSome result (λ next. (states : List RowState) → AreWindowsOf states windows.old
+        → IsTaken rows.now outputs.now row states steps.now next windows.new) }
+{
+    let mut next = row;
+    for step in steps {
+        match take_plan_step(rows, windows, *step, outputs, next, end) {
+            Some(after) => next = after,
+            None => return None,
+        }
+    }
+    Some(next)
+}
+
+// The row of the picture after as many more as lie between two others, so many times. None if there is no such number.
+fn find_row_after_planned_repeats(row: usize, next: usize, times: usize) -> Option<usize>
+    ensures { IfSome result (λ after. (r : ℕ) → next ≡ row + r → after ≡ next + times * r) }
+{
+    next.checked_add(times.checked_mul(next.checked_sub(row)?)?)
+}
+
+// Takes steps of a plan, of which the first ones are a period: those that repeat it are taken at once, if their rows have moved as
+// far as all that they read.
+fn take_repeated_plan_steps(
+    alloc: Global,
+    rows: &[StageRowsRead],
+    windows: &mut [RowStateWindow],
+    steps: &[PlanStep],
+    count: usize,
+    outputs: &[usize],
+    row: usize,
+    end: usize,
+) -> Result<Option<usize>, AllocError>
+    ensures { IfOk result (λ found. IfSome found (λ next. (states : List RowState)
+        → length states ≡ length windows.old → AreWindowsOf states windows.old
+        → IsTakenThrough rows.now outputs.now row states steps.now next)) }
+{
+    let (period, rest) = steps.split_at(count.min(steps.len()));
+    let begun = windows.to_vec(alloc)?;
+    let Some(next) = take_plan_steps(rows, windows, period, outputs, row, end) else {
+        return Ok(None);
+    };
+    let (times, left) = count_repeated_plan_steps(period, rest);
+    let moved = list_repeated_row_state_windows(
+        alloc,
+        rows,
+        &begun,
+        windows,
+        outputs,
+        next.saturating_sub(row),
+        times,
+    )?;
+    if let (Some(mut moved), Some(after)) = (
+        moved,
+        find_row_after_planned_repeats(row, next, times),
+    ) {
+        return Ok(take_plan_steps(rows, &mut moved, left, outputs, after, end));
+    }
+    Ok(take_plan_steps(rows, windows, rest, outputs, next, end))
+}
+
+// Takes all steps of a plan.
+fn take_all_plan_steps(
+    alloc: Global,
+    rows: &[StageRowsRead],
+    windows: &mut [RowStateWindow],
+    steps: &[PlanStep],
+    repeated: RepeatedPlanSteps,
+    outputs: &[usize],
+    row: usize,
+    end: usize,
+) -> Result<Option<usize>, AllocError>
+    ensures { IfOk result (λ found. IfSome found (λ next. (states : List RowState)
+        → length states ≡ length windows.old → AreWindowsOf states windows.old
+        → IsTakenThrough rows.now outputs.now row states steps.now next)) }
+{
+    let (before, rest) = steps.split_at(repeated.before.min(steps.len()));
+    match take_plan_steps(rows, windows, before, outputs, row, end) {
+        Some(next) => {
+            take_repeated_plan_steps(
+                alloc,
+                rows,
+                windows,
+                rest,
+                repeated.count,
+                outputs,
+                next,
+                end,
+            )
+        }
+        None => Ok(None),
     }
 }
 
@@ -145,6 +234,7 @@ pub(crate) fn is_row_plan_runnable(
     job: &Job,
     rows: &[StageRowsRead],
     plan: &RowPlan,
+    repeated: RepeatedPlanSteps,
     outputs: &[usize],
     first: usize,
     end: usize,
@@ -159,12 +249,17 @@ pub(crate) fn is_row_plan_runnable(
     let Some(mut windows) = list_row_state_windows(alloc, &plan.states)? else {
         return Ok(false);
     };
-    let mut row = first;
-    for step in &plan.steps {
-        match take_plan_step(job, rows, &mut windows, *step, outputs, row, end) {
-            Some(next) => row = next,
-            None => return Ok(false),
-        }
+    match take_all_plan_steps(
+        alloc,
+        rows,
+        &mut windows,
+        &plan.steps,
+        repeated,
+        outputs,
+        first,
+        end,
+    )? {
+        Some(row) => Ok(row == end),
+        None => Ok(false),
     }
-    Ok(row == end)
 }

@@ -5,6 +5,7 @@
 //! planned so is what demand would plan: each row that is compared with another has moved as far as that one.
 
 use crate::plan::{PlanStep, RowPlan};
+use crate::repeated_plan_steps::RepeatedPlanSteps;
 use crate::row_state::RowState;
 use crate::stage_rows_read::StageRowsRead;
 use domains::Area;
@@ -102,6 +103,9 @@ pub(crate) struct RowPlanner<'a> {
     // The rows to be made before which others wait: of a stage all rows before a row.
     demands: Vec<(usize, i32)>,
     steps: Vec<PlanStep>,
+    // The period whose copies have the most steps, and how many these are.
+    repeated: RepeatedPlanSteps,
+    copied: usize,
 }
 
 impl<'a> RowPlanner<'a> {
@@ -129,10 +133,16 @@ impl<'a> RowPlanner<'a> {
             planned,
             demands: Vec::new(alloc),
             steps: Vec::new(alloc),
+            repeated: RepeatedPlanSteps {
+                before: 0,
+                count: 0,
+            },
+            copied: 0,
         })
     }
 
-    /// The plan that outputs the rows of the picture from row `first` up to before row `end`.
+    /// The plan that outputs the rows of the picture from row `first` up to before row `end`, and the steps of it that are repeated
+    /// most.
     ///
     /// # Errors
     ///
@@ -142,7 +152,7 @@ impl<'a> RowPlanner<'a> {
         alloc: Global,
         first: usize,
         end: usize,
-    ) -> Result<RowPlan, AllocError> {
+    ) -> Result<(RowPlan, RepeatedPlanSteps), AllocError> {
         self.request_output_rows(first, end.saturating_sub(1));
         self.request_rows_read_by_all_stages();
         let mut row = first;
@@ -206,12 +216,16 @@ impl<'a> RowPlanner<'a> {
 
     // Makes the rows of the period again, so many times, whose steps begin at this one.
     fn repeat_period(&mut self, alloc: Global, from: usize, times: i32) -> Result<(), AllocError> {
-        let steps = self.steps.len().saturating_sub(from);
-        self.copy_steps(
-            alloc,
-            from,
-            steps.saturating_mul(usize::try_from(times).unwrap_or(0)),
-        )?;
+        let count = self.steps.len().saturating_sub(from);
+        let copied = count.saturating_mul(usize::try_from(times).unwrap_or(0));
+        self.copy_steps(alloc, from, copied)?;
+        if copied > self.copied {
+            self.repeated = RepeatedPlanSteps {
+                before: from,
+                count,
+            };
+            self.copied = copied;
+        }
         for planned in &mut self.planned {
             planned.repeat_period(times);
         }
@@ -375,14 +389,15 @@ impl<'a> RowPlanner<'a> {
     }
 
     // The steps, with the state of each stage at the start.
-    fn into_row_plan(self, alloc: Global) -> Result<RowPlan, AllocError> {
+    fn into_row_plan(self, alloc: Global) -> Result<(RowPlan, RepeatedPlanSteps), AllocError> {
         let mut states = Vec::with_capacity(alloc, self.rows.len())?;
         for (read, planned) in self.rows.iter().zip(&self.planned) {
             states.push(planned.build_row_state(read.area()))?;
         }
-        Ok(RowPlan {
+        let plan = RowPlan {
             steps: self.steps,
             states,
-        })
+        };
+        Ok((plan, self.repeated))
     }
 }

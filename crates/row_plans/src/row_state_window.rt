@@ -1,7 +1,7 @@
 #![tactic(auto)]
 //! Which rows of a stage are kept while the steps of a plan are checked, by their numbers.
 
-ghost use Rattle.std.specs.Prelude.{◌≡◌, ◌≤ℤ◌, ◌+ℤ◌, ℤ, pos, negsuc, true, IfSome};
+ghost use Rattle.std.specs.Prelude.{◌≡◌, ◌<◌, ◌≤◌, ◌+◌, ◌*◌, ◌≤ℤ◌, ◌+ℤ◌, ℕ, ℤ, pos, negsuc, true, IfSome};
 ghost use Rattle.row_plans.specs.Rows.{IsKeptRow, one_row_more};
 ghost use Rattle.row_plans.specs.declared.row_state.RowState.{RowState as KeptState};
 
@@ -33,6 +33,8 @@ pub(crate) struct RowStateWindow {
 }
 
 impl RowStateWindow {
+    ghost use Rattle.domains.specs.Span.{len_of};
+    ghost use Rattle.row_plans.specs.Moved.{rows_more};
     ghost use Rattle.row_plans.specs.Windows.{IsWindowOf};
 
     /// The window of a state. None of a state of no plan, if more rows are made or kept than there are.
@@ -91,6 +93,33 @@ impl RowStateWindow {
             last: self.last,
             kept: self.kept,
         }
+    }
+
+    /// The window once so many rows more are made. None if fewer are left.
+    pub(crate) fn make_rows(&self, rows: usize) -> Option<RowStateWindow>
+        ensures windows { IfSome result (λ window. (state : KeptState) → IsWindowOf state self.now
+            → IsWindowOf (rows_more rows state) window) }
+        ensures left { IfSome result (λ window. (state : KeptState) → IsWindowOf state self.now
+            → 0 < rows → state.next + rows ≤ len_of state.area.rows) }
+    {
+        if rows == 0 {
+            return Some(*self);
+        }
+        if rows > MOST_ROWS {
+            return None;
+        }
+        let next = self.next + rows as i32;
+        if next - 1 > self.last {
+            return None;
+        }
+        let first = self.first.max(next - self.kept);
+        Some(RowStateWindow {
+            lo: self.lo,
+            first,
+            next,
+            last: self.last,
+            kept: self.kept,
+        })
     }
 
     /// Whether all rows from row `first` to row `last` are kept.

@@ -1,7 +1,7 @@
 #![tactic(auto)]
 //! The windows of the states of all stages.
 
-ghost use Rattle.std.specs.Prelude.{◌≡◌, ◌≤ℤ◌, ℤ, true, List, IfOk, IfSome};
+ghost use Rattle.std.specs.Prelude.{◌≡◌, ◌≤ℤ◌, ℤ, true, List, IfOk, IfSome, length};
 ghost use Rattle.row_plans.specs.Rows.{IsKeptAt};
 ghost use Rattle.row_plans.specs.Windows.{AreWindowsOf};
 ghost use Rattle.row_plans.specs.declared.row_state.RowState.{RowState as KeptState};
@@ -19,7 +19,9 @@ pub(crate) fn list_row_state_windows(
     alloc: Global,
     states: &[RowState],
 ) -> Result<Option<Vec<RowStateWindow>>, AllocError>
-    ensures { IfOk result (λ found. IfSome found (λ windows. AreWindowsOf states.now windows.items)) }
+    ensures windows { IfOk result (λ found. IfSome found (λ windows. AreWindowsOf states.now windows.items)) }
+    ensures len { IfOk result (λ found. IfSome found
+        (λ windows. length states.now ≡ length windows.items)) }
 {
     let mut windows = Vec::with_capacity(alloc, states.len())?;
     for state in states {

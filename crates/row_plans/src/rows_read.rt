@@ -6,11 +6,13 @@ ghost use Rattle.domains.specs.Index.{index_at};
 ghost use Rattle.domains.specs.Span.{Holds};
 ghost use Rattle.job.specs.ReadViews.{read_view};
 ghost use Rattle.operators.specs.Values.{under};
+ghost use Rattle.row_plans.specs.Moved.{AreWindowsMoved, IsReadMoved};
 ghost use Rattle.row_plans.specs.Rows.{IsDomainRow};
 ghost use Rattle.row_plans.specs.Taken.{middle_row, AreTakenKept, IsKeptFor, IsReadKept};
 ghost use Rattle.row_plans.specs.Windows.{AreWindowsOf};
 ghost use Rattle.row_plans.specs.declared.row_state.RowState.{RowState};
 
+use crate::row_state_repeats::count_row_state_rows_made;
 use crate::row_state_window::RowStateWindow;
 use crate::row_state_windows::are_row_state_rows_kept;
 use domains::{Index, Span};
@@ -207,10 +209,34 @@ impl RowsRead {
     }
 
     // Whether what is read moves by so many rows if the reader's row does.
-    fn moves_with_rows(&self, made: i32, moved: i32) -> bool {
+    fn moves_with_rows(&self, made: i32, moved: i32) -> bool
+        ensures { result ≡ true → (r : ℤ) → middle_row self.now (r +ℤ made) ≡ middle_row self.now r +ℤ moved }
+    {
         match self.index {
-            Some(index) => { index.mul().saturating_mul(made) == index.div().saturating_mul(moved) }
+            Some(index) => do_rows_read_at_index_move(&index, made, moved),
             None => made == moved,
+        }
+    }
+
+    /// Whether the rows that are read move by as many rows as their stage, if the reader's row moves by as many as the reader.
+    pub(crate) fn do_rows_read_move(
+        &self,
+        begun: &[RowStateWindow],
+        ended: &[RowStateWindow],
+        reader: usize,
+    ) -> bool
+        ensures { result ≡ true → (states : List RowState) (d : ℕ → ℕ)
+            → AreWindowsMoved d states begun.now ended.now → IsReadMoved d states reader self.now }
+    {
+        match (
+            begun.get(reader),
+            count_row_state_rows_made(begun, ended, reader),
+            count_row_state_rows_made(begun, ended, self.stage),
+        ) {
+            (Some(window), Some(made), Some(moved)) => {
+                self.rows.lo() <= window.next() && self.moves_with_rows(made, moved)
+            }
+            _ => false,
         }
     }
 
@@ -247,6 +273,13 @@ fn find_row_read_at_index(index: &Index, row: i32) -> Option<i32>
         return None;
     }
     Some(index.at(row))
+}
+
+// Whether the row at an index moves by so many rows if the reader's row does.
+fn do_rows_read_at_index_move(index: &Index, made: i32, moved: i32) -> bool
+    ensures { result ≡ true → (r : ℤ) → index_at index.now (r +ℤ made) ≡ index_at index.now r +ℤ moved }
+{
+    i64::from(index.mul()) * i64::from(made) == i64::from(index.div()) * i64::from(moved)
 }
 
 // The row that lies so far below another.

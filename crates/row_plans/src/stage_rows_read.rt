@@ -10,6 +10,7 @@ ghost use Rattle.job.specs.Kept.{pipeline_in};
 ghost use Rattle.job.specs.Pipeline.{function};
 ghost use Rattle.job.specs.Reads.{BodyReads};
 ghost use Rattle.job.specs.Views.{stage_view};
+ghost use Rattle.row_plans.specs.Moved.{AreWindowsMoved, IsReadMoved};
 ghost use Rattle.row_plans.specs.Rows.{IsKeptAt};
 ghost use Rattle.row_plans.specs.Taken.{AreTakenKept, AreRowsReadOf, AddsCases, AddsReads, IsJoined, IsWider};
 ghost use Rattle.row_plans.specs.Windows.{AreWindowsOf};
@@ -68,6 +69,25 @@ impl<'a> StageRowsRead<'a> {
         ensures { result.now ≡ self.now.reads.items }
     {
         &self.reads
+    }
+
+    /// Whether all that is read moves with the rows of the stage.
+    pub(crate) fn do_rows_read_move(
+        &self,
+        begun: &[RowStateWindow],
+        ended: &[RowStateWindow],
+        stage: usize,
+    ) -> bool
+        ensures { result ≡ true → (states : List RowState) (d : ℕ → ℕ)
+            → AreWindowsMoved d states begun.now ended.now
+            → All (IsReadMoved d states stage) self.now.reads.items }
+    {
+        for read in &self.reads {
+            if !read.do_rows_read_move(begun, ended, stage) {
+                return false;
+            }
+        }
+        true
     }
 
     /// Whether all that this row of the stage is made of is kept, and is of other stages.

@@ -1,33 +1,28 @@
-use Rattle.std.proofs.Common.{◌≡◌, ◌<◌, ◌+◌, ◌∷◌, arith, length, sym, ap, subst, drop}
-use Rattle.std.specs.Prelude.{slice_index_or}
+use Rattle.std.proofs.Common.{ℕ, ◌≡◌, List, IfSome, length, subst}
+use Rattle.std.proofs.lemmas.Bool.{eqb-true}
+use Rattle.row_plans.specs.Leads.{IsTakenThrough, Leads}
+use Rattle.row_plans.specs.declared.row_state.RowState.{RowState}
 use Rattle.job.specs.Kept.{pipeline_in}
+use Rattle.row_plans.specs.Checks.{AreStatesOf}
 use Rattle.row_plans.specs.Plans.{IsRunnable}
 use Rattle.row_plans.specs.Windows.{AreWindowsOf}
-use Rattle.row_plans.specs.declared.plan.PlanStep.{PlanStep}
-use Rattle.row_plans.specs.declared.plan.PlanStep.TheVariants.{Make}
-use Rattle.row_plans.proofs.Windows.{steps_from, windows_written}
+use Rattle.row_plans.proofs.Leading.{leads_run}
 use Rattle.row_plans.proofs.row_plan_check.is_row_plan_runnable.Goals as goal
 
-pub loop-step-preserved : goal.loop-step-preserved
-loop-step-preserved c =
-    let steps = c.args.plan.now.steps.items in
-    let before = c.loop-step.invariant in
-    let windows = c.loop-step.windows in
-    let taken = c.in-Some-take_plan_step.ensures before.states before.areas (subst (AreWindowsOf before.states) (sym c.deref_mut.ensures.value) before.windows) in
-    let old : length windows.items ≡ windows.len = omega (arith, windows.ok.0) in
-    let new : length c.take_plan_step.new.windows ≡ windows.len =
-    omega (arith, c.take_plan_step.auto.windows, ap length c.deref_mut.ensures.value, windows.ok.0) in
+pub returns-in-Some-2 : goal.returns-in-Some-2
+returns-in-Some-2 c = λ yes.
     let job = pipeline_in c.args.job.now in
-    let outputs = c.args.outputs.now in
-    let at = c.loop-step.step-index in
-    let none : PlanStep = Make 0 in
-    let within : at < length steps = omega (arith, c.loop-step-test.true, ap length c.deref-step-items.ensures.value) in
-    record {
-      states = taken.after;
-      areas = taken.areas;
-      windows =
-          subst (AreWindowsOf taken.after) (sym (windows_written c.take_plan_step.new.windows windows.items windows.len new old)) taken.windows_after;
-      runnable = λ rest. before.runnable (subst (IsRunnable job outputs c.args.end c.loop-step.row before.states) (sym (steps_from steps at none within)) (
-          subst (λ xs. IsRunnable job outputs c.args.end c.loop-step.row before.states (slice_index_or xs at none ∷ drop (at + 1) steps))
-          c.deref-step-items.ensures.value (taken.runnable (drop (at + 1) steps) rest)));
-    }
+    let states = c.args.plan.now.states.items in
+    let steps = c.args.plan.now.steps.items in
+    let areas : AreStatesOf c.args.rows.now states = rw c.deref.ensures.value at (c.are_row_states_of_stages.ensures c.if-not-are_row_states_of_stages.false) in
+    let found = rw c.in-Some.is at c.in_ok-windows.ensures.windows in
+    let long = rw c.in-Some.is at c.in_ok-windows.ensures.len in
+    let windows = rw (c.deref-2.ensures.value, ← c.deref_mut.ensures.value) at found in
+    let len = rw (c.deref-2.ensures.value, ← c.deref_mut.ensures.value) at long in
+    let P : ℕ → Type 0 = λ next. (own : List RowState) → length own ≡ length c.deref_mut.result.now → AreWindowsOf own c.deref_mut.result.now
+    → IsTakenThrough c.args.rows.now c.args.outputs.now c.args.first own c.deref-3.result.now next in
+    let taken = (subst (λ r. IfSome r P) c.in-Some-2.is c.in_ok-row.ensures) states len windows in
+    let leads = subst (λ l. Leads c.args.rows.now c.args.outputs.now states c.args.first l taken.after c.in-Some-2.row) c.deref-3.ensures.value taken.leads in
+    let last : c.in-Some-2.row ≡ c.args.end = eqb-true c.in-Some-2.row c.args.end yes in
+    subst (λ z. IsRunnable job c.args.outputs.now z c.args.first states steps) last
+    (leads_run job c.args.rows.now c.args.outputs.now states c.args.first steps taken.after c.in-Some-2.row c.requires areas leads)

@@ -1,0 +1,11 @@
+use Rattle.std.proofs.lemmas.Option.{IfSome_then}
+use Rattle.std.proofs.lemmas.Result.{IfOk-weaker}
+use Rattle.row_plans.proofs.row_state_repeats.list_repeated_row_state_windows.Goals as goal
+
+pub returns-then-do_row_state_outputs_move-clause-repeats : goal.returns-then-do_row_state_outputs_move-clause-repeats
+returns-then-do_row_state_outputs_move-clause-repeats c = IfOk-weaker c.list_moved_row_state_windows.result _ _
+    (λ found h. IfSome_then found h (λ windows k. λ states d moved len. record {
+      reads = c.do_row_state_reads_move.ensures c.if-do_row_state_reads_move.true states d moved;
+      outputs_moved = c.do_row_state_outputs_move.ensures c.if-do_row_state_outputs_move.true states d moved;
+      left = k states d moved len;
+    })) c.list_moved_row_state_windows.ensures.left
