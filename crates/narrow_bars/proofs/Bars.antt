@@ -1,9 +1,8 @@
 -- Kernels that are bars, and the samples under them.
-use Rattle.std.proofs.Common.{arith, ℕ, zero, suc, ℤ, ◌≡◌, ◌+◌, ◌-◌, ◌<◌, ◌≤◌, ◌^◌, pos, ◌+ℤ◌, ◌*ℤ◌, List, [], ◌∷◌, length, take, drop, w16, sym, ap, subst, refl, ◌∙◌}
+use Rattle.std.proofs.Common.{arith, ℕ, zero, suc, ℤ, ◌≡◌, ◌+◌, ◌-◌, ◌<◌, ◌≤◌, pos, ◌+ℤ◌, ◌*ℤ◌, List, [], ◌∷◌, length, take, drop, w16, sym, ap, subst, refl, ◌∙◌}
 use Rattle.std.specs.Prelude.{slice_index_or}
 use Rattle.std.specs.Int.{int_wrap}
 use Rattle.std.proofs.lemmas.Int.{ints, int_wrap-add_left, int_wrap-add_right}
-use Rattle.domains.specs.Arithmetic.{floor_div}
 use Rattle.job.specs.Formula.{stencil}
 use Rattle.job.specs.Reads.{EachRead}
 use Rattle.job.specs.Values.{under, factors, kernel_row, kernel_column, weighted_sum}
@@ -77,12 +76,8 @@ down_width : (fs : NarrowBarFactors) (b : ℕ) → b < bar_length fs → length 
 down_width (Three x y z) b l = three_rows x y z b [] l
 down_width (Five x y z u v) b l = five_rows x y z u v b [] l
 
-some_factors : (fs : NarrowBarFactors) → 0 < bar_length fs
-some_factors (Three x y z) = omega arith
-some_factors (Five x y z u v) = omega arith
-
 module _ (axis : NarrowBarAxis) (fs : NarrowBarFactors) (rows : List (List ℤ)) (is : rows ≡ bar_kernel axis fs) where
-  pub is_kernel : IsKernel rows
+  is_kernel : IsKernel rows
   is_kernel = subst IsKernel (sym is) (bar_is_kernel axis fs)
 
   on : (axis' : NarrowBarAxis) → axis ≡ axis' → rows ≡ bar_kernel axis' fs
@@ -100,16 +95,16 @@ module _ (axis : NarrowBarAxis) (fs : NarrowBarFactors) (rows : List (List ℤ))
   width_down : axis ≡ Down → (b : ℕ) → b < bar_length fs → length (factors rows b) ≡ 1
   width_down e b l = ap (λ (rs : List (List ℤ)). length (factors rs b)) (on Down e) ∙ down_width fs b l
 
-  pub has_row_across : axis ≡ Across → 0 < length rows
+  has_row_across : axis ≡ Across → 0 < length rows
   has_row_across e = let h = height_across e in omega (arith, h)
 
-  pub has_row_down : axis ≡ Down → (b : ℕ) → b < bar_length fs → b < length rows
+  has_row_down : axis ≡ Down → (b : ℕ) → b < bar_length fs → b < length rows
   has_row_down e b l = let h = height_down e in omega (arith, h, l)
 
   -- ---- what is read
 
   module _ (has : ℕ → ℤ → ℤ → Type 0) (g d n : ℕ) (r c : ℤ) (some : 0 < n)
-    (h : EachPlace n (λ k. EachRead has (stencil g d rows) r (c +ℤ pos k))) where
+      (h : EachPlace n (λ k. EachRead has (stencil g d rows) r (c +ℤ pos k))) where
     within : KernelWithin (has g) rows r c n
     within = reads_along has r c n (stencil g 9 rows) some ((omega arith, omega arith), is_kernel) h
 
@@ -134,15 +129,6 @@ module _ (axis : NarrowBarAxis) (fs : NarrowBarFactors) (rows : List (List ℤ))
         ∙ h (k + b) (omega (arith, l, le))
         ∙ (λ i. f (under r (height_across e i) 0) (under c (width_across e i) (k + b)))
         ∙ ap (f (under r 1 0)) (under_shifted c (bar_length fs) k b)
-        ∙ ap (λ (x : NarrowBarAxis). bar_sample x (bar_length fs) f r (c +ℤ pos k) b) (sym e)
-
-    pub line_down : axis ≡ Down → (b k : ℕ) (line : List ℤ) → IsUnder rows f r c b line → k < length line
-        → at line k ≡ bar_sample axis (bar_length fs) f r (c +ℤ pos k) b
-    line_down e b k line h l =
-        let same : k ≡ k + 0 = omega arith in
-        h k l
-        ∙ (λ i. f (under r (height_down e i) b) (under c (width_down e 0 (some_factors fs) i) (same i)))
-        ∙ ap (f (under r (bar_length fs) b)) (under_shifted c 1 k 0)
         ∙ ap (λ (x : NarrowBarAxis). bar_sample x (bar_length fs) f r (c +ℤ pos k) b) (sym e)
 
 -- ---- the sums

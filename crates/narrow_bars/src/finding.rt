@@ -102,10 +102,7 @@ fn match_narrow_bar_kernel(rows: &[KernelFactors]) -> Option<(NarrowBarAxis, Nar
     ensures { IfSome result (λ it. rows.now ≡ bar_kernel it.0 it.1) }
 {
     match rows {
-        [row] => Some((
-            NarrowBarAxis::Across,
-            match_narrow_bar_row(row.as_slice())?,
-        )),
+        [row] => Some((NarrowBarAxis::Across, match_narrow_bar_row(row.as_slice())?)),
         _ => Some((NarrowBarAxis::Down, match_narrow_bar_column(rows)?)),
     }
 }

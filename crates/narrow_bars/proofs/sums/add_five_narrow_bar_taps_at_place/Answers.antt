@@ -1,4 +1,4 @@
-use Rattle.std.proofs.Common.{rules, ℤ, ◌+ℤ◌, w16, FitsSigned, ◌∙◌}
+use Rattle.std.proofs.Common.{rules, ◌+ℤ◌, w16, FitsSigned, ◌∙◌}
 use Rattle.std.specs.Int.{int_wrap}
 use Rattle.std.proofs.lemmas.Int.{to_z-of_z}
 use Rattle.narrow_bars.proofs.Bars.{wrapped_sum}

@@ -1,4 +1,4 @@
-use Rattle.std.proofs.Common.{arith, ◌+◌, sym, rules, length}
+use Rattle.std.proofs.Common.{arith, ◌+◌}
 use Rattle.narrow_bars.proofs.Bars.{read_across, read_down, line_across}
 use Rattle.narrow_bars.proofs.writing.borrow_narrow_bar_line.Goals as goal
 
