@@ -167,23 +167,23 @@ module _ (f : ℤ → ℤ → ℤ) (r c : ℤ) where
       five_down (x *ℤ bar_sample Down 5 f r c 0) (y *ℤ bar_sample Down 5 f r c 1) (z *ℤ bar_sample Down 5 f r c 2) (u *ℤ bar_sample Down 5 f r c 3) (v *ℤ bar_sample Down 5 f r c 4)
 
   module _ (axis : NarrowBarAxis) (fs : NarrowBarFactors) (rows : List (List ℤ)) (is : rows ≡ bar_kernel axis fs) where
-    abbrev sample : ℕ → ℤ
-    sample b = bar_sample axis (bar_length fs) f r c b
+    -- the product with factor number b
+    abbrev product : ℤ → ℕ → ℤ
+    product x b = x *ℤ bar_sample axis (bar_length fs) f r c b
 
-    pub three_sum : (x y z : ℤ) → fs ≡ Three x y z → (p q s : ℤ) → p ≡ sample 0 → q ≡ sample 1 → s ≡ sample 2
-        → x *ℤ p +ℤ y *ℤ q +ℤ z *ℤ s ≡ weighted_sum rows f r c
+    pub three_sum : (x y z : ℤ) → fs ≡ Three x y z → (p q s : ℤ) → p ≡ product x 0 → q ≡ product y 1 → s ≡ product z 2
+        → p +ℤ q +ℤ s ≡ weighted_sum rows f r c
     three_sum x y z e p q s hp hq hs =
-        (λ i. x *ℤ hp i +ℤ y *ℤ hq i +ℤ z *ℤ hs i)
+        (λ i. hp i +ℤ hq i +ℤ hs i)
         ∙ (λ i. x *ℤ bar_sample axis (bar_length (e i)) f r c 0 +ℤ y *ℤ bar_sample axis (bar_length (e i)) f r c 1
         +ℤ z *ℤ bar_sample axis (bar_length (e i)) f r c 2)
         ∙ three_are axis x y z
         ∙ ap (λ (rs : List (List ℤ)). weighted_sum rs f r c) (sym (is ∙ ap (bar_kernel axis) e))
 
-    pub five_sum : (x y z u v : ℤ) → fs ≡ Five x y z u v → (p q s t w : ℤ) → p ≡ sample 0 → q ≡ sample 1 → s ≡ sample 2
-        → t ≡ sample 3 → w ≡ sample 4
-        → x *ℤ p +ℤ y *ℤ q +ℤ z *ℤ s +ℤ u *ℤ t +ℤ v *ℤ w ≡ weighted_sum rows f r c
+    pub five_sum : (x y z u v : ℤ) → fs ≡ Five x y z u v → (p q s t w : ℤ) → p ≡ product x 0 → q ≡ product y 1 → s ≡ product z 2
+        → t ≡ product u 3 → w ≡ product v 4 → p +ℤ q +ℤ s +ℤ t +ℤ w ≡ weighted_sum rows f r c
     five_sum x y z u v e p q s t w hp hq hs ht hw =
-        (λ i. x *ℤ hp i +ℤ y *ℤ hq i +ℤ z *ℤ hs i +ℤ u *ℤ ht i +ℤ v *ℤ hw i)
+        (λ i. hp i +ℤ hq i +ℤ hs i +ℤ ht i +ℤ hw i)
         ∙ (λ i. x *ℤ bar_sample axis (bar_length (e i)) f r c 0 +ℤ y *ℤ bar_sample axis (bar_length (e i)) f r c 1
         +ℤ z *ℤ bar_sample axis (bar_length (e i)) f r c 2 +ℤ u *ℤ bar_sample axis (bar_length (e i)) f r c 3
         +ℤ v *ℤ bar_sample axis (bar_length (e i)) f r c 4)

@@ -1,12 +1,13 @@
 #![tactic(auto)]
 //! The values of stencils whose kernel is a bar, along rows of points.
 
-ghost use Rattle.std.specs.Prelude.{◌≡◌, ◌<◌, ◌^◌, ◌+ℤ◌, pos, length, IfSome};
+ghost use Rattle.std.specs.Prelude.{◌≡◌, ◌<◌, ◌^◌, ◌+ℤ◌, ◌*ℤ◌, pos, length, IfSome};
 ghost use Rattle.std.specs.Int.{w16, int_wrap};
 ghost use Rattle.domains.specs.Arithmetic.{floor_div};
 ghost use Rattle.job.specs.Reads.{EachRead};
 ghost use Rattle.job.specs.Values.{formula_value, weighted_sum};
 ghost use Rattle.operators.specs.Limits.{IsDivisor};
+ghost use Rattle.narrow_kernels.specs.NarrowTaps.{tap_at};
 ghost use Rattle.row_loops.specs.Rows.{EachPlace, at};
 ghost use Rattle.value_ranges.specs.Narrow.{IsNarrow};
 ghost use Rattle.narrow_bars.specs.NarrowBars.{bar_length, bar_sample, bar_formula, IsRightBar};
@@ -58,6 +59,28 @@ fn borrow_narrow_bar_line<'a, S: NarrowSource>(
     }
 }
 
+// A factor, and the samples under factor b at the points.
+fn borrow_narrow_bar_tap<'a, S: NarrowSource>(
+    source: &'a S,
+    bar: &NarrowBar<'_>,
+    b: usize,
+    factor: i16,
+    points: &RowSpan,
+) -> NarrowTap<'a>
+    requires some { 0 < points.now.len }
+    requires right { IsRightBar bar.now }
+    requires b { b < bar_length bar.now.factors }
+    requires reads { EachPlace points.now.len (λ k. EachRead (S.has source.now)
+        (bar_formula bar.now) points.now.row (points.now.col +ℤ pos k)) }
+    ensures count { length result.line.now ≡ points.now.len }
+    ensures products { EachPlace points.now.len (λ k. tap_at result k
+        ≡ factor *ℤ bar_sample bar.now.axis (bar_length bar.now.factors)
+        (S.samples source.now bar.now.stage) points.now.row (points.now.col +ℤ pos k) b) }
+{
+    let line = borrow_narrow_bar_line(source, bar, b, points);
+    NarrowTap { line, factor }
+}
+
 // By how many bits a division shifts to the right, if it does, and by fewer than 16.
 fn find_narrow_bar_shift(divisor: u32) -> Option<u32>
     requires { IsDivisor divisor }
@@ -93,41 +116,17 @@ fn write_narrow_bar_sums<S: NarrowSource>(
 {
     match bar.factors {
         NarrowBarFactors::Three(a, b, c) => {
-            let a = NarrowTap {
-                line: borrow_narrow_bar_line(source, bar, 0, points),
-                factor: a,
-            };
-            let b = NarrowTap {
-                line: borrow_narrow_bar_line(source, bar, 1, points),
-                factor: b,
-            };
-            let c = NarrowTap {
-                line: borrow_narrow_bar_line(source, bar, 2, points),
-                factor: c,
-            };
+            let a = borrow_narrow_bar_tap(source, bar, 0, a, points);
+            let b = borrow_narrow_bar_tap(source, bar, 1, b, points);
+            let c = borrow_narrow_bar_tap(source, bar, 2, c, points);
             write_narrow_bar_sums_of_three_taps(out, a, b, c, bits);
         }
         NarrowBarFactors::Five(a, b, c, d, e) => {
-            let a = NarrowTap {
-                line: borrow_narrow_bar_line(source, bar, 0, points),
-                factor: a,
-            };
-            let b = NarrowTap {
-                line: borrow_narrow_bar_line(source, bar, 1, points),
-                factor: b,
-            };
-            let c = NarrowTap {
-                line: borrow_narrow_bar_line(source, bar, 2, points),
-                factor: c,
-            };
-            let d = NarrowTap {
-                line: borrow_narrow_bar_line(source, bar, 3, points),
-                factor: d,
-            };
-            let e = NarrowTap {
-                line: borrow_narrow_bar_line(source, bar, 4, points),
-                factor: e,
-            };
+            let a = borrow_narrow_bar_tap(source, bar, 0, a, points);
+            let b = borrow_narrow_bar_tap(source, bar, 1, b, points);
+            let c = borrow_narrow_bar_tap(source, bar, 2, c, points);
+            let d = borrow_narrow_bar_tap(source, bar, 3, d, points);
+            let e = borrow_narrow_bar_tap(source, bar, 4, e, points);
             write_narrow_bar_sums_of_five_taps(out, a, b, c, d, e, bits);
         }
     }
