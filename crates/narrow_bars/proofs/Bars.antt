@@ -162,9 +162,15 @@ module _ (f : ℤ → ℤ → ℤ) (r c : ℤ) where
       +ℤ u *ℤ bar_sample axis 5 f r c 3 +ℤ v *ℤ bar_sample axis 5 f r c 4
       ≡ weighted_sum (bar_kernel axis (Five x y z u v)) f r c
   five_are Across x y z u v =
-      five_across (x *ℤ bar_sample Across 5 f r c 0) (y *ℤ bar_sample Across 5 f r c 1) (z *ℤ bar_sample Across 5 f r c 2) (u *ℤ bar_sample Across 5 f r c 3) (v *ℤ bar_sample Across 5 f r c 4)
+      five_across (x *ℤ bar_sample Across 5 f r c 0) (y *ℤ bar_sample Across 5 f r c 1) (z *ℤ bar_sample Across 5 f r c 2)
+      (u *ℤ bar_sample Across 5 f r c 3) (v *ℤ bar_sample Across 5 f r c 4)
   five_are Down x y z u v =
-      five_down (x *ℤ bar_sample Down 5 f r c 0) (y *ℤ bar_sample Down 5 f r c 1) (z *ℤ bar_sample Down 5 f r c 2) (u *ℤ bar_sample Down 5 f r c 3) (v *ℤ bar_sample Down 5 f r c 4)
+      five_down (x *ℤ bar_sample Down 5 f r c 0) (y *ℤ bar_sample Down 5 f r c 1) (z *ℤ bar_sample Down 5 f r c 2)
+      (u *ℤ bar_sample Down 5 f r c 3) (v *ℤ bar_sample Down 5 f r c 4)
+
+  -- a product with the same factor
+  pub same_factor : (axis : NarrowBarAxis) (n b : ℕ) (x y p : ℤ) → x ≡ y → p ≡ x *ℤ bar_sample axis n f r c b → p ≡ y *ℤ bar_sample axis n f r c b
+  same_factor axis n b x y p e h = h ∙ ap (λ (z : ℤ). z *ℤ bar_sample axis n f r c b) e
 
   module _ (axis : NarrowBarAxis) (fs : NarrowBarFactors) (rows : List (List ℤ)) (is : rows ≡ bar_kernel axis fs) where
     -- the product with factor number b
