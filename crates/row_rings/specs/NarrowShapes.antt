@@ -2,6 +2,7 @@
 use Rattle.std.specs.Prelude.{ℕ, ◌≡◌, false, Some, List, [], ◌∷◌, slice_get}
 use Rattle.job.specs.Formula.{Formula}
 use Rattle.job.specs.Pipeline.{Body, plane, function, accumulator, Stage, Pipeline}
+use Rattle.narrow_bars.specs.NarrowBars.{bar_formula, IsRightBar}
 use Rattle.narrow_choices.specs.NarrowChoices.{choice_formula, IsRightChoice}
 use Rattle.narrow_filters.specs.Filters.{filter_formula, IsRightFilter}
 use Rattle.narrow_limits.specs.NarrowLimits.{limit_formula, IsRightLimit}
@@ -10,7 +11,7 @@ use Rattle.narrow_averages.specs.NarrowAverages.{average_formula, IsRightAverage
 use Rattle.narrow_pieces.specs.Pieces.{AreFunctionPieces}
 use Rattle.narrow_pieces.specs.declared.piece.NarrowPieces.{NarrowPieces}
 use Rattle.row_rings.specs.declared.narrow_shapes.NarrowShape.{NarrowShape}
-use Rattle.row_rings.specs.declared.narrow_shapes.NarrowShape.TheVariants.{Mix, Pieces, Average, Limit, Choice, Filter, Halves, Other}
+use Rattle.row_rings.specs.declared.narrow_shapes.NarrowShape.TheVariants.{Mix, Pieces, Bar, Average, Limit, Choice, Filter, Halves, Other}
 use Rattle.row_rings.specs.NarrowRings.{is_mix_body}
 
 -- a function that is this formula everywhere
@@ -29,6 +30,7 @@ ArePiecesOfBody pieces (accumulator fold bins value bin) = ⊥
 abbrev pub IsShapeOf : NarrowShape → Body → Type 0
 IsShapeOf (Mix mix) body = IsFormulaBody (mix_formula mix) body × IsRightMix mix
 IsShapeOf (Pieces pieces) body = ArePiecesOfBody pieces body × (is_mix_body body ≡ false)
+IsShapeOf (Bar bar) body = IsFormulaBody (bar_formula bar) body × IsRightBar bar × (is_mix_body body ≡ false)
 IsShapeOf (Average average) body = IsFormulaBody (average_formula average) body × IsRightAverage average × (is_mix_body body ≡ false)
 IsShapeOf (Limit limit) body = IsFormulaBody (limit_formula limit) body × IsRightLimit limit × (is_mix_body body ≡ false)
 IsShapeOf (Choice choice) body = IsFormulaBody (choice_formula choice) body × IsRightChoice choice × (is_mix_body body ≡ false)

@@ -3,6 +3,7 @@ use Rattle.std.specs.Prelude.{List, [], ◌∷◌}
 use Rattle.std.proofs.Props.{props}
 use Rattle.job.specs.Formula.{Formula}
 use Rattle.job.specs.Pipeline.{Body, plane, function, accumulator, Stage}
+use Rattle.narrow_bars.specs.BarsOnce.{IsRightBar-prop}
 use Rattle.narrow_choices.specs.ChoicesOnce.{IsRightChoice-prop}
 use Rattle.narrow_filters.specs.FiltersOnce.{IsRightFilter-prop}
 use Rattle.narrow_limits.specs.LimitsOnce.{IsRightLimit-prop}
@@ -11,7 +12,7 @@ use Rattle.narrow_averages.specs.AveragesOnce.{IsRightAverage-prop}
 use Rattle.narrow_pieces.specs.PiecesOnce.{AreFunctionPieces-prop}
 use Rattle.narrow_pieces.specs.declared.piece.NarrowPieces.{NarrowPieces}
 use Rattle.row_rings.specs.declared.narrow_shapes.NarrowShape.{NarrowShape}
-use Rattle.row_rings.specs.declared.narrow_shapes.NarrowShape.TheVariants.{Mix, Pieces, Average, Limit, Choice, Filter, Halves, Other}
+use Rattle.row_rings.specs.declared.narrow_shapes.NarrowShape.TheVariants.{Mix, Pieces, Bar, Average, Limit, Choice, Filter, Halves, Other}
 use Rattle.row_rings.specs.NarrowShapes.{IsFormulaBody, ArePiecesOfBody, IsShapeOf, AreShapesOf}
 
 IsFormulaBody-prop : (f : Formula) (body : Body) → IsProp (IsFormulaBody f body)
@@ -27,6 +28,7 @@ ArePiecesOfBody-prop pieces (accumulator fold bins value bin) = hlevel props
 IsShapeOf-prop : (shape : NarrowShape) (body : Body) → IsProp (IsShapeOf shape body)
 IsShapeOf-prop (Mix mix) body = hlevel (IsFormulaBody-prop, IsRightMix-prop, props)
 IsShapeOf-prop (Pieces pieces) body = hlevel (ArePiecesOfBody-prop, props)
+IsShapeOf-prop (Bar bar) body = hlevel (IsFormulaBody-prop, IsRightBar-prop, props)
 IsShapeOf-prop (Average average) body = hlevel (IsFormulaBody-prop, IsRightAverage-prop, props)
 IsShapeOf-prop (Limit limit) body = hlevel (IsFormulaBody-prop, IsRightLimit-prop, props)
 IsShapeOf-prop (Choice choice) body = hlevel (IsFormulaBody-prop, IsRightChoice-prop, props)

@@ -27,6 +27,7 @@ use crate::ring::{RowRing, RowRings};
 use domains::Area;
 use job::{Body, Function, Job};
 use narrow_averages::write_narrow_average;
+use narrow_bars::write_narrow_bar;
 use narrow_choices::write_narrow_choice;
 use narrow_eval::{NarrowSource, evaluate_narrow_formula, evaluate_narrow_function};
 use narrow_filters::write_narrow_filter;
@@ -126,6 +127,7 @@ fn write_shaped_row_to_narrow_ring<S: NarrowSource>(
     match shape {
         NarrowShape::Mix(mix) => write_narrow_mix(source, mix, points, out),
         NarrowShape::Pieces(pieces) => write_narrow_pieces(source, function, pieces, points, out),
+        NarrowShape::Bar(bar) => write_narrow_bar(source, bar, points, out),
         NarrowShape::Average(average) => write_narrow_average(source, average, points, out),
         NarrowShape::Limit(limit) => write_narrow_limit(source, limit, points, out),
         NarrowShape::Choice(choice) => write_narrow_choice(source, choice, points, out),

@@ -11,6 +11,7 @@ ghost use Rattle.row_rings.specs.NarrowShapes.{IsShapeOf, AreShapesOf};
 
 use job::{Body, Function, Job, Stage};
 use narrow_averages::{NarrowAverage, find_narrow_average};
+use narrow_bars::{NarrowBar, find_narrow_bar};
 use narrow_choices::{NarrowChoice, find_narrow_choice};
 use narrow_filters::{NarrowFilter, find_narrow_filter};
 use narrow_halves::find_narrow_halves;
@@ -25,6 +26,7 @@ use std::alloc::{AllocError, Global};
 pub(crate) enum NarrowShape<'a> {
     Mix(NarrowMix<'a>),
     Pieces(NarrowPieces<'a>),
+    Bar(NarrowBar<'a>),
     Average(NarrowAverage<'a>),
     Limit(NarrowLimit<'a>),
     Choice(NarrowChoice<'a>),
@@ -45,6 +47,9 @@ fn find_narrow_ring_shape_besides_mix<'a>(
 {
     if let Some(pieces) = find_narrow_pieces(function) {
         return Ok(NarrowShape::Pieces(pieces));
+    }
+    if let Some(bar) = find_narrow_bar(function) {
+        return Ok(NarrowShape::Bar(bar));
     }
     if let Some(average) = find_narrow_average(function) {
         return Ok(NarrowShape::Average(average));

@@ -4,13 +4,14 @@ use Rattle.std.specs.Option.{option_map}
 use Rattle.job.specs.Pipeline.{function}
 use Rattle.job.specs.Views.{case_view, formula_view}
 use Rattle.narrow_mixes.specs.NarrowMixes.{mix_formula}
+use Rattle.narrow_bars.specs.NarrowBars.{bar_formula}
 use Rattle.narrow_choices.specs.NarrowChoices.{choice_formula}
 use Rattle.narrow_limits.specs.NarrowLimits.{limit_formula}
 use Rattle.narrow_filters.specs.Filters.{filter_formula}
 use Rattle.narrow_averages.specs.NarrowAverages.{average_formula}
 use Rattle.row_rings.specs.NarrowShapes.{IsShapeOf}
 use Rattle.row_rings.specs.declared.narrow_shapes.NarrowShape.{NarrowShape}
-use Rattle.row_rings.proofs.Shapes.{formula_read, formula_narrow, formula_everywhere, average_narrow-prop, filter_narrow-prop}
+use Rattle.row_rings.proofs.Shapes.{formula_read, formula_narrow, stencil_narrow, formula_everywhere, average_narrow-prop, filter_narrow-prop}
 use Rattle.row_rings.proofs.narrow_making.write_shaped_row_to_narrow_ring.Goals as goal
 
 -- ---- a mix
@@ -52,6 +53,41 @@ write_narrow_pieces-requires-clause-narrow g c =
     let is = subst (λ (shape : NarrowShape). IsShapeOf shape (function (map case_view f.cases.items) (option_map formula_view f.otherwise)))
     c.in-Pieces.is c.requires.shape in
     (c.requires.function is.1).narrow
+
+-- ---- a bar
+
+pub write_narrow_bar-requires-clause-right : goal.write_narrow_bar-requires-clause-right
+write_narrow_bar-requires-clause-right g c =
+    let f = c.args.function.now in
+    (subst (λ (shape : NarrowShape). IsShapeOf shape (function (map case_view f.cases.items) (option_map formula_view f.otherwise)))
+    c.in-Bar.is c.requires.shape).1
+
+pub write_narrow_bar-requires-clause-reads : goal.write_narrow_bar-requires-clause-reads
+write_narrow_bar-requires-clause-reads g c = λ k h.
+    let f = c.args.function.now in
+    let is = subst (λ (shape : NarrowShape). IsShapeOf shape (function (map case_view f.cases.items) (option_map formula_view f.otherwise)))
+    c.in-Bar.is c.requires.shape in
+    formula_read (g.S.NarrowSource.has c.args.source.now) (bar_formula c.in-Bar.bar) (map case_view f.cases.items)
+    (option_map formula_view f.otherwise) _ _ is.0 (c.requires.reads k (omega (arith, h, c.requires.fits)))
+
+pub write_narrow_bar-requires-clause-narrow : goal.write_narrow_bar-requires-clause-narrow
+write_narrow_bar-requires-clause-narrow g c = λ k h.
+    let f = c.args.function.now in
+    let is = subst (λ (shape : NarrowShape). IsShapeOf shape (function (map case_view f.cases.items) (option_map formula_view f.otherwise)))
+    c.in-Bar.is c.requires.shape in
+    let bar = c.in-Bar.bar in
+    stencil_narrow (g.S.NarrowSource.samples c.args.source.now) bar.stage bar.divisor bar.kernel.now (map case_view f.cases.items)
+    (option_map formula_view f.otherwise) _ _ is.0
+    ((c.requires.function is.2).narrow k (omega (arith, h, c.requires.fits)))
+
+pub returns-in-Bar : goal.returns-in-Bar
+returns-in-Bar g c = λ k h.
+    let f = c.args.function.now in
+    let is = subst (λ (shape : NarrowShape). IsShapeOf shape (function (map case_view f.cases.items) (option_map formula_view f.otherwise)))
+    c.in-Bar.is c.requires.shape in
+    c.write_narrow_bar.ensures k h
+    ∙ formula_everywhere (g.S.NarrowSource.samples c.args.source.now) (bar_formula c.in-Bar.bar) (map case_view f.cases.items)
+    (option_map formula_view f.otherwise) _ _ is.0
 
 -- ---- an average
 

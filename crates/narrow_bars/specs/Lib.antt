@@ -1,0 +1,2 @@
+pub mod NarrowBars
+pub mod BarsOnce
