@@ -1,4 +1,4 @@
-//! Functions that are the sum of two reads everywhere, shifted to the right, as a mean of two neighbours is. They are written in one pass.
+//! Functions that are the sum of two or four reads everywhere, shifted to the right. They are written in one pass.
 //!
 //! Words: narrow average.
 #![tactic(auto)]

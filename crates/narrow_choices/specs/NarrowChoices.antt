@@ -22,11 +22,11 @@ choice_formula p = select (difference_formula p.near) AtMost (difference_formula
 
 -- ---- what can be computed of them
 
--- of both reads
+-- both reads take adjacent samples
 abbrev pub IsRightDifference : NarrowChoiceDifference → Type 0
 IsRightDifference d = IsAdjacentRead d.left × IsAdjacentRead d.right
 
--- of all reads
+-- all reads take adjacent samples
 pub record IsRightChoice (p : NarrowChoice) : Type 0 where
   pub near : IsRightDifference p.near
   pub far : IsRightDifference p.far

@@ -31,7 +31,7 @@ taps_formula center [] = number (pos 0)
 taps_formula center (t ∷ []) = tap_formula center t
 taps_formula center (t ∷ u ∷ ts) = binary Add (taps_formula center (u ∷ ts)) (tap_formula center t)
 
--- a number is added to a formula, and the sum divided or shifted
+-- an operator with a literal, on the sum of a formula and a number
 abbrev pub scaled_formula : NarrowFilterScale → Formula → Formula
 scaled_formula scale f = literal scale.op (binary Add f (number scale.number)) scale.literal
 
@@ -50,7 +50,7 @@ IsShiftingRead x = (x.col.now.mul ≡ pos 1) × (x.col.now.div ≡ pos 1)
 abbrev pub IsRightCenter : NarrowFilterCenter → Type 0
 IsRightCenter center = IsShiftingRead center.read × (pos 0 ≤ℤ center.below) × (pos 0 ≤ℤ center.above)
 
--- each line that it takes can be borrowed, and its operator has a meaning with its literal
+-- each line that it takes can be borrowed, 0 lies within the bounds of its center, and its literal within the limits of its operator
 pub record IsRightFilter (filter : NarrowFilter) : Type 0 where
   pub center : IsRightCenter filter.center
   pub taps : All (λ t. IsShiftingRead t.read) filter.taps.items

@@ -27,7 +27,7 @@ pub struct NarrowFilterTap<'a> {
     pub(crate) read: NarrowFilterRead<'a>,
 }
 
-/// What is done with the sum: a number is added, and the result is divided or shifted to the right.
+/// What is done with the sum: a number is added, and an operator with a literal is applied.
 #[derive(Clone, Copy)]
 pub struct NarrowFilterScale {
     pub(crate) number: i16,

@@ -231,7 +231,7 @@ fn find_narrow_filter_center(formula: &Formula) -> Option<NarrowFilterCenter<'_>
     }
 }
 
-// Whether an operator can be applied to sums with this literal.
+// Whether an operator divides or shifts to the right, by a literal within its limits.
 fn is_narrow_filter_literal(op: LiteralOp, literal: u32) -> bool
     ensures { IsTrue result → IsLiteral op literal }
 {

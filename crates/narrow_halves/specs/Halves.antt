@@ -1,5 +1,5 @@
--- Functions of two cases that alternate along a row. The formula of each is an operator with a literal, on the sum of two terms and
--- a number, and its terms are read at halved columns.
+-- Functions of two cases. The formula of each is an operator with a literal, on the sum of two terms and a number. Its terms are read at
+-- halved columns. Whether the cases alternate is asked in each row.
 use Rattle.std.specs.Prelude.{◌≡◌, ℤ, pos, List, [], ◌∷◌, map}
 use Rattle.operators.specs.declared.operator.BinaryOp.TheVariants.{Add, Mul}
 use Rattle.job.specs.Formula.{Formula, number, read, binary, literal}
@@ -38,7 +38,7 @@ IsHalvingTerm (Product factor x) = IsHalvingRead x
 abbrev pub IsHalvingHalf : NarrowHalf → Type 0
 IsHalvingHalf half = IsHalvingTerm half.first × IsHalvingTerm half.second
 
--- they are the formulas of the two cases
+-- they are the formulas of the two cases, and read at halved columns
 pub record AreHalvesOf (halves : NarrowHalves) (ps : List JobCase) : Type 0 where
   pub formulas : map (λ p. p.formula) ps ≡ half_formula halves.first ∷ half_formula halves.second ∷ []
   pub first : IsHalvingHalf halves.first

@@ -1,5 +1,5 @@
-//! Functions that enlarge a picture twice across: two cases that alternate along a row, whose formulas join two samples each. Each
-//! formula is computed at its own columns alone, and the two rows are interleaved.
+//! Functions that double a picture's width: two cases that alternate along a row, whose formulas join two samples each. Each formula is
+//! computed at its own columns alone, and the two rows are interleaved.
 //!
 //! Words: narrow half, narrow halves.
 #![tactic(auto)]

@@ -60,7 +60,7 @@ fn find_narrow_halves_turn(first: RowMask, second: RowMask, points: &RowSpan) ->
     }
 }
 
-/// The part of a row where both boxes of two cases lie and the cases alternate. None if the boxes cut out different parts.
+/// The part of a row in the boxes of two cases, if the cases alternate there. None if the boxes have different parts of it.
 pub(crate) fn find_narrow_halves_part(
     first: &JobCase,
     second: &JobCase,

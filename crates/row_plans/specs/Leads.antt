@@ -11,7 +11,8 @@ use Rattle.row_plans.specs.declared.row_state.RowState.{RowState}
 use Rattle.row_plans.specs.declared.row_state_window.RowStateWindow.{RowStateWindow}
 use Rattle.row_plans.specs.declared.stage_rows_read.StageRowsRead.{StageRowsRead}
 
--- the next row of stage g can be made: one more is left, it is to be kept, and all that it is made of is kept
+-- the next row of stage g can be made: it lies in the domain, from the first row that is made on. A row is to be kept, and all that it
+-- reads is
 pub record CanMakeRow (list : List StageRowsRead) (states : List RowState) (g : ℕ) : Type 0 where
   pub read : StageRowsRead
   pub there : slice_get list g ≡ Some read

@@ -27,7 +27,7 @@ pub record AreWindowsMoved (d : ℕ → ℕ) (states : List RowState) (begun end
   pub before : AreWindowsOf states begun
   pub after : AreWindowsOf (states_moved d states) ended
 
--- where d g rows more of each stage g are made, x takes rows that lie as many rows farther as there are more of its stage
+-- x is a read of stage g. Where d h rows more of each stage h are made, it takes rows that lie d x.stage rows farther
 pub record IsReadMoved (d : ℕ → ℕ) (states : List RowState) (g : ℕ) (x : RowsRead) : Type 0 where
   pub moved : (s : RowState) → slice_get states g ≡ Some s → (r : ℤ) → next_row s ≤ℤ r → Holds x.rows (r +ℤ pos (d g))
       → Holds x.rows r × (middle_row x (r +ℤ pos (d g)) ≡ middle_row x r +ℤ pos (d x.stage))
@@ -40,7 +40,7 @@ pub record AreReadsMoved (list : List StageRowsRead) (d : ℕ → ℕ) (states :
 pub record IsLeft (states : List RowState) (d : ℕ → ℕ) : Type 0 where
   pub left : (g : ℕ) (s : RowState) → slice_get states g ≡ Some s → 0 < d g → s.next + d g ≤ len_of s.area.rows
 
--- steps that make d g rows of each stage g and output some rows of the picture can be taken n times more
+-- steps that make d g rows of each stage g and output height rows of the picture can be taken n times more
 pub record CanRepeat (list : List StageRowsRead) (outputs : List ℕ) (d : ℕ → ℕ) (states : List RowState) (height n : ℕ) : Type 0 where
   pub reads : AreReadsMoved list d states
   pub outputs_moved : All (λ output. d output ≡ height) outputs

@@ -144,15 +144,14 @@ fn take_plan_steps(
     Some(next)
 }
 
-// The row of the picture after as many more as lie between two others, so many times. None if there is no such number.
+// The row of the picture after more periods of as many rows as lie between two others. None if there is no such number.
 fn find_row_after_planned_repeats(row: usize, next: usize, times: usize) -> Option<usize>
     ensures { IfSome result (λ after. (r : ℕ) → next ≡ row + r → after ≡ next + times * r) }
 {
     next.checked_add(times.checked_mul(next.checked_sub(row)?)?)
 }
 
-// Takes steps of a plan, of which the first ones are a period: those that repeat it are taken at once, if their rows have moved as
-// far as all that they read.
+// Takes steps of a plan that begin with a period. Copies of it are not taken step by step, if all that is read moves with the rows.
 fn take_repeated_plan_steps(
     alloc: Global,
     rows: &[StageRowsRead],

@@ -141,8 +141,8 @@ impl<'a> RowPlanner<'a> {
         })
     }
 
-    /// The plan that outputs the rows of the picture from row `first` up to before row `end`, and the steps of it that are repeated
-    /// most.
+    /// The plan that outputs the rows of the picture from row `first` up to before row `end`, and its period whose
+    /// copies have the most steps.
     ///
     /// # Errors
     ///

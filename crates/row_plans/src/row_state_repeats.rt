@@ -1,5 +1,5 @@
 #![tactic(auto)]
-//! The windows of states after the rows that some steps make are made again, and again.
+//! The windows of states after steps that are repeated.
 
 ghost use Rattle.std.specs.Prelude.{◌≡◌, ◌+◌, ◌*◌, ◌<◌, ◌≤◌, ℕ, pos, true, List, All, IfOk, IfSome, length};
 ghost use Rattle.row_plans.specs.Moved.{AreWindowsMoved, AreReadsMoved, IsLeft, CanRepeat, rows_more, states_moved, times_of};
@@ -27,7 +27,7 @@ pub(crate) fn count_row_state_rows_made(
 }
 
 // Whether all that each stage reads moves with its rows.
-fn do_row_state_reads_move(
+fn are_row_state_reads_moved(
     rows: &[StageRowsRead],
     begun: &[RowStateWindow],
     ended: &[RowStateWindow],
@@ -36,7 +36,7 @@ fn do_row_state_reads_move(
         → AreWindowsMoved d states begun.now ended.now → AreReadsMoved rows.now d states }
 {
     for stage in 0..rows.len() {
-        if !rows[stage].do_rows_read_move(begun, ended, stage) {
+        if !rows[stage].are_rows_read_moved(begun, ended, stage) {
             return false;
         }
     }
@@ -44,7 +44,7 @@ fn do_row_state_reads_move(
 }
 
 // Whether of each output as many rows are made as rows of the picture are output.
-fn do_row_state_outputs_move(
+fn are_row_state_outputs_moved(
     begun: &[RowStateWindow],
     ended: &[RowStateWindow],
     outputs: &[usize],
@@ -152,8 +152,8 @@ pub(crate) fn list_repeated_row_state_windows(
         → AreWindowsMoved d states begun.now ended.now → length states ≡ length ended.now
         → CanRepeat rows.now outputs.now d states height times)) }
 {
-    if do_row_state_reads_move(rows, begun, ended)
-        && do_row_state_outputs_move(begun, ended, outputs, height)
+    if are_row_state_reads_moved(rows, begun, ended)
+        && are_row_state_outputs_moved(begun, ended, outputs, height)
     {
         list_moved_row_state_windows(alloc, begun, ended, times)
     } else {

@@ -213,13 +213,13 @@ impl RowsRead {
         ensures { result ≡ true → (r : ℤ) → middle_row self.now (r +ℤ made) ≡ middle_row self.now r +ℤ moved }
     {
         match self.index {
-            Some(index) => do_rows_read_at_index_move(&index, made, moved),
+            Some(index) => are_rows_read_at_index_moved(&index, made, moved),
             None => made == moved,
         }
     }
 
     /// Whether the rows that are read move by as many rows as their stage, if the reader's row moves by as many as the reader.
-    pub(crate) fn do_rows_read_move(
+    pub(crate) fn are_rows_read_moved(
         &self,
         begun: &[RowStateWindow],
         ended: &[RowStateWindow],
@@ -276,7 +276,7 @@ fn find_row_read_at_index(index: &Index, row: i32) -> Option<i32>
 }
 
 // Whether the row at an index moves by so many rows if the reader's row does.
-fn do_rows_read_at_index_move(index: &Index, made: i32, moved: i32) -> bool
+fn are_rows_read_at_index_moved(index: &Index, made: i32, moved: i32) -> bool
     ensures { result ≡ true → (r : ℤ) → index_at index.now (r +ℤ made) ≡ index_at index.now r +ℤ moved }
 {
     i64::from(index.mul()) * i64::from(made) == i64::from(index.div()) * i64::from(moved)

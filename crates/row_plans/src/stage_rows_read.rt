@@ -72,7 +72,7 @@ impl<'a> StageRowsRead<'a> {
     }
 
     /// Whether all that is read moves with the rows of the stage.
-    pub(crate) fn do_rows_read_move(
+    pub(crate) fn are_rows_read_moved(
         &self,
         begun: &[RowStateWindow],
         ended: &[RowStateWindow],
@@ -83,7 +83,7 @@ impl<'a> StageRowsRead<'a> {
             → All (IsReadMoved d states stage) self.now.reads.items }
     {
         for read in &self.reads {
-            if !read.do_rows_read_move(begun, ended, stage) {
+            if !read.are_rows_read_moved(begun, ended, stage) {
                 return false;
             }
         }

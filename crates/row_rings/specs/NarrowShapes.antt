@@ -26,7 +26,7 @@ ArePiecesOfBody pieces (plane n) = ⊥
 ArePiecesOfBody pieces (function cases otherwise) = AreFunctionPieces pieces cases otherwise
 ArePiecesOfBody pieces (accumulator fold bins value bin) = ⊥
 
--- rows that are made so are those of the body. What is made otherwise than as a mix is none
+-- rows that are made so are those of the body. A body of another shape than that of a mix is no mix
 abbrev pub IsShapeOf : NarrowShape → Body → Type 0
 IsShapeOf (Mix mix) body = IsFormulaBody (mix_formula mix) body × IsRightMix mix
 IsShapeOf (Pieces pieces) body = ArePiecesOfBody pieces body × (is_mix_body body ≡ false)

@@ -20,8 +20,8 @@ use narrow_mixes::{NarrowMix, find_narrow_mix};
 use narrow_pieces::{NarrowPieces, find_narrow_pieces};
 use std::alloc::{AllocError, Global};
 
-/// How the rows of a stage are made: as those of a function of a kind that is written in one pass or a few, from halves where the row
-/// has them, or by its formulas.
+/// How the rows of a stage are made: as those of a function that is written in one pass or a few, from halves where the row has them, or
+/// by its formulas.
 #[derive(Drop)]
 pub(crate) enum NarrowShape<'a> {
     Mix(NarrowMix<'a>),

@@ -3,7 +3,7 @@ use Rattle.std.proofs.lemmas.Int.{ints}
 use Rattle.std.proofs.lemmas.Option.{same_Some, slice_get_read}
 use Rattle.row_plans.specs.Rows.{next_row}
 use Rattle.row_plans.specs.Rows.{next_row}
-use Rattle.row_plans.proofs.rows_read.RowsRead.do_rows_read_move.Goals as goal
+use Rattle.row_plans.proofs.rows_read.RowsRead.are_rows_read_moved.Goals as goal
 
 pub returns-then-lo-next : goal.returns-then-lo-next
 returns-then-lo-next c = λ yes states d moved. record {

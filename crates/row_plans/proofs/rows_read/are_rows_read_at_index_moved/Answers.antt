@@ -2,7 +2,7 @@ use Rattle.std.proofs.Common.{◌≡◌, true, nat_eq, arith, ◌*ℤ◌, FitsSi
 use Rattle.std.proofs.lemmas.Bool.{eqb-true}
 use Rattle.std.proofs.lemmas.Int.{ints, fits_signed_mul}
 use Rattle.row_plans.proofs.Taking.{index_moves}
-use Rattle.row_plans.proofs.rows_read.do_rows_read_at_index_move.Goals as goal
+use Rattle.row_plans.proofs.rows_read.are_rows_read_at_index_moved.Goals as goal
 
 pub returns : goal.returns
 returns c = λ yes r.

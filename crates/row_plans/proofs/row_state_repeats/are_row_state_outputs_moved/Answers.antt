@@ -1,7 +1,7 @@
 use Rattle.std.proofs.Common.{◌≡◌}
 use Rattle.std.proofs.lemmas.List.{take_all}
 use Rattle.std.proofs.lemmas.List.Elements.{All-more}
-use Rattle.row_plans.proofs.row_state_repeats.do_row_state_outputs_move.Goals as goal
+use Rattle.row_plans.proofs.row_state_repeats.are_row_state_outputs_moved.Goals as goal
 
 pub loop-output-preserved : goal.loop-output-preserved
 loop-output-preserved c = λ states d moved.
