@@ -17,7 +17,7 @@ sys.path.insert(0, TESTS)
 
 import counted_tests
 from mutants_runner import crate_run
-from mutants_runner.checking import EACH, MOST, READING, Budget, Clock, Watched
+from mutants_runner.checking import EACH, MOST, READING, Budget, Clock, Watched, run
 from mutants_runner.copies import Source, copies_of, copy_proofs, refused_copies
 from mutants_runner.crate_run import CrateRun, next_round
 from mutants_runner.functions import functions_of
@@ -582,7 +582,22 @@ class Budgeted(Crate):
         self.assertEqual(os.path.getsize(left), 0)
 
 
+class SlowBudget(Budget):
+    """A budget that has ended, and that takes longer to note a check than this runs."""
+
+    def note(self, check, used):
+        time.sleep(0.5)
+
+    def has_ended(self):
+        return True
+
+
 class Watching(unittest.TestCase):
+    def test_a_check_that_ends_as_its_budget_does_keeps_its_status(self):
+        for status in (0, 3):
+            said = run(["sh", "-c", f"sleep 0.1; exit {status}"], TESTS, Clock(budget=SlowBudget()))
+            self.assertEqual(said.status, status)
+
     def test_each_function_is_told_as_soon_as_its_line_is_whole(self):
         with tempfile.TemporaryFile() as out:
             watched = Watched(os.getpid(), out.fileno())

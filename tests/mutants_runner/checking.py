@@ -1,6 +1,7 @@
 """Runs a check, with what it takes, until a clock or a budget of processor time ends."""
 import os
 import re
+import signal
 import subprocess
 import tempfile
 import threading
@@ -122,7 +123,8 @@ def run(words: list[str], folder: str, clock: Clock, check: object = None) -> Sa
             if not ended:
                 clock.budget.note(check, watched.processor())
             if not ended and clock.is_over():
-                ran.kill()
+                # (`ran.kill` may take the status of a check that has just ended)
+                os.kill(ran.pid, signal.SIGKILL)
             time.sleep(0.05 if not ended else 0)
         ran.returncode = os.waitstatus_to_exitcode(status)
         out.seek(0)
