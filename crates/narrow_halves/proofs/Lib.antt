@@ -1,2 +1,2 @@
-pub mod HalfLaws
-pub mod TwoCases
+pub mod NarrowSums
+pub mod NarrowWritable

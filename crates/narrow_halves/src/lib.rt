@@ -1,15 +1,10 @@
-//! Functions that double a picture's width: two cases that alternate along a row, whose formulas join two samples each. Each formula is
-//! computed at its own columns alone, and the two rows are interleaved.
+//! Functions whose two cases alternate along a row, written from their halves as numbers of 16 bits.
 //!
 //! Words: narrow half, narrow halves.
 #![tactic(auto)]
 
-mod finding;
-mod half;
-mod interleaving;
-mod parts;
+mod narrow_half;
+mod narrow_half_writer;
 mod writing;
 
-pub use finding::find_narrow_halves;
-pub use half::{NarrowHalf, NarrowHalfRead, NarrowHalfTerm, NarrowHalves};
 pub use writing::write_narrow_halves;

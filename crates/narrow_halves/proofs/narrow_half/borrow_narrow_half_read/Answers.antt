@@ -2,8 +2,8 @@ use Rattle.std.proofs.Common.{rules, arith, ℤ, ◌≡◌, ◌<◌, ◌*◌, po
 use Rattle.std.proofs.lemmas.Int.{to_z-of_z}
 use Rattle.domains.specs.Index.{index_at}
 use Rattle.job.specs.Reads.{point}
-use Rattle.narrow_halves.proofs.HalfLaws.{halves_follow}
-use Rattle.narrow_halves.proofs.writing.borrow_narrow_half_read.Goals as goal
+use Rattle.row_halves.proofs.HalfLaws.{halved_column}
+use Rattle.narrow_halves.proofs.narrow_half.borrow_narrow_half_read.Goals as goal
 
 pub borrow_narrow_row-requires : goal.borrow_narrow_row-requires
 borrow_narrow_row-requires g c = λ k h.
@@ -15,8 +15,7 @@ borrow_narrow_row-requires g c = λ k h.
     let row : to_z w32 (of_z w32 c.row_at_index-row.result) ≡ index_at read.row.now points.row =
     to_z-of_z w32 _ row_fits ∙ c.row_at_index-row.ensures in
     let first : to_z w32 (of_z w32 c.first_column_at_index-first.result) +ℤ pos k ≡ index_at read.col.now (points.col +ℤ pos (2 * k)) =
-    ap (λ (z : ℤ). z +ℤ pos k) (to_z-of_z w32 _ col_fits ∙ c.first_column_at_index-first.ensures)
-    ∙ halves_follow read.col.now points.col k c.requires.halving.0 c.requires.halving.1 in
+    halved_column read.col.now points.col _ k c.requires.halving (to_z-of_z w32 _ col_fits ∙ c.first_column_at_index-first.ensures) in
     let there : 2 * k < points.len = omega (arith, h, c.requires.count) in
     subst (λ (z : ℤ). has z (to_z w32 (of_z w32 c.first_column_at_index-first.result) +ℤ pos k)) (sym row)
     (subst (λ (z : ℤ). has (index_at read.row.now points.row) z) (sym first)
@@ -32,8 +31,7 @@ returns-clause-value g c = λ k l.
     let row : to_z w32 (of_z w32 c.row_at_index-row.result) ≡ index_at read.row.now points.row =
     to_z-of_z w32 _ row_fits ∙ c.row_at_index-row.ensures in
     let first : to_z w32 (of_z w32 c.first_column_at_index-first.result) +ℤ pos k ≡ index_at read.col.now (points.col +ℤ pos (2 * k)) =
-    ap (λ (z : ℤ). z +ℤ pos k) (to_z-of_z w32 _ col_fits ∙ c.first_column_at_index-first.ensures)
-    ∙ halves_follow read.col.now points.col k c.requires.halving.0 c.requires.halving.1 in
+    halved_column read.col.now points.col _ k c.requires.halving (to_z-of_z w32 _ col_fits ∙ c.first_column_at_index-first.ensures) in
     c.borrow_narrow_row.ensures.values k l
     ∙ ap (λ (z : ℤ). samples z (to_z w32 (of_z w32 c.first_column_at_index-first.result) +ℤ pos k)) row
     ∙ ap (samples (index_at read.row.now points.row)) first
