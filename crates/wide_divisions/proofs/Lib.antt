@@ -1,0 +1,2 @@
+pub mod StepReads
+pub mod StepValues

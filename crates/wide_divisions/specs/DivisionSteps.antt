@@ -1,0 +1,65 @@
+-- Functions that are a step of a restoring division.
+use Rattle.std.specs.Prelude.{ℕ, ◌≡◌, ◌<◌, ◌^◌, ℤ, pos, ◌+ℤ◌, ◌-ℤ◌, ◌*ℤ◌, int_le, if◌then◌else◌, Option, Some, None}
+use Rattle.std.specs.Option.{ForSome}
+use Rattle.domains.specs.Arithmetic.{wrapped, floor_rem}
+use Rattle.operators.specs.declared.operator.BinaryOp.TheVariants.{Add, Sub}
+use Rattle.operators.specs.declared.operator.LiteralOp.TheVariants.{Rem, Shl}
+use Rattle.operators.specs.declared.operator.Relation.TheVariants.{AtMost}
+use Rattle.job.specs.Formula.{Formula, number, read, binary, literal, select}
+use Rattle.wide_divisions.specs.declared.step.DivisionStepRead.{DivisionStepRead}
+use Rattle.wide_divisions.specs.declared.step.DivisionStep.{DivisionStep}
+
+-- ---- the formulas of its parts
+
+abbrev pub read_formula : DivisionStepRead → Formula
+read_formula x = read x.stage x.row.now x.col.now
+
+-- a formula, shifted to the left if there is by how much
+abbrev pub shifted_formula : Option ℕ → Formula → Formula
+shifted_formula None f = f
+shifted_formula (Some bits) f = literal Shl f bits
+
+abbrev pub divisor_formula : DivisionStep → Formula
+divisor_formula s = shifted_formula s.shift (read_formula s.divisor)
+
+-- the lower bits of the rest
+abbrev pub remainder_formula : DivisionStep → Formula
+remainder_formula s = literal Rem (read_formula s.rest) (2 ^ s.bits)
+
+-- if the divisor is at most the remainder, it is subtracted from the rest, and the digit is added
+abbrev pub step_formula : DivisionStep → Formula
+step_formula s =
+    select (divisor_formula s) AtMost (remainder_formula s)
+    (binary Add (binary Sub (read_formula s.rest) (divisor_formula s)) (number s.digit))
+    (read_formula s.rest)
+
+-- ---- what can be computed of them
+
+-- the index of the column only adds
+abbrev pub IsShiftingRead : DivisionStepRead → Type 0
+IsShiftingRead x = (x.col.now.mul ≡ pos 1) × (x.col.now.div ≡ pos 1)
+
+-- both reads take adjacent samples at adjacent points, and numbers of 32 bits have as many bits as are shifted and kept
+pub record IsRightStep (s : DivisionStep) : Type 0 where
+  pub rest : IsShiftingRead s.rest
+  pub divisor : IsShiftingRead s.divisor
+  pub shift : ForSome s.shift (λ bits. bits < 32)
+  pub bits : s.bits < 32
+
+-- ---- what it is at a point
+
+-- a number, shifted to the left if there is by how much
+abbrev pub shifted : Option ℕ → ℤ → ℤ
+shifted None v = v
+shifted (Some bits) v = wrapped (v *ℤ pos (2 ^ bits))
+
+-- if what is subtracted is at most the remainder, which is the lower bits of the rest, it is subtracted, and the digit is added
+abbrev pub rest_after : (bits : ℕ) → (digit rest subtracted : ℤ) → ℤ
+rest_after bits digit rest subtracted =
+    if int_le subtracted (floor_rem rest (pos (2 ^ bits)))
+    then wrapped (wrapped (rest -ℤ subtracted) +ℤ digit)
+    else rest
+
+-- what a step makes of a rest and a divisor
+abbrev pub step_result : DivisionStep → (rest divisor : ℤ) → ℤ
+step_result s rest divisor = rest_after s.bits s.digit rest (shifted s.shift divisor)

@@ -1,0 +1,2 @@
+pub mod DivisionSteps
+pub mod StepsOnce

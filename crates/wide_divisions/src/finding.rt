@@ -1,0 +1,172 @@
+#![tactic(auto)]
+//! Which functions are steps of restoring divisions.
+
+ghost use Rattle.std.specs.Prelude.{◌≡◌, ◌<◌, ◌^◌, ℤ, [], Some, map, IfSome, IsTrue};
+ghost use Rattle.std.specs.Option.{option_map, ForSome};
+ghost use Rattle.job.specs.Formula.{binary, literal, number};
+ghost use Rattle.job.specs.Views.{case_view, formula_view};
+ghost use Rattle.operators.specs.declared.operator.BinaryOp.TheVariants.{Add, Sub};
+ghost use Rattle.operators.specs.declared.operator.LiteralOp.TheVariants.{Rem};
+ghost use Rattle.wide_divisions.specs.DivisionSteps.{read_formula, shifted_formula, step_formula};
+ghost use Rattle.wide_divisions.specs.DivisionSteps.{IsShiftingRead, IsRightStep};
+
+use crate::step::{DivisionStep, DivisionStepRead};
+use domains::Index;
+use job::{Formula, Function};
+use operators::{BinaryOp, LiteralOp, Relation};
+
+// The read that a formula is, if it takes adjacent samples at adjacent points.
+fn match_division_step_read(formula: &Formula) -> Option<DivisionStepRead<'_>>
+    ensures some { IfSome result (λ it. formula_view formula.now ≡ read_formula it) }
+    ensures right { IfSome result IsShiftingRead }
+{
+    match formula {
+        Formula::Read(stage, row, col) if col.mul() == 1 && col.div() == 1 => Some(
+            DivisionStepRead {
+                stage: *stage,
+                row,
+                col,
+            },
+        ),
+        _ => None,
+    }
+}
+
+// Whether two indices are the same.
+fn is_same_division_step_index(a: &Index, b: &Index) -> bool
+    ensures { IsTrue result → a.now ≡ b.now }
+{
+    a == b
+}
+
+// Whether a formula is this read.
+fn is_division_step_read(formula: &Formula, read: &DivisionStepRead<'_>) -> bool
+    ensures { IsTrue result → formula_view formula.now ≡ read_formula read.now }
+{
+    match formula {
+        Formula::Read(stage, row, col) => {
+            *stage == read.stage
+                && is_same_division_step_index(row, read.row)
+                && is_same_division_step_index(col, read.col)
+        }
+        _ => false,
+    }
+}
+
+// A read, and by how many bits it is shifted to the left, if it is.
+fn match_division_step_divisor(formula: &Formula) -> Option<(DivisionStepRead<'_>, Option<u32>)>
+    ensures some { IfSome result (λ it. formula_view formula.now ≡ shifted_formula it.1 (read_formula it.0)) }
+    ensures right { IfSome result (λ it. IsShiftingRead it.0) }
+    ensures few { IfSome result (λ it. ForSome it.1 (λ bits. bits < 32)) }
+{
+    match formula {
+        Formula::Literal(LiteralOp::Shl, of, bits) if *bits < 32 => {
+            Some((match_division_step_read(of)?, Some(*bits)))
+        }
+        _ => Some((match_division_step_read(formula)?, None)),
+    }
+}
+
+// Whether a formula is this read, shifted to the left by this many bits, if it is shifted.
+fn is_division_step_divisor(
+    formula: &Formula,
+    read: &DivisionStepRead<'_>,
+    shift: Option<u32>,
+) -> bool
+    ensures { IsTrue result → formula_view formula.now ≡ shifted_formula shift (read_formula read.now) }
+{
+    match (formula, shift) {
+        (Formula::Literal(LiteralOp::Shl, of, bits), Some(shift)) => {
+            *bits == shift && is_division_step_read(of, read)
+        }
+        (_, None) => is_division_step_read(formula, read),
+        _ => false,
+    }
+}
+
+// The number of which a literal is two to the power, if it is such a power.
+fn find_division_step_bits(literal: u32) -> Option<u32>
+    ensures few { IfSome result (λ bits. bits < 32) }
+    ensures power { IfSome result (λ bits. literal ≡ 2 ^ bits) }
+{
+    if literal == 0 {
+        return None;
+    }
+    let bits = literal.ilog2();
+    if literal == 1 << bits {
+        Some(bits)
+    } else {
+        None
+    }
+}
+
+// The lower bits of a read, and how many they are.
+fn match_division_step_remainder(formula: &Formula) -> Option<(DivisionStepRead<'_>, u32)>
+    ensures some { IfSome result (λ it. formula_view formula.now ≡ literal Rem (read_formula it.0) (2 ^ it.1)) }
+    ensures right { IfSome result (λ it. IsShiftingRead it.0) }
+    ensures few { IfSome result (λ it. it.1 < 32) }
+{
+    let Formula::Literal(LiteralOp::Rem, of, modulus) = formula else {
+        return None;
+    };
+    Some((
+        match_division_step_read(of)?,
+        find_division_step_bits(*modulus)?,
+    ))
+}
+
+// The number that is added to a difference, and the operands of that.
+fn match_division_step_difference(formula: &Formula) -> Option<(&Formula, &Formula, i32)>
+    ensures { IfSome result (λ it. formula_view formula.now
+        ≡ binary Add (binary Sub (formula_view it.0.now) (formula_view it.1.now)) (number it.2)) }
+{
+    let Formula::Binary(BinaryOp::Add, difference, last) = formula else {
+        return None;
+    };
+    match (&**difference, &**last) {
+        (Formula::Binary(BinaryOp::Sub, from, subtracted), Formula::Number(digit)) => {
+            Some((from, subtracted, *digit))
+        }
+        _ => None,
+    }
+}
+
+// A formula that is a step of a division.
+fn match_division_step(formula: &Formula) -> Option<DivisionStep<'_>>
+    ensures some { IfSome result (λ it. formula_view formula.now ≡ step_formula it) }
+    ensures right { IfSome result IsRightStep }
+{
+    let Formula::Select(left, Relation::AtMost, right, first, second) = formula else {
+        return None;
+    };
+    let (divisor, shift) = match_division_step_divisor(left)?;
+    let (rest, bits) = match_division_step_remainder(right)?;
+    let (from, subtracted, digit) = match_division_step_difference(first)?;
+    if is_division_step_read(from, &rest)
+        && is_division_step_divisor(subtracted, &divisor, shift)
+        && is_division_step_read(second, &rest)
+    {
+        Some(DivisionStep {
+            rest,
+            divisor,
+            shift,
+            bits,
+            digit,
+        })
+    } else {
+        None
+    }
+}
+
+/// The step of a division that a function is everywhere, if it is one.
+pub fn find_division_step(function: &Function) -> Option<DivisionStep<'_>>
+    ensures cases { IfSome result (λ it. map case_view function.now.cases.items ≡ []) }
+    ensures some { IfSome result (λ it. option_map formula_view function.now.otherwise
+        ≡ Some (step_formula it)) }
+    ensures right { IfSome result IsRightStep }
+{
+    match (function.cases(), function.otherwise()) {
+        ([], Some(formula)) => match_division_step(formula),
+        _ => None,
+    }
+}
