@@ -1,9 +1,8 @@
 use Rattle.std.proofs.Common.{arith, ℕ, ◌≡◌, ◌+◌, ◌-◌, ◌*◌, ◌/◌, ◌%◌, ◌^◌, add-one, ◌<◌, ◌≤◌, suc, ap, sym, ◌∙◌, le_trans, le_of_eq}
 use Rattle.narrow_kernels.specs.NarrowReciprocals.{IsNarrowReciprocal}
-use Rattle.std.proofs.lemmas.Nat.{one_shl, pow-add}
 use Rattle.std.proofs.Math.Nat.{mul_assoc, mul_comm, mul_right_comm, mul-add, suc-mul, mul-le-mul_right, mul-le-mul_left}
 use Rattle.std.proofs.Math.Nat.{mul-lt-mul_of_pos_right, le-div_iff_mul-le, div-lt_iff_lt-mul, le_antisymm}
-use Rattle.std.proofs.Math.Nat.{lt_of_mul-lt-mul_right, div-add-mod', div-mul-le_self, mod-lt, pow-le-pow_right}
+use Rattle.std.proofs.Math.Nat.{lt_of_mul-lt-mul_right, div-add-mod', div-mul-le_self, mod-lt, pow-le-pow_right, mod-eq_of_lt, div-div-eq-div-mul}
 
 below_suc : (a b : ℕ) → a < suc b → a ≤ b
 below_suc a b h = omega arith
@@ -36,12 +35,6 @@ by_product n d m e p dpos ppos is small =
 -- ---- the factor for a divisor above k and at most 2 * k, with 2 ^ 16 * k as the power
 
 module _ (d k f : ℕ) (above : k < d) (below : d ≤ 2 * k) (few : k < 32768) (is : f ≡ 65536 * k / d + 1) where
-  pub factor_fits : f ≤ 65536
-  factor_fits =
-      let short : 65536 * k < 65536 * d = omega arith in
-      let low : 65536 * k / d < 65536 = (div-lt_iff_lt-mul {k = d} {x = 65536 * k} {y = 65536} (omega arith)).1 short in
-      omega arith
-
   pub factor_divides : (n : ℕ) → n < 32768 → n * f / (65536 * k) ≡ n / d
   factor_divides n h =
       let positive : 0 < d = omega arith in
@@ -60,27 +53,17 @@ lt_of_pow b h =
     grind (arith, more)
 
 -- as it is computed, from the bits of the number below the divisor
-module _ (d b e : ℕ) (some : 2 ≤ d) (most : d ≤ 32768) (low : 2 ^ b ≤ d - 1) (high : d - 1 < 2 * 2 ^ b) (same : e ≡ d)
-  where
-    few_bits : b < 15
-    few_bits = lt_of_pow b (omega arith)
+module _ (d b : ℕ) (some : 2 ≤ d) (most : d ≤ 32768) (low : 2 ^ b ≤ d - 1) (high : d - 1 < 2 * 2 ^ b) where
+  pub shift_fits : b < 16
+  shift_fits = omega (arith, lt_of_pow b (omega arith))
 
-    pub shift_fits : 16 + b < 32
-    shift_fits = omega (arith, few_bits)
+  short : 65536 * 2 ^ b < 4294967296
+  short = omega arith
 
-    above : 2 ^ b < d
-    above = omega arith
+  factor_is : 65536 * 2 ^ b % 4294967296 / d + 1 ≡ 65536 * 2 ^ b / d + 1
+  factor_is = ap (λ (n : ℕ). n / d + 1) (mod-eq_of_lt short)
 
-    below : d ≤ 2 * 2 ^ b
-    below = omega arith
-
-    factor_is : 1 * 2 ^ (16 + b) % 4294967296 / e + 1 ≡ 65536 * 2 ^ b / d + 1
-    factor_is = λ i. (one_shl (16 + b) 32 shift_fits ∙ pow-add 2 16 b) i / same i + 1
-
-    pub computed_fits : 1 * 2 ^ (16 + b) % 4294967296 / e + 1 ≤ 65536
-    computed_fits = factor_fits d (2 ^ b) _ above below (omega arith) factor_is
-
-    pub computed_divides : IsNarrowReciprocal d (1 * 2 ^ (16 + b) % 4294967296 / e + 1) (16 + b)
-    computed_divides n h =
-        ap (λ (p : ℕ). n * (1 * 2 ^ (16 + b) % 4294967296 / e + 1) / p) (pow-add 2 16 b)
-        ∙ factor_divides d (2 ^ b) _ above below (omega arith) factor_is n h
+  pub computed_divides : IsNarrowReciprocal d (65536 * 2 ^ b % 4294967296 / d + 1) b
+  computed_divides n h =
+      div-div-eq-div-mul (n * (65536 * 2 ^ b % 4294967296 / d + 1)) 65536 (2 ^ b)
+      ∙ factor_divides d (2 ^ b) _ (omega arith) (omega arith) (omega arith) factor_is n h

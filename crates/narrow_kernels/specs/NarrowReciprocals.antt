@@ -1,9 +1,9 @@
 -- Division of numbers of 16 bits as a product and a shift.
 use Rattle.std.specs.Prelude.{ℕ, ◌*◌, ◌/◌, ◌^◌, ◌<◌, ◌≡◌, ℤ, pos, negsuc}
 
--- for each n below 2 ^ 15 the product with the factor, without its last bits, is the quotient
+-- for each n below 2 ^ 15 the upper half of the product with the factor, without its last bits, is the quotient
 abbrev pub IsNarrowReciprocal : (divisor factor shift : ℕ) → Type 0
-IsNarrowReciprocal divisor factor shift = (n : ℕ) → n < 2 ^ 15 → n * factor / 2 ^ shift ≡ n / divisor
+IsNarrowReciprocal divisor factor shift = (n : ℕ) → n < 2 ^ 15 → n * factor / 65536 / 2 ^ shift ≡ n / divisor
 
 -- how far a number lies from 0, and one below 0 from -1
 abbrev pub narrow_complement : ℤ → ℕ

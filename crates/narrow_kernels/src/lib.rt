@@ -58,6 +58,7 @@ pub use narrow_operators::{
     write_narrow_absolute_differences, write_narrow_binary_results,
     write_narrow_literal_op_results, write_narrow_ternary_results, write_narrow_unary_results,
 };
+pub use narrow_reciprocal::{divide_narrow_number_by_five, divide_narrow_number_by_three};
 pub use narrow_selection::write_narrow_selection;
 pub use narrow_sums::write_narrow_literal_op_results_of_sums;
 pub use narrow_taps::{

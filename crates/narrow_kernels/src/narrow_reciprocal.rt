@@ -7,14 +7,13 @@ ghost use Rattle.narrow_kernels.specs.NarrowReciprocals.{IsNarrowReciprocal, nar
 
 use crate::narrow_maps::NarrowNumberMap;
 
-/// A divisor, with a factor. The product with the factor, without its last `shift` bits, is used instead of a division.
+/// A divisor, with a factor. The upper half of the product with the factor, shifted to the right, is used instead of a division.
 #[derive(Clone, Copy, Debug)]
 pub struct NarrowReciprocal {
     divisor: u32,
-    factor: u32,
+    factor: u16,
     shift: u32,
-    ghost few: { shift < 32 },
-    ghost small: { factor ≤ 65536 },
+    ghost few: { shift < 16 },
     ghost exact: { IsNarrowReciprocal divisor factor shift },
 }
 
@@ -25,11 +24,10 @@ impl NarrowReciprocal {
         requires most { divisor ≤ 32768 }
         ensures { result.divisor ≡ divisor }
     {
-        let shift = 16 + (divisor - 1).ilog2();
-        let factor = (1u32 << shift) / divisor + 1;
+        let shift = (divisor - 1).ilog2();
         NarrowReciprocal {
             divisor,
-            factor,
+            factor: ((65536u32 << shift) / divisor + 1) as u16,
             shift,
         }
     }
@@ -40,8 +38,16 @@ impl NarrowReciprocal {
         requires { n < 2 ^ 15 }
         ensures { result ≡ n / self.now.divisor }
     {
-        ((u32::from(n) * self.factor) >> self.shift) as u16
+        multiply_narrow_numbers_to_upper_half(n, self.factor) >> self.shift
     }
+}
+
+// The upper half of the product of two numbers. (Vector code has one operation for it.)
+#[inline]
+fn multiply_narrow_numbers_to_upper_half(a: u16, b: u16) -> u16
+    ensures { result ≡ a * b / 65536 }
+{
+    ((u32::from(a) * u32::from(b)) >> 16) as u16
 }
 
 // The quotient by its divisor, rounded down.
@@ -77,4 +83,20 @@ fn undo_narrow_complement(a: i16, n: u16) -> i16
     ensures { result ≡ narrow_uncomplement a n }
 {
     if a < 0 { -1 - n as i16 } else { n as i16 }
+}
+
+/// The third part of a number, rounded down. (The divisor stands in the text: vector code multiplies once for it.)
+#[inline(always)]
+pub fn divide_narrow_number_by_three(number: i16) -> i16
+    ensures { result ≡ floor_div number (pos 3) }
+{
+    undo_narrow_complement(number, complement_narrow_number(number) / 3)
+}
+
+/// The fifth part of a number, rounded down.
+#[inline(always)]
+pub fn divide_narrow_number_by_five(number: i16) -> i16
+    ensures { result ≡ floor_div number (pos 5) }
+{
+    undo_narrow_complement(number, complement_narrow_number(number) / 5)
 }
