@@ -172,6 +172,10 @@ module _ (f : ℤ → ℤ → ℤ) (r c : ℤ) where
   pub same_factor : (axis : NarrowBarAxis) (n b : ℕ) (x y p : ℤ) → x ≡ y → p ≡ x *ℤ bar_sample axis n f r c b → p ≡ y *ℤ bar_sample axis n f r c b
   same_factor axis n b x y p e h = h ∙ ap (λ (z : ℤ). z *ℤ bar_sample axis n f r c b) e
 
+  -- a sample is its product with 1
+  pub factor_of_one : (axis : NarrowBarAxis) (n b : ℕ) (p : ℤ) → p ≡ bar_sample axis n f r c b → p ≡ pos 1 *ℤ bar_sample axis n f r c b
+  factor_of_one axis n b p h = omega (arith, ints, h)
+
   module _ (axis : NarrowBarAxis) (fs : NarrowBarFactors) (rows : List (List ℤ)) (is : rows ≡ bar_kernel axis fs) where
     -- the product with factor number b
     abbrev product : ℤ → ℕ → ℤ

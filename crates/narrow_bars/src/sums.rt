@@ -21,7 +21,7 @@ fn multiply_narrow_bar_numbers(a: i16, b: i16) -> i16
 // `a + b`, wrapped at 16 bits.
 #[inline(always)]
 #[tactic(auto, using(std::proofs::lemmas::Int::wraps))]
-fn add_narrow_bar_numbers(a: i16, b: i16) -> i16
+pub(crate) fn add_narrow_bar_numbers(a: i16, b: i16) -> i16
     ensures { result ≡ int_wrap w16 (a +ℤ b) }
 {
     a.wrapping_add(b)

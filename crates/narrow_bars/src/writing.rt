@@ -10,9 +10,11 @@ ghost use Rattle.operators.specs.Limits.{IsDivisor};
 ghost use Rattle.narrow_kernels.specs.NarrowTaps.{tap_at};
 ghost use Rattle.row_loops.specs.Rows.{EachPlace, at};
 ghost use Rattle.value_ranges.specs.Narrow.{IsNarrow};
+ghost use Rattle.narrow_bars.specs.declared.finding.NarrowBarFactors.TheVariants.{Three, Five};
 ghost use Rattle.narrow_bars.specs.NarrowBars.{bar_length, bar_sample, bar_formula, IsRightBar};
 
 use crate::finding::{NarrowBar, NarrowBarAxis, NarrowBarFactors};
+use crate::means::{write_narrow_bar_means_of_five_lines, write_narrow_bar_means_of_three_lines};
 use crate::sums::{write_narrow_bar_sums_of_five_taps, write_narrow_bar_sums_of_three_taps};
 use narrow_eval::{NarrowSource, borrow_narrow_stencil_line};
 use narrow_kernels::{NarrowOperand, NarrowTap, write_narrow_literal_op_results};
@@ -132,8 +134,90 @@ fn write_narrow_bar_sums<S: NarrowSource>(
     }
 }
 
-/// Writes the values of a stencil whose kernel is a bar at a row of points, where each number that is computed fits in 16 bits. (Apart, so
-/// that a step of another stage does without the stack that this takes.)
+// Writes the sums of three factors of 1, wrapped at 16 bits and divided by 3.
+fn write_narrow_bar_mean_of_three<S: NarrowSource>(
+    source: &S,
+    bar: &NarrowBar<'_>,
+    points: &RowSpan,
+    out: &mut [i16],
+)
+    requires fits { length out.old ≡ points.now.len }
+    requires some { 0 < points.now.len }
+    requires right { IsRightBar bar.now }
+    requires ones { bar.now.factors ≡ Three (pos 1) (pos 1) (pos 1) }
+    requires reads { EachPlace points.now.len (λ k. EachRead (S.has source.now)
+        (bar_formula bar.now) points.now.row (points.now.col +ℤ pos k)) }
+    ensures { EachPlace (length out.old) (λ k. at out.new k
+        ≡ floor_div (int_wrap w16 (weighted_sum bar.now.kernel.now
+        (S.samples source.now bar.now.stage) points.now.row (points.now.col +ℤ pos k)))
+        (pos 3)) }
+{
+    let a = borrow_narrow_bar_line(source, bar, 0, points);
+    let b = borrow_narrow_bar_line(source, bar, 1, points);
+    let c = borrow_narrow_bar_line(source, bar, 2, points);
+    write_narrow_bar_means_of_three_lines(out, a, b, c);
+}
+
+// Writes the sums of five factors of 1, wrapped at 16 bits and divided by 5.
+fn write_narrow_bar_mean_of_five<S: NarrowSource>(
+    source: &S,
+    bar: &NarrowBar<'_>,
+    points: &RowSpan,
+    out: &mut [i16],
+)
+    requires fits { length out.old ≡ points.now.len }
+    requires some { 0 < points.now.len }
+    requires right { IsRightBar bar.now }
+    requires ones { bar.now.factors ≡ Five (pos 1) (pos 1) (pos 1) (pos 1) (pos 1) }
+    requires reads { EachPlace points.now.len (λ k. EachRead (S.has source.now)
+        (bar_formula bar.now) points.now.row (points.now.col +ℤ pos k)) }
+    ensures { EachPlace (length out.old) (λ k. at out.new k
+        ≡ floor_div (int_wrap w16 (weighted_sum bar.now.kernel.now
+        (S.samples source.now bar.now.stage) points.now.row (points.now.col +ℤ pos k)))
+        (pos 5)) }
+{
+    let a = borrow_narrow_bar_line(source, bar, 0, points);
+    let b = borrow_narrow_bar_line(source, bar, 1, points);
+    let c = borrow_narrow_bar_line(source, bar, 2, points);
+    let d = borrow_narrow_bar_line(source, bar, 3, points);
+    let e = borrow_narrow_bar_line(source, bar, 4, points);
+    write_narrow_bar_means_of_five_lines(out, a, b, c, d, e);
+}
+
+// Writes the sums of a bar, wrapped at 16 bits and divided by its divisor.
+fn write_divided_narrow_bar_sums<S: NarrowSource>(
+    source: &S,
+    bar: &NarrowBar<'_>,
+    points: &RowSpan,
+    out: &mut [i16],
+)
+    requires fits { length out.old ≡ points.now.len }
+    requires some { 0 < points.now.len }
+    requires right { IsRightBar bar.now }
+    requires reads { EachPlace points.now.len (λ k. EachRead (S.has source.now)
+        (bar_formula bar.now) points.now.row (points.now.col +ℤ pos k)) }
+    ensures { EachPlace (length out.old) (λ k. at out.new k
+        ≡ floor_div (int_wrap w16 (weighted_sum bar.now.kernel.now
+        (S.samples source.now bar.now.stage) points.now.row (points.now.col +ℤ pos k)))
+        (pos bar.now.divisor)) }
+{
+    match (bar.factors, bar.divisor) {
+        (NarrowBarFactors::Three(1, 1, 1), 3) => {
+            write_narrow_bar_mean_of_three(source, bar, points, out);
+        }
+        (NarrowBarFactors::Five(1, 1, 1, 1, 1), 5) => {
+            write_narrow_bar_mean_of_five(source, bar, points, out);
+        }
+        _ => {
+            write_narrow_bar_sums(source, bar, points, 0, out);
+            let divisor = bar.divisor;
+            write_narrow_literal_op_results(LiteralOp::Div, out, NarrowOperand::Written, divisor);
+        }
+    }
+}
+
+/// Writes the values of a stencil whose kernel is a bar at a row of points, where each number that is computed fits in 16 bits.
+// Apart, so that a step of another stage does without the stack that this takes.
 #[inline(never)]
 pub fn write_narrow_bar<S: NarrowSource>(
     source: &S,
@@ -156,10 +240,6 @@ pub fn write_narrow_bar<S: NarrowSource>(
     }
     match find_narrow_bar_shift(bar.divisor) {
         Some(bits) => write_narrow_bar_sums(source, bar, points, bits, out),
-        None => {
-            write_narrow_bar_sums(source, bar, points, 0, out);
-            let divisor = bar.divisor;
-            write_narrow_literal_op_results(LiteralOp::Div, out, NarrowOperand::Written, divisor);
-        }
+        None => write_divided_narrow_bar_sums(source, bar, points, out),
     }
 }
