@@ -1,7 +1,7 @@
 #![tactic(auto)]
 //! Functions by cases along a row of points, in 16 bits.
 
-ghost use Rattle.std.specs.Prelude.{◌≡◌, ◌≤◌, ◌<◌, ◌+ℤ◌, ◌↔◌, ◌⊎◌, ℕ, ℤ, List, pos, length, map, true, false, All, IfSome, IfNone, if◌then◌else◌};
+ghost use Rattle.std.specs.Prelude.{◌≡◌, ◌≤◌, ◌<◌, ◌-◌, ◌+ℤ◌, ◌↔◌, ◌⊎◌, ℕ, ℤ, List, pos, length, map, true, false, All, IfSome, IfNone, if◌then◌else◌};
 ghost use Rattle.std.specs.Option.{option_map, option_map_or, ForSome};
 ghost use Rattle.domains.specs.Area.{HoldsPoint};
 ghost use Rattle.job.specs.Boxes.{BoundsHold};
@@ -12,10 +12,11 @@ ghost use Rattle.job.specs.Views.{case_view, formula_view};
 ghost use Rattle.job.specs.WellFormed.{IsFormula, IsTest};
 ghost use Rattle.row_kernels.specs.RowMask.{HoldsWhere};
 ghost use Rattle.row_loops.specs.Rows.{EachPlace, at};
-ghost use Rattle.tile_eval.specs.Reading.{HasRoom};
+ghost use Rattle.tile_eval.specs.Reading.{HasRoom, ReadsWithin};
 ghost use Rattle.tile_eval.specs.Cases.{InBox, function_value};
 ghost use Rattle.tile_eval.specs.inside.Cases.{IsRoomy};
 ghost use Rattle.value_ranges.specs.Narrow.{IsNarrow};
+ghost use Rattle.narrow_eval.specs.NarrowFormulas.{NarrowWithin};
 ghost use Rattle.narrow_eval.specs.NarrowCases.{IsNarrowCase, AreNarrowCases, IsNarrowComputable};
 
 use crate::narrow_points::NarrowPoints;
@@ -58,6 +59,38 @@ fn are_narrow_case_masks_complementary(first: RowMask, second: RowMask) -> bool
     }
 }
 
+// The values of a formula along a row of points, which are computed into the first numbers of `temps` if they cannot be borrowed.
+fn obtain_narrow_case_line<'a, S: NarrowSource>(
+    source: &'a S,
+    points: &RowSpan,
+    formula: &Formula,
+    temps: &'a mut [i16],
+) -> &'a [i16]
+    requires formula { IsFormula (formula_view formula.now) }
+    requires narrow { NarrowWithin (S.samples source.now) (formula_view formula.now) points.now.row
+        points.now.col points.now.len }
+    requires reads { ReadsWithin (S.has source.now) (formula_view formula.now) points.now.row
+        points.now.col points.now.len }
+    requires own { points.now.len ≤ length temps.old }
+    requires room { HasRoom (formula_view formula.now) points.now.len
+        (length temps.old - points.now.len) }
+    ensures count { length result.now ≡ points.now.len }
+    ensures values { EachPlace points.now.len (λ k. at result.now k
+        ≡ formula_value (S.samples source.now) (formula_view formula.now) points.now.row
+        (points.now.col +ℤ pos k)) }
+{
+    let row = NarrowPoints {
+        source,
+        points: *points,
+    };
+    if let Some(line) = row.borrow_narrow_read_line(formula) {
+        return line;
+    }
+    let (own, rest) = temps.split_at_mut(points.len);
+    row.evaluate_narrow(formula, own, rest);
+    own
+}
+
 impl<S: NarrowSource> NarrowPoints<'_, S> {
     // A case over a row that lies in its box.
     fn overwrite_narrow_case_in_box(&self, case: &JobCase, out: &mut [i16], temps: &mut [i16])
@@ -79,9 +112,9 @@ impl<S: NarrowSource> NarrowPoints<'_, S> {
             RowMask::Nowhere => {}
             RowMask::Everywhere => self.evaluate_narrow(case.formula(), out, temps),
             passed => {
-                let (mine, rest) = temps.split_at_mut(out.len());
-                self.evaluate_narrow(case.formula(), mine, rest);
-                copy_narrow_row_where_mask_holds(out, mine, case.tests(), passed, &self.points);
+                let formula = case.formula();
+                let line = obtain_narrow_case_line(self.source, &self.points, formula, temps);
+                copy_narrow_row_where_mask_holds(out, line, case.tests(), passed, &self.points);
             }
         }
     }

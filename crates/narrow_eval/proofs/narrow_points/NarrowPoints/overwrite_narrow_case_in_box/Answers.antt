@@ -33,12 +33,11 @@ evaluate_narrow-requires-clause-room g c =
     (room_less (formula_view c.args.case.now.formula) (length c.args.out.now) (length c.args.out.now) _ _ same room
     c.requires.roomy.operands)
 
-pub evaluate_narrow-requires-in_default-clause-reads : goal.evaluate_narrow-requires-in_default-clause-reads
-evaluate_narrow-requires-in_default-clause-reads g c =
-    let len : length c.split_at_mut-mine.result.0.now ≡ length c.args.out.now = search rules in
-    rw len (subst (λ (f : KeptFormula). ReadsWithin (g.S.NarrowSource.has c.args.self.now.source.now) (formula_view f)
+pub obtain_narrow_case_line-line-requires-clause-reads : goal.obtain_narrow_case_line-line-requires-clause-reads
+obtain_narrow_case_line-line-requires-clause-reads g c =
+    rw (sym c.requires.fits) (subst (λ (f : KeptFormula). ReadsWithin (g.S.NarrowSource.has c.args.self.now.source.now) (formula_view f)
     c.args.self.now.points.row
-    c.args.self.now.points.col (length c.args.out.now)) (sym c.formula-in_default.ensures)
+    c.args.self.now.points.col (length c.args.out.now)) (sym c.formula-formula.ensures)
     (reads_along (g.S.NarrowSource.has c.args.self.now.source.now) c.args.self.now.points.row c.args.self.now.points.col (length
     c.args.out.now)
     (formula_view c.args.case.now.formula) c.requires.some c.requires.roomy.formula
@@ -57,12 +56,11 @@ evaluate_narrow-requires-clause-narrow g c =
     c.args.out.now)
     (formula_view c.args.case.now.formula) (λ k l. (c.requires.ready k l).narrow (c.requires.inside k l)))
 
-pub evaluate_narrow-requires-in_default-clause-narrow : goal.evaluate_narrow-requires-in_default-clause-narrow
-evaluate_narrow-requires-in_default-clause-narrow g c =
-    let len : length c.split_at_mut-mine.result.0.now ≡ length c.args.out.now = search rules in
-    rw len (subst (λ (f : KeptFormula). NarrowWithin (g.S.NarrowSource.samples c.args.self.now.source.now) (formula_view f)
+pub obtain_narrow_case_line-line-requires-clause-narrow : goal.obtain_narrow_case_line-line-requires-clause-narrow
+obtain_narrow_case_line-line-requires-clause-narrow g c =
+    rw (sym c.requires.fits) (subst (λ (f : KeptFormula). NarrowWithin (g.S.NarrowSource.samples c.args.self.now.source.now) (formula_view f)
     c.args.self.now.points.row
-    c.args.self.now.points.col (length c.args.out.now)) (sym c.formula-in_default.ensures)
+    c.args.self.now.points.col (length c.args.out.now)) (sym c.formula-formula.ensures)
     (narrow_along (g.S.NarrowSource.samples c.args.self.now.source.now) c.args.self.now.points.row c.args.self.now.points.col (length
     c.args.out.now)
     (formula_view c.args.case.now.formula) (λ k l. (c.requires.ready k l).narrow (c.requires.inside k l))))
