@@ -1,2 +1,3 @@
 pub mod NarrowMixes
+pub mod NarrowRoundedSums
 pub mod MixesOnce

@@ -1,6 +1,6 @@
--- Functions that are mixes: sums of two or three reads, each times a factor, that are shifted to the right and clamped; and means of
--- nine adjacent values.
-use Rattle.std.specs.Prelude.{◌≡◌, ◌<◌, pos, negsuc, ◌≤ℤ◌, int_le, nat_lt, Bool, true, false, ◌&&◌, ◌||◌, Option, Some, List, [], ◌∷◌, ℕ, ℤ, nat_eq}
+-- Functions that are mixes: sums of two or three reads, each times a factor, that are shifted to the right, and clamped or rounded; and
+-- means of nine adjacent values.
+use Rattle.std.specs.Prelude.{◌≡◌, ◌<◌, pos, negsuc, ◌≤ℤ◌, int_le, nat_lt, Bool, true, false, ◌&&◌, ◌||◌, Option, Some, None, List, [], ◌∷◌, ℕ, ℤ, nat_eq}
 use Rattle.std.specs.Ordering.{int_eq}
 use Rattle.operators.specs.declared.operator.BinaryOp.{BinaryOp}
 use Rattle.operators.specs.declared.operator.BinaryOp.TheVariants.{Add, Sub, Mul}
@@ -8,13 +8,14 @@ use Rattle.operators.specs.declared.operator.TernaryOp.TheVariants.{Clamp}
 use Rattle.operators.specs.declared.operator.LiteralOp.TheVariants.{Shr}
 use Rattle.job.specs.Formula.{Formula, number, read, binary, ternary, literal, stencil}
 use Rattle.job.specs.Pipeline.{JobCase}
-use Rattle.narrow_mixes.specs.declared.narrow_mixes.NarrowMixTerm.{NarrowMixTerm}
-use Rattle.narrow_mixes.specs.declared.narrow_mixes.NarrowMixSum.{NarrowMixSum}
-use Rattle.narrow_mixes.specs.declared.narrow_mixes.NarrowMixSum.TheVariants.{Two, Three}
+use Rattle.narrow_mixes.specs.declared.narrow_mix_sums.NarrowMixTerm.{NarrowMixTerm}
+use Rattle.narrow_mixes.specs.declared.narrow_mix_sums.NarrowMixSum.{NarrowMixSum}
+use Rattle.narrow_mixes.specs.declared.narrow_mix_sums.NarrowMixSum.TheVariants.{Two, Three}
 use Rattle.narrow_mixes.specs.declared.narrow_mixes.NarrowMixOfTerms.{NarrowMixOfTerms}
 use Rattle.narrow_mixes.specs.declared.narrow_mixes.NarrowMix.{NarrowMix}
-use Rattle.narrow_mixes.specs.declared.narrow_mixes.NarrowMix.TheVariants.{Terms, Mean}
+use Rattle.narrow_mixes.specs.declared.narrow_mixes.NarrowMix.TheVariants.{Terms, Rounded, Mean}
 use Rattle.narrow_mixes.specs.declared.narrow_means.NarrowMixMean.{NarrowMixMean}
+use Rattle.narrow_mixes.specs.declared.narrow_rounding.NarrowRoundedMix.{NarrowRoundedMix}
 
 -- ---- which functions are mixes
 
@@ -59,6 +60,23 @@ is_mix_shift f = false
 abbrev pub is_mix_clamp : (value low high : Formula) → Bool
 is_mix_clamp value low high = is_mix_shift value && is_mix_number low && is_mix_number high
 
+-- a number of the text, and the operator that adds it
+abbrev pub is_rounding_number : Formula → Bool
+is_rounding_number (number n) = true
+is_rounding_number f = false
+
+abbrev pub is_rounding_operator : BinaryOp → Bool
+is_rounding_operator Add = true
+is_rounding_operator op = false
+
+-- a sum of terms, alone or with such a number added to it
+abbrev pub is_rounded_sum : Formula → Bool
+is_rounded_sum (binary op a b) = is_mix_sum (binary op a b) || (is_rounding_operator op && is_mix_sum a && is_rounding_number b)
+is_rounded_sum f = false
+
+abbrev pub is_rounded_mix : (sum : Formula) (bits : ℕ) → Bool
+is_rounded_mix sum bits = nat_lt bits 32 && is_rounded_sum sum
+
 -- a kernel of three rows of three factors, each of which is 1
 abbrev pub is_row_of_ones : List ℤ → Bool
 is_row_of_ones (x ∷ y ∷ z ∷ []) = int_eq x (pos 1) && int_eq y (pos 1) && int_eq z (pos 1)
@@ -74,6 +92,7 @@ is_mix_mean divisor kernel = nat_eq divisor 9 && is_kernel_of_ones kernel
 
 abbrev pub is_mix_formula : Formula → Bool
 is_mix_formula (ternary Clamp value low high) = is_mix_clamp value low high
+is_mix_formula (literal Shr a n) = is_rounded_mix a n
 is_mix_formula (stencil g divisor kernel) = is_mix_mean divisor kernel
 is_mix_formula f = false
 
@@ -94,11 +113,19 @@ mix_sum (Three a second b third c) = binary third (binary second (mix_product a)
 abbrev pub terms_formula : NarrowMixOfTerms → Formula
 terms_formula mix = ternary Clamp (literal Shr (mix_sum mix.sum) mix.make.bits) (number mix.make.low) (number mix.make.high)
 
+abbrev pub rounded_sum : NarrowMixSum → Option ℤ → Formula
+rounded_sum sum None = mix_sum sum
+rounded_sum sum (Some n) = binary Add (mix_sum sum) (number n)
+
+abbrev pub rounded_formula : NarrowRoundedMix → Formula
+rounded_formula mix = literal Shr (rounded_sum mix.sum mix.number) mix.bits
+
 abbrev pub mean_formula : NarrowMixMean → Formula
 mean_formula mean = stencil mean.stage 9 mean.kernel.now
 
 abbrev pub mix_formula : NarrowMix → Formula
 mix_formula (Terms mix) = terms_formula mix
+mix_formula (Rounded mix) = rounded_formula mix
 mix_formula (Mean mean) = mean_formula mean
 
 -- ---- what can be computed of them
@@ -116,9 +143,13 @@ IsRightSum (Three a second b third c) =
 abbrev pub AreRightTerms : NarrowMixOfTerms → Type 0
 AreRightTerms mix = IsRightSum mix.sum × (mix.make.bits < 32)
 
+abbrev pub IsRightRounding : NarrowRoundedMix → Type 0
+IsRightRounding mix = IsRightSum mix.sum × (mix.bits < 32)
+
 abbrev pub IsRightMean : NarrowMixMean → Type 0
 IsRightMean mean = is_kernel_of_ones mean.kernel.now ≡ true
 
 abbrev pub IsRightMix : NarrowMix → Type 0
 IsRightMix (Terms mix) = AreRightTerms mix
+IsRightMix (Rounded mix) = IsRightRounding mix
 IsRightMix (Mean mean) = IsRightMean mean

@@ -1,7 +1,7 @@
-use Rattle.std.proofs.Common.{rules, arith, ℤ, ◌≡◌, pos, neg_ℤ, ◌-ℤ◌, to_z, of_z, w16, FitsSigned, ◌∙◌}
+use Rattle.std.proofs.Common.{rules, arith, ◌≡◌, pos, neg_ℤ, ◌-ℤ◌, to_z, of_z, w16, FitsSigned, ◌∙◌}
 use Rattle.std.proofs.lemmas.Int.{ints, to_z-of_z}
 use Rattle.narrow_mixes.proofs.NarrowMixes.{added_sign, subtracted_sign}
-use Rattle.narrow_mixes.proofs.narrow_mixes.sign_narrow_mix_factor.Goals as goal
+use Rattle.narrow_mixes.proofs.narrow_mix_sums.sign_narrow_mix_factor.Goals as goal
 
 pub returns-in-Sub : goal.returns-in-Sub
 returns-in-Sub c = λ x y.

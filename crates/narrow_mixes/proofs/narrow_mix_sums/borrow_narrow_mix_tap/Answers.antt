@@ -4,7 +4,7 @@ use Rattle.domains.specs.Arithmetic.{wrapped}
 use Rattle.domains.specs.Index.{index_at}
 use Rattle.job.specs.Values.{binary_value}
 use Rattle.row_kernels.proofs.Columns.{columns_follow}
-use Rattle.narrow_mixes.proofs.narrow_mixes.borrow_narrow_mix_tap.Goals as goal
+use Rattle.narrow_mixes.proofs.narrow_mix_sums.borrow_narrow_mix_tap.Goals as goal
 
 pub borrow_narrow_row-line-requires : goal.borrow_narrow_row-line-requires
 borrow_narrow_row-line-requires g c = λ k h.
