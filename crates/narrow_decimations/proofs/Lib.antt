@@ -1,0 +1,4 @@
+pub mod WeightedSums
+pub mod Samples
+pub mod Values
+pub mod CaseParts

@@ -1,0 +1,3 @@
+pub mod Weights
+pub mod Decimations
+pub mod inside
