@@ -37,6 +37,7 @@ pub fn match_adjacent_read(formula: &Formula) -> Option<AdjacentRead<'_>>
 }
 
 /// The samples that a read takes along the points.
+#[inline(always)]
 pub fn borrow_adjacent_read<'a, S: NarrowSource>(
     source: &'a S,
     read: &AdjacentRead<'_>,

@@ -175,8 +175,8 @@ fn write_narrow_averages_of_four(
     }
 }
 
-/// Writes the values of an average at a row of points, where each number that is computed fits in 16 bits. (Apart, so that a step of
-/// another stage does without the stack that this takes.)
+/// Writes the values of an average at a row of points, where each number that is computed fits in 16 bits.
+// Apart, so that a step of another stage does without the stack that this takes.
 #[inline(never)]
 pub fn write_narrow_average<S: NarrowSource>(
     source: &S,

@@ -148,8 +148,8 @@ fn write_numbers_of_narrow_choice(
     }
 }
 
-/// Writes the values of a choice at a row of points, where each number that is computed fits in 16 bits. (Apart, so that a step of
-/// another stage does without the stack that this takes.)
+/// Writes the values of a choice at a row of points, where each number that is computed fits in 16 bits.
+// Apart, so that a step of another stage does without the stack that this takes.
 #[inline(never)]
 pub fn write_narrow_choice<S: NarrowSource>(
     source: &S,

@@ -131,7 +131,8 @@ fn write_lines_under_narrow_limit(
     }
 }
 
-/// Writes the values of a limit at a row of points. (Apart, so that a step of another stage does without the stack that this takes.)
+/// Writes the values of a limit at a row of points.
+// Apart, so that a step of another stage does without the stack that this takes.
 #[inline(never)]
 pub fn write_narrow_limit<S: NarrowSource>(
     source: &S,

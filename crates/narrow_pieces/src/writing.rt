@@ -23,6 +23,7 @@ use narrow_kernels::{
 use row_kernels::RowSpan;
 
 // The samples that a piece takes along the points, with its map.
+#[inline(always)]
 fn borrow_narrow_piece<'a, S: NarrowSource>(
     source: &'a S,
     piece: &NarrowPiece<'_>,
