@@ -29,6 +29,11 @@ held_alone r = (omega (arith, ints), omega (arith, ints))
 pub row_held : (area : Area) (r : ℤ) (k : ℕ) → k < len_of area.cols → HoldsPoint (row_area area r) r (area.cols.lo +ℤ pos k)
 row_held area r k h = (held_alone r, nth_held area.cols k h)
 
+-- and of an area that is one row
+pub only_row_held : (area : Area) (k : ℕ) → area.rows.hi ≡ area.rows.lo → k < len_of area.cols
+    → HoldsPoint area area.rows.lo (area.cols.lo +ℤ pos k)
+only_row_held area k one h = ((omega (arith, ints), omega (arith, ints, one)), nth_held area.cols k h)
+
 row_place : (area : Area) (r : ℤ) (k : ℕ) → place_of (row_area area r) r (area.cols.lo +ℤ pos k) ≡ k
 row_place area r k =
     let none : int_gap r r * len_of area.cols ≡ 0 * len_of area.cols = ap (λ n. n * len_of area.cols) (gap_none r) in

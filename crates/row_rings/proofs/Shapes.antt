@@ -23,8 +23,8 @@ use Rattle.narrow_filters.specs.declared.filter.NarrowFilterCenter.{NarrowFilter
 use Rattle.narrow_filters.specs.declared.filter.NarrowFilterTap.{NarrowFilterTap}
 use Rattle.tile_eval.specs.Cases.{function_value}
 use Rattle.value_ranges.specs.Narrow.{IsNarrow, IsNarrowStencil, IsNarrowFunction}
-use Rattle.row_rings.specs.NarrowShapes.{IsFormulaBody, IsShapeOf, AreShapesOf}
-use Rattle.row_rings.specs.declared.narrow_shapes.NarrowShape.{NarrowShape}
+use Rattle.row_rings.specs.RingShapes.{IsFormulaBody, IsShapeOf, AreShapesOf}
+use Rattle.row_rings.specs.declared.ring_shapes.RingShape.{RingShape}
 
 -- ---- a function that is one formula everywhere
 
@@ -112,7 +112,7 @@ filter_narrow-prop env filter r c = hlevel (taps_narrow-prop env filter.center f
 
 -- ---- the shapes of stages
 
-pub shapes_pushed : (shapes : List NarrowShape) (stages : List Stage) (shape : NarrowShape) (s : Stage) → AreShapesOf shapes stages
+pub shapes_pushed : (shapes : List RingShape) (stages : List Stage) (shape : RingShape) (s : Stage) → AreShapesOf shapes stages
     → IsShapeOf shape s.body → AreShapesOf (shapes ++ shape ∷ []) (stages ++ s ∷ [])
 shapes_pushed [] [] shape s are is = (is, tt)
 shapes_pushed [] (t ∷ stages) shape s are is = absurd are
@@ -120,7 +120,7 @@ shapes_pushed (x ∷ shapes) [] shape s are is = absurd are
 shapes_pushed (x ∷ shapes) (t ∷ stages) shape s are is = (are.0, shapes_pushed shapes stages shape s are.1 is)
 
 -- one stage more of those in memory
-pub shapes_more : (shapes : List NarrowShape) (shape : NarrowShape) (stages : List KeptStage) (i : ℕ) (s : KeptStage) → i < length stages
+pub shapes_more : (shapes : List RingShape) (shape : RingShape) (stages : List KeptStage) (i : ℕ) (s : KeptStage) → i < length stages
     → s ≡ slice_index_or stages i s → AreShapesOf shapes (map stage_view (take i stages)) → IsShapeOf shape (stage_view s).body
     → AreShapesOf (shapes ++ shape ∷ []) (map stage_view (take (i + 1) stages))
 shapes_more shapes shape stages i s h so are is =
@@ -130,7 +130,7 @@ shapes_more shapes shape stages i s h so are is =
     (subst (λ (x : KeptStage). IsShapeOf shape (stage_view x).body) so is))
 
 -- there is one for each stage
-pub shapes_reach : (shapes : List NarrowShape) (stages : List Stage) (g : ℕ) (s : Stage) → AreShapesOf shapes stages
+pub shapes_reach : (shapes : List RingShape) (stages : List Stage) (g : ℕ) (s : Stage) → AreShapesOf shapes stages
     → slice_get stages g ≡ Some s → g < length shapes
 shapes_reach [] [] g s are there = absurd (none-some s there)
 shapes_reach [] (t ∷ stages) g s are there = absurd are
@@ -140,12 +140,12 @@ shapes_reach (x ∷ shapes) (t ∷ stages) (suc g) s are there =
     let less : g < length shapes = shapes_reach shapes stages g s are.1 there in
     omega (arith, less)
 
-pub shape_at : (shapes : List NarrowShape) (stages : List Stage) (g : ℕ) (shape : NarrowShape) (s : Stage) → AreShapesOf shapes stages
+pub shape_at : (shapes : List RingShape) (stages : List Stage) (g : ℕ) (shape : RingShape) (s : Stage) → AreShapesOf shapes stages
     → slice_get shapes g ≡ Some shape → slice_get stages g ≡ Some s → IsShapeOf shape s.body
 shape_at [] [] g shape s are found there = absurd (none-some s there)
 shape_at [] (t ∷ stages) g shape s are found there = absurd are
 shape_at (x ∷ shapes) [] g shape s are found there = absurd are
 shape_at (x ∷ shapes) (t ∷ stages) zero shape s are found there =
-    subst (λ (y : NarrowShape). IsShapeOf y s.body) (same_Some x shape found)
+    subst (λ (y : RingShape). IsShapeOf y s.body) (same_Some x shape found)
     (subst (λ (u : Stage). IsShapeOf x u.body) (same_Some t s there) are.0)
 shape_at (x ∷ shapes) (t ∷ stages) (suc g) shape s are found there = shape_at shapes stages g shape s are.1 found there

@@ -29,7 +29,7 @@ use Rattle.tile_eval.proofs.Rasters.{nth_held}
 use Rattle.row_rings.specs.RingRows.{sample_in, IsKeptPoint}
 use Rattle.row_rings.specs.NarrowRings.{IsFittingStage, IsNarrowlyMade, is_mix_body}
 use Rattle.row_rings.specs.TrueRings.{AreTrueRings, HasBodyRoom, HasStageRoom}
-use Rattle.row_rings.specs.inside.Making.{row_area, IsFittingRow, IsPictureRow, IsMakeable, IsValueRow}
+use Rattle.row_rings.specs.inside.Making.{row_area, AreFittingValues, IsFittingRow, IsPictureRow, IsMakeable, IsValueRow}
 use Rattle.row_rings.specs.declared.ring.RowRing.{RowRing}
 use Rattle.row_rings.proofs.Areas.{span_short, side}
 use Rattle.row_rings.proofs.Taking.{reads_both}
@@ -152,6 +152,13 @@ module _ (job : Pipeline) (h : IsJob job) (rings : List (RowRing ℤ)) (g : ℕ)
     narrow_reads cases otherwise is n long k l =
         subst (λ (b : Body). BodyReads (IsKeptPoint rings) b (next_row state) (state.area.cols.lo +ℤ pos k))
         (same_body (function cases otherwise) is) (can.reads _ (row_in k (subst (λ m. k < m) long l)))
+
+    pub narrow_fits : IsFittingStage job g → (cases : List JobCase) (otherwise : Option Formula) → s.body ≡ function cases otherwise → (n : ℕ)
+        → n ≡ len_of state.area.cols → AreFittingValues (value job) cases otherwise (next_row state) state.area.cols.lo n
+    narrow_fits fits cases otherwise is n long k l =
+        let inside : k < len_of state.area.cols = subst (λ m. k < m) long l in
+        subst Fits16 (sym (solved (function cases otherwise) (same_body (function cases otherwise) is) k inside))
+        (fits can.stage can.there can.valued (next_row state) _ (row_in k inside))
 
     pub narrow_computable : (cases : List JobCase) (otherwise : Option Formula) → s.body ≡ function cases otherwise
         → IsNarrowlyMade job g → is_mix cases otherwise ≡ false → (room : ℕ) → HasStageRoom job g (len_of state.area.cols) room → (n : ℕ) → n ≡ len_of state.area.cols

@@ -1,7 +1,7 @@
 pub mod RingRows
 pub mod TrueRings
 pub mod NarrowRings
-pub mod NarrowShapes
+pub mod RingShapes
 pub mod ShapesOnce
 pub mod RingForms
 pub mod RoomOnce

@@ -11,9 +11,10 @@ use Rattle.narrow_mixes.specs.MixesOnce.{IsRightMix-prop}
 use Rattle.narrow_averages.specs.AveragesOnce.{IsRightAverage-prop}
 use Rattle.narrow_pieces.specs.PiecesOnce.{AreFunctionPieces-prop}
 use Rattle.narrow_pieces.specs.declared.piece.NarrowPieces.{NarrowPieces}
-use Rattle.row_rings.specs.declared.narrow_shapes.NarrowShape.{NarrowShape}
-use Rattle.row_rings.specs.declared.narrow_shapes.NarrowShape.TheVariants.{Mix, Pieces, Bar, Average, Limit, Choice, Filter, Halves, Other}
-use Rattle.row_rings.specs.NarrowShapes.{IsFormulaBody, ArePiecesOfBody, IsShapeOf, AreShapesOf}
+use Rattle.wide_divisions.specs.StepsOnce.{IsRightStep-prop}
+use Rattle.row_rings.specs.declared.ring_shapes.RingShape.{RingShape}
+use Rattle.row_rings.specs.declared.ring_shapes.RingShape.TheVariants.{Mix, Pieces, Bar, Average, Limit, Choice, Filter, Division, Decimation, Halves, Other}
+use Rattle.row_rings.specs.RingShapes.{IsFormulaBody, ArePiecesOfBody, IsShapeOf, AreShapesOf}
 
 IsFormulaBody-prop : (f : Formula) (body : Body) → IsProp (IsFormulaBody f body)
 IsFormulaBody-prop f (plane n) = hlevel props
@@ -25,7 +26,7 @@ ArePiecesOfBody-prop pieces (plane n) = hlevel props
 ArePiecesOfBody-prop pieces (function cases otherwise) = AreFunctionPieces-prop pieces cases otherwise
 ArePiecesOfBody-prop pieces (accumulator fold bins value bin) = hlevel props
 
-IsShapeOf-prop : (shape : NarrowShape) (body : Body) → IsProp (IsShapeOf shape body)
+IsShapeOf-prop : (shape : RingShape) (body : Body) → IsProp (IsShapeOf shape body)
 IsShapeOf-prop (Mix mix) body = hlevel (IsFormulaBody-prop, IsRightMix-prop, props)
 IsShapeOf-prop (Pieces pieces) body = hlevel (ArePiecesOfBody-prop, props)
 IsShapeOf-prop (Bar bar) body = hlevel (IsFormulaBody-prop, IsRightBar-prop, props)
@@ -33,10 +34,12 @@ IsShapeOf-prop (Average average) body = hlevel (IsFormulaBody-prop, IsRightAvera
 IsShapeOf-prop (Limit limit) body = hlevel (IsFormulaBody-prop, IsRightLimit-prop, props)
 IsShapeOf-prop (Choice choice) body = hlevel (IsFormulaBody-prop, IsRightChoice-prop, props)
 IsShapeOf-prop (Filter filter) body = hlevel (IsFormulaBody-prop, IsRightFilter-prop, props)
+IsShapeOf-prop (Division step) body = hlevel (IsFormulaBody-prop, IsRightStep-prop, props)
+IsShapeOf-prop Decimation body = hlevel props
 IsShapeOf-prop Halves body = hlevel props
 IsShapeOf-prop Other body = hlevel props
 
-pub AreShapesOf-prop : (shapes : List NarrowShape) (stages : List Stage) → IsProp (AreShapesOf shapes stages)
+pub AreShapesOf-prop : (shapes : List RingShape) (stages : List Stage) → IsProp (AreShapesOf shapes stages)
 AreShapesOf-prop [] [] = hlevel props
 AreShapesOf-prop [] (s ∷ stages) = hlevel props
 AreShapesOf-prop (shape ∷ shapes) [] = hlevel props

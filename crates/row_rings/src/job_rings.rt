@@ -7,17 +7,17 @@ ghost use Rattle.job.specs.Kept.{pipeline_in};
 ghost use Rattle.raw_rows.specs.Rows.{row_values};
 ghost use Rattle.row_plans.specs.Plans.{states_after, CanMake, IsOutputKept};
 ghost use Rattle.row_rings.specs.NarrowRings.{AreNarrowlyMade};
-ghost use Rattle.row_rings.specs.NarrowShapes.{AreShapesOf};
+ghost use Rattle.row_rings.specs.RingShapes.{AreShapesOf};
 ghost use Rattle.row_rings.specs.RingForms.{AreRightForms};
 ghost use Rattle.row_rings.specs.RingRows.{IsKeptPoint, ring_states};
 ghost use Rattle.row_rings.specs.TrueRings.{AreTrueRings, ArePlacedRings, AreRoomy};
 ghost use Rattle.row_rings.specs.RoomOnce.{AreRoomy-prop};
 ghost use Rattle.row_rings.specs.ShapesOnce.{AreShapesOf-prop};
 
-use crate::narrow_shapes::{NarrowShape, borrow_narrow_ring_shape, list_narrow_ring_shapes};
 use crate::new_rings::{allocate_rings, find_greatest_ring_room};
 use crate::ring::{RowRing, RowRings};
 use crate::ring_forms::{find_ring_forms, is_computed_narrow_ring};
+use crate::ring_shapes::{RingShape, borrow_ring_shape, list_ring_shapes};
 use job::Job;
 use row_plans::RowState;
 use std::alloc::{AllocError, Global};
@@ -35,8 +35,8 @@ pub struct JobRings<'a> {
     pub(crate) narrow: RowRings<i16>,
     // Whether the rows of each stage are computed in 16 bits.
     computed_narrow: Vec<bool>,
-    // How rows of each stage are made in 16 bits.
-    shapes: Vec<NarrowShape<'a>>,
+    // How rows of each stage are made.
+    shapes: Vec<RingShape<'a>>,
     // Whether rows of outputs are kept as numbers of 16 bits, and not of 32.
     pub(crate) narrow_outputs: bool,
     temps: Vec<i32>,
@@ -105,7 +105,7 @@ impl<'a> JobRings<'a> {
         let states = states.to_vec(alloc)?;
         let wide = allocate_rings(alloc, 0, &forms.wide)?;
         let narrow = allocate_rings(alloc, 0, &forms.narrow)?;
-        let shapes = list_narrow_ring_shapes(alloc, job)?;
+        let shapes = list_ring_shapes(alloc, job)?;
         Ok(JobRings {
             alloc,
             job,
@@ -147,7 +147,8 @@ impl<'a> JobRings<'a> {
         ensures outputs { self.new.narrow_outputs ≡ self.old.narrow_outputs }
     {
         let mut ring = self.wide.take_out_ring(self.alloc, stage);
-        ring.make_next_row(self.job, stage, &self.wide, &mut self.temps);
+        let shape = borrow_ring_shape(&self.shapes, stage);
+        ring.make_next_row(self.job, stage, shape, &self.wide, &mut self.temps);
         let line = ring.borrow_counted_row(self.states[stage].next);
         self.narrow.push_narrowed_ring_row(stage, line);
         self.wide.rings[stage] = ring;
@@ -165,7 +166,7 @@ impl<'a> JobRings<'a> {
         ensures outputs { self.new.narrow_outputs ≡ self.old.narrow_outputs }
     {
         let mut ring = self.narrow.take_out_ring(self.alloc, stage);
-        let shape = borrow_narrow_ring_shape(&self.shapes, stage);
+        let shape = borrow_ring_shape(&self.shapes, stage);
         let temps = &mut self.narrow_temps;
         ring.make_next_row_of_narrow_ring(self.job, stage, shape, &self.narrow, temps);
         let line = ring.borrow_counted_row(self.states[stage].next);

@@ -13,10 +13,10 @@ mod kept_rows;
 mod making;
 mod narrow_making;
 mod narrow_ring_source;
-mod narrow_shapes;
 mod new_rings;
 mod ring;
 mod ring_forms;
+mod ring_shapes;
 mod ring_source;
 
 pub use job_rings::JobRings;

@@ -5,23 +5,30 @@ ghost use Rattle.std.specs.Prelude.{◌≡◌, ◌<◌, ◌+ℤ◌, pos, length,
 ghost use Rattle.std.specs.Option.{option_map};
 ghost use Rattle.domains.specs.Span.{len_of};
 ghost use Rattle.job.specs.Kept.{pipeline_in};
+ghost use Rattle.job.specs.Pipeline.{function as function_body};
 ghost use Rattle.job.specs.Values.{sample_at};
 ghost use Rattle.job.specs.Views.{case_view, formula_view};
 ghost use Rattle.row_loops.specs.Rows.{EachPlace, at};
 ghost use Rattle.row_plans.specs.Rows.{next_row};
 ghost use Rattle.row_rings.specs.RingRows.{sample_in, IsKeptPoint};
+ghost use Rattle.row_rings.specs.RingShapes.{IsFormulaBody, IsShapeOf, IsStageShape};
 ghost use Rattle.row_rings.specs.TrueRings.{AreTrueRings, HasStageRoom};
 ghost use Rattle.row_rings.specs.inside.Making.{row_area, IsPictureRow, IsMakeable, IsValueRow, HasOneRowMore};
 ghost use Rattle.tile_eval.specs.Cases.{function_value, IsComputable};
 ghost use Rattle.tile_eval.specs.Reading.{HasFunctionRoom};
+ghost use Rattle.wide_divisions.specs.DivisionSteps.{step_formula, IsRightStep};
 
 use crate::ring::{RowRing, RowRings};
+use crate::ring_shapes::RingShape;
 use domains::{Area, Span};
 use job::{Body, Function, Job};
 use netpbm::Picture;
+use row_halves::find_row_halves;
 use row_kernels::convert_samples_to_row;
 use row_plans::RowState;
-use tile_eval::{evaluate_function_area, find_span_number_at_position};
+use tile_eval::{RowSpan, evaluate_function_area, find_span_number_at_position};
+use wide_divisions::{DivisionStep, write_division_step};
+use wide_halves::write_wide_halves;
 
 // Writes a row of a plane, which is counted from the first one of the picture.
 fn write_samples_to_ring(picture: &Picture, plane: usize, row: usize, out: &mut [i32])
@@ -32,10 +39,120 @@ fn write_samples_to_ring(picture: &Picture, plane: usize, row: usize, out: &mut 
     convert_samples_to_row(&picture.samples(plane), row * out.len(), out);
 }
 
-// Writes a row of a function. The contents of the operands' buffer have no meaning.
+// Writes a row of a function by its formulas, on an area of one row. The contents of the operands' buffer have no meaning.
+fn write_formula_row_to_ring(
+    known: &RowRings<i32>,
+    function: &Function,
+    area: &Area,
+    out: &mut [i32],
+    temps: &mut [i32],
+)
+    requires one { area.now.rows.hi ≡ area.now.rows.lo }
+    requires function { IsComputable (IsKeptPoint known.now.rings.items) area.now
+        (map case_view function.now.cases.items) (option_map formula_view function.now.otherwise) }
+    requires count { length out.old ≡ len_of area.now.cols }
+    requires room { HasFunctionRoom (len_of area.now.cols) (length temps.old)
+        (map case_view function.now.cases.items) (option_map formula_view function.now.otherwise) }
+    ensures { EachPlace (length out.old) (λ k. at out.new k
+        ≡ function_value (sample_in known.now.rings.items) (map case_view function.now.cases.items)
+        (option_map formula_view function.now.otherwise) area.now.rows.lo
+        (area.now.cols.lo +ℤ pos k)) }
+{
+    evaluate_function_area(known, function, area, out, temps);
+}
+
+// Writes a row of a step of a division, on an area of one row. The contents of the operands' buffer have no meaning.
+fn write_division_row_to_ring(
+    known: &RowRings<i32>,
+    function: &Function,
+    step: &DivisionStep<'_>,
+    area: &Area,
+    out: &mut [i32],
+    temps: &mut [i32],
+)
+    requires one { area.now.rows.hi ≡ area.now.rows.lo }
+    requires function { IsComputable (IsKeptPoint known.now.rings.items) area.now
+        (map case_view function.now.cases.items) (option_map formula_view function.now.otherwise) }
+    requires count { length out.old ≡ len_of area.now.cols }
+    requires room { HasFunctionRoom (len_of area.now.cols) (length temps.old)
+        (map case_view function.now.cases.items) (option_map formula_view function.now.otherwise) }
+    requires formula { IsFormulaBody (step_formula step.now)
+        (function_body (map case_view function.now.cases.items)
+        (option_map formula_view function.now.otherwise)) }
+    requires right { IsRightStep step.now }
+    ensures { EachPlace (length out.old) (λ k. at out.new k
+        ≡ function_value (sample_in known.now.rings.items) (map case_view function.now.cases.items)
+        (option_map formula_view function.now.otherwise) area.now.rows.lo
+        (area.now.cols.lo +ℤ pos k)) }
+{
+    let points = RowSpan::from_area_top(area);
+    if !write_division_step(known, step, &points, out) {
+        write_formula_row_to_ring(known, function, area, out, temps);
+    }
+}
+
+// Writes a row of a function from its halves, if it has any, else by its formulas, on an area of one row. The contents of the
+// operands' buffer have no meaning.
+fn write_halved_row_to_ring(
+    known: &RowRings<i32>,
+    function: &Function,
+    area: &Area,
+    out: &mut [i32],
+    temps: &mut [i32],
+)
+    requires one { area.now.rows.hi ≡ area.now.rows.lo }
+    requires function { IsComputable (IsKeptPoint known.now.rings.items) area.now
+        (map case_view function.now.cases.items) (option_map formula_view function.now.otherwise) }
+    requires count { length out.old ≡ len_of area.now.cols }
+    requires room { HasFunctionRoom (len_of area.now.cols) (length temps.old)
+        (map case_view function.now.cases.items) (option_map formula_view function.now.otherwise) }
+    ensures { EachPlace (length out.old) (λ k. at out.new k
+        ≡ function_value (sample_in known.now.rings.items) (map case_view function.now.cases.items)
+        (option_map formula_view function.now.otherwise) area.now.rows.lo
+        (area.now.cols.lo +ℤ pos k)) }
+{
+    match find_row_halves(function) {
+        Some(halves) => write_wide_halves(known, function, &halves, area, out, temps),
+        None => write_formula_row_to_ring(known, function, area, out, temps),
+    }
+}
+
+// Writes a row of a function of this shape, on an area of one row. The contents of the operands' buffer have no meaning.
+fn write_shaped_row_to_ring(
+    known: &RowRings<i32>,
+    function: &Function,
+    shape: &RingShape<'_>,
+    area: &Area,
+    out: &mut [i32],
+    temps: &mut [i32],
+)
+    requires one { area.now.rows.hi ≡ area.now.rows.lo }
+    requires function { IsComputable (IsKeptPoint known.now.rings.items) area.now
+        (map case_view function.now.cases.items) (option_map formula_view function.now.otherwise) }
+    requires count { length out.old ≡ len_of area.now.cols }
+    requires room { HasFunctionRoom (len_of area.now.cols) (length temps.old)
+        (map case_view function.now.cases.items) (option_map formula_view function.now.otherwise) }
+    requires shape { IsShapeOf shape.now (function_body (map case_view function.now.cases.items)
+        (option_map formula_view function.now.otherwise)) }
+    ensures { EachPlace (length out.old) (λ k. at out.new k
+        ≡ function_value (sample_in known.now.rings.items) (map case_view function.now.cases.items)
+        (option_map formula_view function.now.otherwise) area.now.rows.lo
+        (area.now.cols.lo +ℤ pos k)) }
+{
+    match shape {
+        RingShape::Division(step) => {
+            write_division_row_to_ring(known, function, step, area, out, temps)
+        }
+        RingShape::Halves => write_halved_row_to_ring(known, function, area, out, temps),
+        _ => write_formula_row_to_ring(known, function, area, out, temps),
+    }
+}
+
+// Writes a row of a function of this shape. The contents of the operands' buffer have no meaning.
 fn write_function_row_to_ring(
     known: &RowRings<i32>,
     function: &Function,
+    shape: &RingShape<'_>,
     area: &Area,
     row: i32,
     out: &mut [i32],
@@ -46,6 +163,8 @@ fn write_function_row_to_ring(
     requires count { length out.old ≡ len_of area.now.cols }
     requires room { HasFunctionRoom (len_of area.now.cols) (length temps.old)
         (map case_view function.now.cases.items) (option_map formula_view function.now.otherwise) }
+    requires shape { IsShapeOf shape.now (function_body (map case_view function.now.cases.items)
+        (option_map formula_view function.now.otherwise)) }
     ensures { EachPlace (len_of area.now.cols) (λ k. at out.new k
         ≡ function_value (sample_in known.now.rings.items) (map case_view function.now.cases.items)
         (option_map formula_view function.now.otherwise) row (area.now.cols.lo +ℤ pos k)) }
@@ -55,14 +174,15 @@ fn write_function_row_to_ring(
             rows,
             cols: area.cols,
         };
-        evaluate_function_area(known, function, &own, out, temps);
+        write_shaped_row_to_ring(known, function, shape, &own, out, temps);
     }
 }
 
-// Writes the next row of a stage, from the rows that it reads.
+// Writes the next row of a stage of this shape, from the rows that it reads.
 fn write_stage_row_to_ring(
     job: &Job,
     stage: usize,
+    shape: &RingShape<'_>,
     state: &RowState,
     known: &RowRings<i32>,
     out: &mut [i32],
@@ -70,6 +190,7 @@ fn write_stage_row_to_ring(
 )
     requires can { IsMakeable (pipeline_in job.now) known.now.rings.items stage state.now }
     requires right { AreTrueRings (pipeline_in job.now) known.now.rings.items }
+    requires shape { IsStageShape (pipeline_in job.now) stage shape.now }
     requires count { length out.old ≡ len_of state.now.area.cols }
     requires room { HasStageRoom (pipeline_in job.now) stage (len_of state.now.area.cols)
         (length temps.old) }
@@ -82,7 +203,7 @@ fn write_stage_row_to_ring(
         Body::Plane(plane) => write_samples_to_ring(job.picture(), *plane, state.next, out),
         Body::Function(function) => {
             let row = find_span_number_at_position(&state.area.rows, state.next as u32);
-            write_function_row_to_ring(known, function, &state.area, row, out, temps);
+            write_function_row_to_ring(known, function, shape, &state.area, row, out, temps);
         }
         Body::Accumulator(_) => {}
     }
@@ -94,17 +215,27 @@ impl RowRing<i32> {
         &mut self,
         job: &Job,
         stage: usize,
+        shape: &RingShape<'_>,
         known: &RowRings<i32>,
         temps: &mut [i32],
     )
         requires can { IsMakeable (pipeline_in job.now) known.now.rings.items stage self.old.state }
         requires some { 0 < self.old.state.kept }
         requires right { AreTrueRings (pipeline_in job.now) known.now.rings.items }
+        requires shape { IsStageShape (pipeline_in job.now) stage shape.now }
         requires room { HasStageRoom (pipeline_in job.now) stage (len_of self.old.state.area.cols)
             (length temps.old) }
         ensures { HasOneRowMore (pipeline_in job.now) stage self.old self.new }
     {
-        write_stage_row_to_ring(job, stage, &self.state, known, &mut self.rows[0], temps);
+        write_stage_row_to_ring(
+            job,
+            stage,
+            shape,
+            &self.state,
+            known,
+            &mut self.rows[0],
+            temps,
+        );
         self.rows.rotate_left(1);
         self.state.next += 1;
     }

@@ -14,29 +14,31 @@ ghost use Rattle.row_loops.specs.Rows.{EachPlace, at};
 ghost use Rattle.row_plans.specs.Rows.{next_row};
 ghost use Rattle.row_rings.specs.RingRows.{IsKeptPoint};
 ghost use Rattle.row_rings.specs.NarrowRings.{IsFittingStage, IsNarrowlyMade};
-ghost use Rattle.row_rings.specs.NarrowShapes.{IsShapeOf, IsStageShape};
+ghost use Rattle.row_rings.specs.RingShapes.{IsShapeOf, IsStageShape};
 ghost use Rattle.row_rings.specs.TrueRings.{AreTrueRings, HasStageRoom};
-ghost use Rattle.row_rings.specs.inside.Making.{IsFittingRow, IsMakeable, IsPictureRow, IsValueRow, HasOneRowMore};
+ghost use Rattle.row_rings.specs.inside.Making.{AreFittingValues, IsFittingRow, IsMakeable, IsPictureRow, IsValueRow, HasOneRowMore};
 ghost use Rattle.narrow_eval.specs.NarrowCases.{IsNarrowComputable};
 ghost use Rattle.narrow_mixes.specs.NarrowMixes.{is_mix};
 ghost use Rattle.tile_eval.specs.Cases.{function_value};
 
 use crate::narrow_ring_source::NarrowRingSource;
-use crate::narrow_shapes::NarrowShape;
 use crate::ring::{RowRing, RowRings};
+use crate::ring_shapes::RingShape;
 use domains::Area;
 use job::{Body, Function, Job};
 use narrow_averages::write_narrow_average;
 use narrow_bars::write_narrow_bar;
 use narrow_choices::write_narrow_choice;
+use narrow_decimations::{find_narrow_decimation, write_narrow_decimation};
 use narrow_eval::{NarrowSource, evaluate_narrow_formula, evaluate_narrow_function};
 use narrow_filters::write_narrow_filter;
-use narrow_halves::{find_narrow_halves, write_narrow_halves};
+use narrow_halves::write_narrow_halves;
 use narrow_kernels::convert_samples_to_narrow_row;
 use narrow_limits::write_narrow_limit;
 use narrow_mixes::write_narrow_mix;
 use narrow_pieces::write_narrow_pieces;
 use netpbm::Picture;
+use row_halves::find_row_halves;
 use row_plans::RowState;
 use tile_eval::RowSpan;
 
@@ -92,8 +94,32 @@ fn write_halved_row_to_narrow_ring<S: NarrowSource>(
         (option_map formula_view function.now.otherwise) points.now.row
         (points.now.col +ℤ pos k)) }
 {
-    match find_narrow_halves(function) {
+    match find_row_halves(function) {
         Some(halves) => write_narrow_halves(source, function, &halves, points, out, temps),
+        None => write_formula_row_to_narrow_ring(source, function, points, out, temps),
+    }
+}
+
+// Writes a row of a function by decimation, if it has one, else by its formulas. The contents of `temps` have no meaning.
+fn write_decimated_row_to_narrow_ring<S: NarrowSource>(
+    source: &S,
+    function: &Function,
+    points: &RowSpan,
+    out: &mut [i16],
+    temps: &mut [i16],
+)
+    requires some { 0 < length out.old }
+    requires fits { length out.old ≡ points.now.len }
+    requires function { IsNarrowComputable (S.has source.now) (S.samples source.now) points.now.row
+        points.now.col (length out.old) (length temps.old) (map case_view function.now.cases.items)
+        (option_map formula_view function.now.otherwise) }
+    ensures { EachPlace (length out.old) (λ k. at out.new k
+        ≡ function_value (S.samples source.now) (map case_view function.now.cases.items)
+        (option_map formula_view function.now.otherwise) points.now.row
+        (points.now.col +ℤ pos k)) }
+{
+    match find_narrow_decimation(function) {
+        Some(it) => write_narrow_decimation(source, function, &it, points, out, temps),
         None => write_formula_row_to_narrow_ring(source, function, points, out, temps),
     }
 }
@@ -102,7 +128,7 @@ fn write_halved_row_to_narrow_ring<S: NarrowSource>(
 fn write_shaped_row_to_narrow_ring<S: NarrowSource>(
     source: &S,
     function: &Function,
-    shape: &NarrowShape<'_>,
+    shape: &RingShape<'_>,
     points: &RowSpan,
     out: &mut [i16],
     temps: &mut [i16],
@@ -114,6 +140,8 @@ fn write_shaped_row_to_narrow_ring<S: NarrowSource>(
     requires reads { EachPlace (length out.old) (λ k. BodyReads (S.has source.now)
         (function_body (map case_view function.now.cases.items)
         (option_map formula_view function.now.otherwise)) points.now.row (points.now.col +ℤ pos k)) }
+    requires values { AreFittingValues (S.samples source.now) (map case_view function.now.cases.items)
+        (option_map formula_view function.now.otherwise) points.now.row points.now.col (length out.old) }
     requires function { is_mix (map case_view function.now.cases.items)
         (option_map formula_view function.now.otherwise) ≡ false
         → IsNarrowComputable (S.has source.now) (S.samples source.now) points.now.row
@@ -125,17 +153,21 @@ fn write_shaped_row_to_narrow_ring<S: NarrowSource>(
         (points.now.col +ℤ pos k)) }
 {
     match shape {
-        NarrowShape::Mix(mix) => write_narrow_mix(source, mix, points, out),
-        NarrowShape::Pieces(pieces) => write_narrow_pieces(source, function, pieces, points, out),
-        NarrowShape::Bar(bar) => write_narrow_bar(source, bar, points, out),
-        NarrowShape::Average(average) => write_narrow_average(source, average, points, out),
-        NarrowShape::Limit(limit) => write_narrow_limit(source, limit, points, out),
-        NarrowShape::Choice(choice) => write_narrow_choice(source, choice, points, out),
-        NarrowShape::Filter(filter) => write_narrow_filter(source, filter, points, out),
-        NarrowShape::Halves => write_halved_row_to_narrow_ring(
+        RingShape::Mix(mix) => write_narrow_mix(source, mix, points, out),
+        RingShape::Pieces(pieces) => write_narrow_pieces(source, function, pieces, points, out),
+        RingShape::Bar(bar) => write_narrow_bar(source, bar, points, out),
+        RingShape::Average(average) => write_narrow_average(source, average, points, out),
+        RingShape::Limit(limit) => write_narrow_limit(source, limit, points, out),
+        RingShape::Choice(choice) => write_narrow_choice(source, choice, points, out),
+        RingShape::Filter(filter) => write_narrow_filter(source, filter, points, out),
+        RingShape::Decimation => write_decimated_row_to_narrow_ring(
             source, function, points, out, temps,
         ),
-        NarrowShape::Other => {
+        RingShape::Halves => write_halved_row_to_narrow_ring(source, function, points, out, temps),
+        RingShape::Division(_) => {
+            write_formula_row_to_narrow_ring(source, function, points, out, temps)
+        }
+        RingShape::Other => {
             write_formula_row_to_narrow_ring(source, function, points, out, temps)
         }
     }
@@ -147,7 +179,7 @@ fn write_function_row_to_narrow_ring(
     job: &Job,
     known: &RowRings<i16>,
     function: &Function,
-    shape: &NarrowShape<'_>,
+    shape: &RingShape<'_>,
     area: &Area,
     row: usize,
     out: &mut [i16],
@@ -163,6 +195,9 @@ fn write_function_row_to_narrow_ring(
         (function_body (map case_view function.now.cases.items)
         (option_map formula_view function.now.otherwise)) (area.now.rows.lo +ℤ pos row)
         (area.now.cols.lo +ℤ pos k)) }
+    requires values { AreFittingValues (value (pipeline_in job.now)) (map case_view function.now.cases.items)
+        (option_map formula_view function.now.otherwise) (area.now.rows.lo +ℤ pos row)
+        area.now.cols.lo (length out.old) }
     requires shape { IsShapeOf shape.now (function_body (map case_view function.now.cases.items)
         (option_map formula_view function.now.otherwise)) }
     requires function { is_mix (map case_view function.now.cases.items)
@@ -185,7 +220,7 @@ fn write_function_row_to_narrow_ring(
 fn write_stage_row_to_narrow_ring(
     job: &Job,
     stage: usize,
-    shape: &NarrowShape<'_>,
+    shape: &RingShape<'_>,
     state: &RowState,
     known: &RowRings<i16>,
     out: &mut [i16],
@@ -229,7 +264,7 @@ impl RowRing<i16> {
         &mut self,
         job: &Job,
         stage: usize,
-        shape: &NarrowShape<'_>,
+        shape: &RingShape<'_>,
         known: &RowRings<i16>,
         temps: &mut [i16],
     )

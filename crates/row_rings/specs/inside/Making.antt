@@ -1,18 +1,20 @@
 -- The next row of a ring.
-use Rattle.std.specs.Prelude.{ℕ, ◌+◌, ◌<◌, ◌≡◌, ℤ, pos, ◌+ℤ◌, Some, List, length, slice_get}
+use Rattle.std.specs.Prelude.{ℕ, ◌+◌, ◌<◌, ◌≡◌, ℤ, pos, ◌+ℤ◌, Option, Some, List, length, slice_get}
 use Rattle.domains.specs.Area.{HoldsPoint}
 use Rattle.domains.specs.Span.{len_of}
 use Rattle.domains.specs.declared.area.Area.{Area}
 use Rattle.netpbm.specs.Image.{Image}
-use Rattle.job.specs.Pipeline.{Stage, Pipeline}
+use Rattle.job.specs.Formula.{Formula}
+use Rattle.job.specs.Pipeline.{JobCase, Stage, Pipeline}
 use Rattle.job.specs.Reads.{BodyReads}
-use Rattle.job.specs.Values.{value, sample_at}
+use Rattle.job.specs.Values.{Valuation, value, sample_at}
 use Rattle.job.specs.WellFormed.{IsValued}
 use Rattle.row_loops.specs.Rows.{EachPlace, at}
 use Rattle.row_plans.specs.Rows.{next_row, one_row_more}
 use Rattle.row_plans.specs.declared.row_state.RowState.{RowState}
 use Rattle.row_rings.specs.RingRows.{row_at, IsKeptPoint}
 use Rattle.row_rings.specs.declared.ring.RowRing.{RowRing}
+use Rattle.tile_eval.specs.Cases.{function_value}
 use Rattle.value_ranges.specs.Narrow.{Fits16}
 
 -- row y of a picture that has plane n, counted from the first one, has so many samples
@@ -22,6 +24,10 @@ IsPictureRow picture n y count = (n < length picture.planes) × (y < picture.row
 -- its samples fit in 16 bits
 abbrev pub IsFittingRow : Image → ℕ → ℕ → Type 0
 IsFittingRow picture n y = EachPlace picture.cols (λ k. Fits16 (sample_at picture n (pos y) (pos k)))
+
+-- at n points of row r from column c on the values of a function fit in 16 bits
+abbrev pub AreFittingValues : Valuation → List JobCase → Option Formula → ℤ → ℤ → ℕ → Type 0
+AreFittingValues env cases otherwise r c n = EachPlace n (λ k. Fits16 (function_value env cases otherwise r (c +ℤ pos k)))
 
 -- row r of an area alone
 abbrev pub row_area : Area → ℤ → Area

@@ -1,9 +1,10 @@
-use Rattle.std.proofs.Common.{rules, arith, ◌≡◌, FitsSigned, w32, map, sym, ap, ◌∙◌}
+use Rattle.std.proofs.Common.{rules, arith, ◌≡◌, FitsSigned, w32, map, subst, sym, ap, ◌∙◌}
 use Rattle.std.specs.Option.{option_map}
 use Rattle.std.proofs.lemmas.Int.{to_z-of_z}
 use Rattle.job.specs.Kept.{pipeline_in}
 use Rattle.job.specs.Views.{case_view, formula_view, body_view, stage_view}
 use Rattle.row_plans.specs.Rows.{next_row}
+use Rattle.row_rings.specs.RingShapes.{IsShapeOf}
 use Rattle.row_rings.proofs.Values.{next_small, function_made, function_computable, plane_row, plane_made}
 use Rattle.row_rings.proofs.making.write_stage_row_to_ring.Goals as goal
 
@@ -29,6 +30,11 @@ write_function_row_to_ring-requires-clause-function c =
     (function_computable (pipeline_in c.args.job.now) c.args.job.now.well c.args.known.now.rings.items c.args.stage c.args.state.now
     c.requires.can (stage_view c.in-Some.found.now) (sym c.in-Some.ensures) (map case_view f.cases.items)
     (option_map formula_view f.otherwise) (ap body_view (sym c.body.ensures ∙ c.in-Function.is)) row next)
+
+pub write_function_row_to_ring-requires-clause-shape : goal.write_function_row_to_ring-requires-clause-shape
+write_function_row_to_ring-requires-clause-shape c =
+    subst (IsShapeOf c.args.shape.now) (ap body_view (sym c.body.ensures ∙ c.in-Function.is))
+    (c.requires.shape (stage_view c.in-Some.found.now) (sym c.in-Some.ensures))
 
 pub returns-in-Plane : goal.returns-in-Plane
 returns-in-Plane c =

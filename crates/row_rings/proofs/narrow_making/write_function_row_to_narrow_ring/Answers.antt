@@ -9,6 +9,7 @@ use Rattle.row_loops.specs.Rows.{EachPlace}
 use Rattle.narrow_eval.specs.NarrowCases.{IsNarrowComputable}
 use Rattle.tile_eval.specs.Cases.{function_value}
 use Rattle.row_rings.specs.RingRows.{IsKeptPoint}
+use Rattle.row_rings.specs.inside.Making.{AreFittingValues}
 use Rattle.row_rings.proofs.narrow_making.write_function_row_to_narrow_ring.Goals as goal
 
 pub write_shaped_row_to_narrow_ring-requires-clause-reads : goal.write_shaped_row_to_narrow_ring-requires-clause-reads
@@ -19,6 +20,15 @@ write_shaped_row_to_narrow_ring-requires-clause-reads c =
     (function (map case_view f.cases.items) (option_map formula_view f.otherwise)) r (col +ℤ pos k)) in
     subst (λ r. AreRead r c.from_area_row-points.result.col) (sym points.row)
     (subst (AreRead (c.args.area.now.rows.lo +ℤ pos c.args.row)) (sym points.col) c.requires.reads)
+
+pub write_shaped_row_to_narrow_ring-requires-clause-values : goal.write_shaped_row_to_narrow_ring-requires-clause-values
+write_shaped_row_to_narrow_ring-requires-clause-values c =
+    let f = c.args.function.now in
+    let points = c.from_area_row-points.ensures in
+    let AreFitting : ℤ → ℤ → Type 0 = λ r col. AreFittingValues (value (pipeline_in c.args.job.now)) (map case_view f.cases.items)
+    (option_map formula_view f.otherwise) r col (length c.args.out.now) in
+    subst (λ r. AreFitting r c.from_area_row-points.result.col) (sym points.row)
+    (subst (AreFitting (c.args.area.now.rows.lo +ℤ pos c.args.row)) (sym points.col) c.requires.values)
 
 pub write_shaped_row_to_narrow_ring-requires-clause-function : goal.write_shaped_row_to_narrow_ring-requires-clause-function
 write_shaped_row_to_narrow_ring-requires-clause-function c = λ plain.

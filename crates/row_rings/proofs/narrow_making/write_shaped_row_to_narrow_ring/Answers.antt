@@ -1,4 +1,4 @@
-use Rattle.std.proofs.Common.{arith, ◌+ℤ◌, pos, map, ◌∙◌, subst}
+use Rattle.std.proofs.Common.{arith, ◌+ℤ◌, pos, map, sym, ◌∙◌, subst}
 use Rattle.std.proofs.Props.{props}
 use Rattle.std.specs.Option.{option_map}
 use Rattle.job.specs.Pipeline.{function}
@@ -9,8 +9,9 @@ use Rattle.narrow_choices.specs.NarrowChoices.{choice_formula}
 use Rattle.narrow_limits.specs.NarrowLimits.{limit_formula}
 use Rattle.narrow_filters.specs.Filters.{filter_formula}
 use Rattle.narrow_averages.specs.NarrowAverages.{average_formula}
-use Rattle.row_rings.specs.NarrowShapes.{IsShapeOf}
-use Rattle.row_rings.specs.declared.narrow_shapes.NarrowShape.{NarrowShape}
+use Rattle.value_ranges.specs.Narrow.{Fits16}
+use Rattle.row_rings.specs.RingShapes.{IsShapeOf}
+use Rattle.row_rings.specs.declared.ring_shapes.RingShape.{RingShape}
 use Rattle.row_rings.proofs.Shapes.{formula_read, formula_narrow, stencil_narrow, formula_everywhere, average_narrow-prop, filter_narrow-prop}
 use Rattle.row_rings.proofs.narrow_making.write_shaped_row_to_narrow_ring.Goals as goal
 
@@ -19,21 +20,31 @@ use Rattle.row_rings.proofs.narrow_making.write_shaped_row_to_narrow_ring.Goals 
 pub write_narrow_mix-requires-clause-right : goal.write_narrow_mix-requires-clause-right
 write_narrow_mix-requires-clause-right g c =
     let f = c.args.function.now in
-    (subst (λ (shape : NarrowShape). IsShapeOf shape (function (map case_view f.cases.items) (option_map formula_view f.otherwise)))
+    (subst (λ (shape : RingShape). IsShapeOf shape (function (map case_view f.cases.items) (option_map formula_view f.otherwise)))
     c.in-Mix.is c.requires.shape).1
 
 pub write_narrow_mix-requires-clause-reads : goal.write_narrow_mix-requires-clause-reads
 write_narrow_mix-requires-clause-reads g c = λ k h.
     let f = c.args.function.now in
-    let is = subst (λ (shape : NarrowShape). IsShapeOf shape (function (map case_view f.cases.items) (option_map formula_view f.otherwise)))
+    let is = subst (λ (shape : RingShape). IsShapeOf shape (function (map case_view f.cases.items) (option_map formula_view f.otherwise)))
     c.in-Mix.is c.requires.shape in
     formula_read (g.S.NarrowSource.has c.args.source.now) (mix_formula c.in-Mix.mix) (map case_view f.cases.items)
     (option_map formula_view f.otherwise) _ _ is.0 (c.requires.reads k (omega (arith, h, c.requires.fits)))
 
+pub write_narrow_mix-requires-clause-narrow : goal.write_narrow_mix-requires-clause-narrow
+write_narrow_mix-requires-clause-narrow g c = λ k h.
+    let f = c.args.function.now in
+    let is = subst (λ (shape : RingShape). IsShapeOf shape (function (map case_view f.cases.items) (option_map formula_view f.otherwise)))
+    c.in-Mix.is c.requires.shape in
+    subst Fits16
+    (sym (formula_everywhere (g.S.NarrowSource.samples c.args.source.now) (mix_formula c.in-Mix.mix) (map case_view f.cases.items)
+    (option_map formula_view f.otherwise) _ _ is.0))
+    (c.requires.values k (omega (arith, h, c.requires.fits)))
+
 pub returns-in-Mix : goal.returns-in-Mix
 returns-in-Mix g c = λ k h.
     let f = c.args.function.now in
-    let is = subst (λ (shape : NarrowShape). IsShapeOf shape (function (map case_view f.cases.items) (option_map formula_view f.otherwise)))
+    let is = subst (λ (shape : RingShape). IsShapeOf shape (function (map case_view f.cases.items) (option_map formula_view f.otherwise)))
     c.in-Mix.is c.requires.shape in
     c.write_narrow_mix.ensures k h
     ∙ formula_everywhere (g.S.NarrowSource.samples c.args.source.now) (mix_formula c.in-Mix.mix) (map case_view f.cases.items)
@@ -44,13 +55,13 @@ returns-in-Mix g c = λ k h.
 pub write_narrow_pieces-requires-clause-pieces : goal.write_narrow_pieces-requires-clause-pieces
 write_narrow_pieces-requires-clause-pieces g c =
     let f = c.args.function.now in
-    (subst (λ (shape : NarrowShape). IsShapeOf shape (function (map case_view f.cases.items) (option_map formula_view f.otherwise)))
+    (subst (λ (shape : RingShape). IsShapeOf shape (function (map case_view f.cases.items) (option_map formula_view f.otherwise)))
     c.in-Pieces.is c.requires.shape).0
 
 pub write_narrow_pieces-requires-clause-narrow : goal.write_narrow_pieces-requires-clause-narrow
 write_narrow_pieces-requires-clause-narrow g c =
     let f = c.args.function.now in
-    let is = subst (λ (shape : NarrowShape). IsShapeOf shape (function (map case_view f.cases.items) (option_map formula_view f.otherwise)))
+    let is = subst (λ (shape : RingShape). IsShapeOf shape (function (map case_view f.cases.items) (option_map formula_view f.otherwise)))
     c.in-Pieces.is c.requires.shape in
     (c.requires.function is.1).narrow
 
@@ -59,13 +70,13 @@ write_narrow_pieces-requires-clause-narrow g c =
 pub write_narrow_bar-requires-clause-right : goal.write_narrow_bar-requires-clause-right
 write_narrow_bar-requires-clause-right g c =
     let f = c.args.function.now in
-    (subst (λ (shape : NarrowShape). IsShapeOf shape (function (map case_view f.cases.items) (option_map formula_view f.otherwise)))
+    (subst (λ (shape : RingShape). IsShapeOf shape (function (map case_view f.cases.items) (option_map formula_view f.otherwise)))
     c.in-Bar.is c.requires.shape).1
 
 pub write_narrow_bar-requires-clause-reads : goal.write_narrow_bar-requires-clause-reads
 write_narrow_bar-requires-clause-reads g c = λ k h.
     let f = c.args.function.now in
-    let is = subst (λ (shape : NarrowShape). IsShapeOf shape (function (map case_view f.cases.items) (option_map formula_view f.otherwise)))
+    let is = subst (λ (shape : RingShape). IsShapeOf shape (function (map case_view f.cases.items) (option_map formula_view f.otherwise)))
     c.in-Bar.is c.requires.shape in
     formula_read (g.S.NarrowSource.has c.args.source.now) (bar_formula c.in-Bar.bar) (map case_view f.cases.items)
     (option_map formula_view f.otherwise) _ _ is.0 (c.requires.reads k (omega (arith, h, c.requires.fits)))
@@ -73,7 +84,7 @@ write_narrow_bar-requires-clause-reads g c = λ k h.
 pub write_narrow_bar-requires-clause-narrow : goal.write_narrow_bar-requires-clause-narrow
 write_narrow_bar-requires-clause-narrow g c = λ k h.
     let f = c.args.function.now in
-    let is = subst (λ (shape : NarrowShape). IsShapeOf shape (function (map case_view f.cases.items) (option_map formula_view f.otherwise)))
+    let is = subst (λ (shape : RingShape). IsShapeOf shape (function (map case_view f.cases.items) (option_map formula_view f.otherwise)))
     c.in-Bar.is c.requires.shape in
     let bar = c.in-Bar.bar in
     stencil_narrow (g.S.NarrowSource.samples c.args.source.now) bar.stage bar.divisor bar.kernel.now (map case_view f.cases.items)
@@ -83,7 +94,7 @@ write_narrow_bar-requires-clause-narrow g c = λ k h.
 pub returns-in-Bar : goal.returns-in-Bar
 returns-in-Bar g c = λ k h.
     let f = c.args.function.now in
-    let is = subst (λ (shape : NarrowShape). IsShapeOf shape (function (map case_view f.cases.items) (option_map formula_view f.otherwise)))
+    let is = subst (λ (shape : RingShape). IsShapeOf shape (function (map case_view f.cases.items) (option_map formula_view f.otherwise)))
     c.in-Bar.is c.requires.shape in
     c.write_narrow_bar.ensures k h
     ∙ formula_everywhere (g.S.NarrowSource.samples c.args.source.now) (bar_formula c.in-Bar.bar) (map case_view f.cases.items)
@@ -94,13 +105,13 @@ returns-in-Bar g c = λ k h.
 pub write_narrow_average-requires-clause-right : goal.write_narrow_average-requires-clause-right
 write_narrow_average-requires-clause-right g c =
     let f = c.args.function.now in
-    (subst (λ (shape : NarrowShape). IsShapeOf shape (function (map case_view f.cases.items) (option_map formula_view f.otherwise)))
+    (subst (λ (shape : RingShape). IsShapeOf shape (function (map case_view f.cases.items) (option_map formula_view f.otherwise)))
     c.in-Average.is c.requires.shape).1
 
 pub write_narrow_average-requires-clause-reads : goal.write_narrow_average-requires-clause-reads
 write_narrow_average-requires-clause-reads g c = λ k h.
     let f = c.args.function.now in
-    let is = subst (λ (shape : NarrowShape). IsShapeOf shape (function (map case_view f.cases.items) (option_map formula_view f.otherwise)))
+    let is = subst (λ (shape : RingShape). IsShapeOf shape (function (map case_view f.cases.items) (option_map formula_view f.otherwise)))
     c.in-Average.is c.requires.shape in
     formula_read (g.S.NarrowSource.has c.args.source.now) (average_formula c.in-Average.average) (map case_view f.cases.items)
     (option_map formula_view f.otherwise) _ _ is.0 (c.requires.reads k (omega (arith, h, c.requires.fits)))
@@ -108,7 +119,7 @@ write_narrow_average-requires-clause-reads g c = λ k h.
 pub write_narrow_average-requires-clause-narrow : goal.write_narrow_average-requires-clause-narrow
 write_narrow_average-requires-clause-narrow g c = λ k h.
     let f = c.args.function.now in
-    let is = subst (λ (shape : NarrowShape). IsShapeOf shape (function (map case_view f.cases.items) (option_map formula_view f.otherwise)))
+    let is = subst (λ (shape : RingShape). IsShapeOf shape (function (map case_view f.cases.items) (option_map formula_view f.otherwise)))
     c.in-Average.is c.requires.shape in
     formula_narrow (g.S.NarrowSource.samples c.args.source.now) (average_formula c.in-Average.average) (map case_view f.cases.items)
     (option_map formula_view f.otherwise) _ _ (average_narrow-prop (g.S.NarrowSource.samples c.args.source.now) c.in-Average.average _ _) is.0
@@ -117,7 +128,7 @@ write_narrow_average-requires-clause-narrow g c = λ k h.
 pub returns-in-Average : goal.returns-in-Average
 returns-in-Average g c = λ k h.
     let f = c.args.function.now in
-    let is = subst (λ (shape : NarrowShape). IsShapeOf shape (function (map case_view f.cases.items) (option_map formula_view f.otherwise)))
+    let is = subst (λ (shape : RingShape). IsShapeOf shape (function (map case_view f.cases.items) (option_map formula_view f.otherwise)))
     c.in-Average.is c.requires.shape in
     c.write_narrow_average.ensures k h
     ∙ formula_everywhere (g.S.NarrowSource.samples c.args.source.now) (average_formula c.in-Average.average) (map case_view f.cases.items)
@@ -128,13 +139,13 @@ returns-in-Average g c = λ k h.
 pub write_narrow_limit-requires-clause-right : goal.write_narrow_limit-requires-clause-right
 write_narrow_limit-requires-clause-right g c =
     let f = c.args.function.now in
-    (subst (λ (shape : NarrowShape). IsShapeOf shape (function (map case_view f.cases.items) (option_map formula_view f.otherwise)))
+    (subst (λ (shape : RingShape). IsShapeOf shape (function (map case_view f.cases.items) (option_map formula_view f.otherwise)))
     c.in-Limit.is c.requires.shape).1
 
 pub write_narrow_limit-requires-clause-reads : goal.write_narrow_limit-requires-clause-reads
 write_narrow_limit-requires-clause-reads g c = λ k h.
     let f = c.args.function.now in
-    let is = subst (λ (shape : NarrowShape). IsShapeOf shape (function (map case_view f.cases.items) (option_map formula_view f.otherwise)))
+    let is = subst (λ (shape : RingShape). IsShapeOf shape (function (map case_view f.cases.items) (option_map formula_view f.otherwise)))
     c.in-Limit.is c.requires.shape in
     formula_read (g.S.NarrowSource.has c.args.source.now) (limit_formula c.in-Limit.limit) (map case_view f.cases.items)
     (option_map formula_view f.otherwise) _ _ is.0 (c.requires.reads k (omega (arith, h, c.requires.fits)))
@@ -142,7 +153,7 @@ write_narrow_limit-requires-clause-reads g c = λ k h.
 pub returns-in-Limit : goal.returns-in-Limit
 returns-in-Limit g c = λ k h.
     let f = c.args.function.now in
-    let is = subst (λ (shape : NarrowShape). IsShapeOf shape (function (map case_view f.cases.items) (option_map formula_view f.otherwise)))
+    let is = subst (λ (shape : RingShape). IsShapeOf shape (function (map case_view f.cases.items) (option_map formula_view f.otherwise)))
     c.in-Limit.is c.requires.shape in
     c.write_narrow_limit.ensures k h
     ∙ formula_everywhere (g.S.NarrowSource.samples c.args.source.now) (limit_formula c.in-Limit.limit) (map case_view f.cases.items)
@@ -153,13 +164,13 @@ returns-in-Limit g c = λ k h.
 pub write_narrow_choice-requires-clause-right : goal.write_narrow_choice-requires-clause-right
 write_narrow_choice-requires-clause-right g c =
     let f = c.args.function.now in
-    (subst (λ (shape : NarrowShape). IsShapeOf shape (function (map case_view f.cases.items) (option_map formula_view f.otherwise)))
+    (subst (λ (shape : RingShape). IsShapeOf shape (function (map case_view f.cases.items) (option_map formula_view f.otherwise)))
     c.in-Choice.is c.requires.shape).1
 
 pub write_narrow_choice-requires-clause-reads : goal.write_narrow_choice-requires-clause-reads
 write_narrow_choice-requires-clause-reads g c = λ k h.
     let f = c.args.function.now in
-    let is = subst (λ (shape : NarrowShape). IsShapeOf shape (function (map case_view f.cases.items) (option_map formula_view f.otherwise)))
+    let is = subst (λ (shape : RingShape). IsShapeOf shape (function (map case_view f.cases.items) (option_map formula_view f.otherwise)))
     c.in-Choice.is c.requires.shape in
     formula_read (g.S.NarrowSource.has c.args.source.now) (choice_formula c.in-Choice.choice) (map case_view f.cases.items)
     (option_map formula_view f.otherwise) _ _ is.0 (c.requires.reads k (omega (arith, h, c.requires.fits)))
@@ -167,7 +178,7 @@ write_narrow_choice-requires-clause-reads g c = λ k h.
 pub write_narrow_choice-requires-clause-narrow : goal.write_narrow_choice-requires-clause-narrow
 write_narrow_choice-requires-clause-narrow g c = λ k h.
     let f = c.args.function.now in
-    let is = subst (λ (shape : NarrowShape). IsShapeOf shape (function (map case_view f.cases.items) (option_map formula_view f.otherwise)))
+    let is = subst (λ (shape : RingShape). IsShapeOf shape (function (map case_view f.cases.items) (option_map formula_view f.otherwise)))
     c.in-Choice.is c.requires.shape in
     formula_narrow (g.S.NarrowSource.samples c.args.source.now) (choice_formula c.in-Choice.choice) (map case_view f.cases.items)
     (option_map formula_view f.otherwise) _ _ (hlevel props) is.0
@@ -176,7 +187,7 @@ write_narrow_choice-requires-clause-narrow g c = λ k h.
 pub returns-in-Choice : goal.returns-in-Choice
 returns-in-Choice g c = λ k h.
     let f = c.args.function.now in
-    let is = subst (λ (shape : NarrowShape). IsShapeOf shape (function (map case_view f.cases.items) (option_map formula_view f.otherwise)))
+    let is = subst (λ (shape : RingShape). IsShapeOf shape (function (map case_view f.cases.items) (option_map formula_view f.otherwise)))
     c.in-Choice.is c.requires.shape in
     c.write_narrow_choice.ensures k h
     ∙ formula_everywhere (g.S.NarrowSource.samples c.args.source.now) (choice_formula c.in-Choice.choice) (map case_view f.cases.items)
@@ -187,13 +198,13 @@ returns-in-Choice g c = λ k h.
 pub write_narrow_filter-requires-clause-right : goal.write_narrow_filter-requires-clause-right
 write_narrow_filter-requires-clause-right g c =
     let f = c.args.function.now in
-    (subst (λ (shape : NarrowShape). IsShapeOf shape (function (map case_view f.cases.items) (option_map formula_view f.otherwise)))
+    (subst (λ (shape : RingShape). IsShapeOf shape (function (map case_view f.cases.items) (option_map formula_view f.otherwise)))
     c.in-Filter.is c.requires.shape).1
 
 pub write_narrow_filter-requires-clause-reads : goal.write_narrow_filter-requires-clause-reads
 write_narrow_filter-requires-clause-reads g c = λ k h.
     let f = c.args.function.now in
-    let is = subst (λ (shape : NarrowShape). IsShapeOf shape (function (map case_view f.cases.items) (option_map formula_view f.otherwise)))
+    let is = subst (λ (shape : RingShape). IsShapeOf shape (function (map case_view f.cases.items) (option_map formula_view f.otherwise)))
     c.in-Filter.is c.requires.shape in
     formula_read (g.S.NarrowSource.has c.args.source.now) (filter_formula c.in-Filter.filter) (map case_view f.cases.items)
     (option_map formula_view f.otherwise) _ _ is.0 (c.requires.reads k (omega (arith, h, c.requires.fits)))
@@ -201,7 +212,7 @@ write_narrow_filter-requires-clause-reads g c = λ k h.
 pub write_narrow_filter-requires-clause-narrow : goal.write_narrow_filter-requires-clause-narrow
 write_narrow_filter-requires-clause-narrow g c = λ k h.
     let f = c.args.function.now in
-    let is = subst (λ (shape : NarrowShape). IsShapeOf shape (function (map case_view f.cases.items) (option_map formula_view f.otherwise)))
+    let is = subst (λ (shape : RingShape). IsShapeOf shape (function (map case_view f.cases.items) (option_map formula_view f.otherwise)))
     c.in-Filter.is c.requires.shape in
     formula_narrow (g.S.NarrowSource.samples c.args.source.now) (filter_formula c.in-Filter.filter) (map case_view f.cases.items)
     (option_map formula_view f.otherwise) _ _ (filter_narrow-prop (g.S.NarrowSource.samples c.args.source.now) c.in-Filter.filter _ _) is.0
@@ -210,11 +221,20 @@ write_narrow_filter-requires-clause-narrow g c = λ k h.
 pub returns-in-Filter : goal.returns-in-Filter
 returns-in-Filter g c = λ k h.
     let f = c.args.function.now in
-    let is = subst (λ (shape : NarrowShape). IsShapeOf shape (function (map case_view f.cases.items) (option_map formula_view f.otherwise)))
+    let is = subst (λ (shape : RingShape). IsShapeOf shape (function (map case_view f.cases.items) (option_map formula_view f.otherwise)))
     c.in-Filter.is c.requires.shape in
     c.write_narrow_filter.ensures k h
     ∙ formula_everywhere (g.S.NarrowSource.samples c.args.source.now) (filter_formula c.in-Filter.filter) (map case_view f.cases.items)
     (option_map formula_view f.otherwise) _ _ is.0
+
+-- ---- decimation
+
+pub write_decimated_row_to_narrow_ring-requires-clause-function : goal.write_decimated_row_to_narrow_ring-requires-clause-function
+write_decimated_row_to_narrow_ring-requires-clause-function g c =
+    let f = c.args.function.now in
+    c.requires.function
+    (subst (λ (shape : RingShape). IsShapeOf shape (function (map case_view f.cases.items) (option_map formula_view f.otherwise)))
+    c.in-Decimation.is c.requires.shape)
 
 -- ---- halves
 
@@ -222,14 +242,21 @@ pub write_halved_row_to_narrow_ring-requires-clause-function : goal.write_halved
 write_halved_row_to_narrow_ring-requires-clause-function g c =
     let f = c.args.function.now in
     c.requires.function
-    (subst (λ (shape : NarrowShape). IsShapeOf shape (function (map case_view f.cases.items) (option_map formula_view f.otherwise)))
+    (subst (λ (shape : RingShape). IsShapeOf shape (function (map case_view f.cases.items) (option_map formula_view f.otherwise)))
     c.in-Halves.is c.requires.shape)
 
--- ---- any other
+-- ---- a step of a division, and any other
 
 pub write_formula_row_to_narrow_ring-requires-clause-function : goal.write_formula_row_to_narrow_ring-requires-clause-function
 write_formula_row_to_narrow_ring-requires-clause-function g c =
     let f = c.args.function.now in
     c.requires.function
-    (subst (λ (shape : NarrowShape). IsShapeOf shape (function (map case_view f.cases.items) (option_map formula_view f.otherwise)))
+    (subst (λ (shape : RingShape). IsShapeOf shape (function (map case_view f.cases.items) (option_map formula_view f.otherwise)))
+    c.in-Division.is c.requires.shape).2
+
+pub write_formula_row_to_narrow_ring-requires-in-Other-clause-function : goal.write_formula_row_to_narrow_ring-requires-in-Other-clause-function
+write_formula_row_to_narrow_ring-requires-in-Other-clause-function g c =
+    let f = c.args.function.now in
+    c.requires.function
+    (subst (λ (shape : RingShape). IsShapeOf shape (function (map case_view f.cases.items) (option_map formula_view f.otherwise)))
     c.in-Other.is c.requires.shape)

@@ -2,8 +2,8 @@ use Rattle.std.proofs.Common.{arith, map, subst, sym, ap, ◌∙◌}
 use Rattle.std.specs.Option.{option_map}
 use Rattle.job.specs.Kept.{pipeline_in}
 use Rattle.job.specs.Views.{case_view, formula_view, body_view, stage_view}
-use Rattle.row_rings.specs.NarrowShapes.{IsShapeOf}
-use Rattle.row_rings.proofs.Values.{columns_some, rows_range, cols_range, narrow_made, narrow_reads, narrow_computable, plane_row, plane_fits, plane_made}
+use Rattle.row_rings.specs.RingShapes.{IsShapeOf}
+use Rattle.row_rings.proofs.Values.{columns_some, rows_range, cols_range, narrow_made, narrow_reads, narrow_fits, narrow_computable, plane_row, plane_fits, plane_made}
 use Rattle.row_rings.proofs.narrow_making.write_stage_row_to_narrow_ring.Goals as goal
 
 pub write_samples_to_narrow_ring-requires-clause-row : goal.write_samples_to_narrow_ring-requires-clause-row
@@ -45,6 +45,13 @@ write_function_row_to_narrow_ring-requires-clause-reads c =
     let f = c.in-Function.function in
     narrow_reads (pipeline_in c.args.job.now) c.args.job.now.well c.args.known.now.rings.items c.args.stage c.args.state.now
     c.requires.can (stage_view c.in-Some.found.now) (sym c.in-Some.ensures) (map case_view f.cases.items)
+    (option_map formula_view f.otherwise) (ap body_view (sym c.body.ensures ∙ c.in-Function.is)) _ c.requires.count
+
+pub write_function_row_to_narrow_ring-requires-clause-values : goal.write_function_row_to_narrow_ring-requires-clause-values
+write_function_row_to_narrow_ring-requires-clause-values c =
+    let f = c.in-Function.function in
+    narrow_fits (pipeline_in c.args.job.now) c.args.job.now.well c.args.known.now.rings.items c.args.stage c.args.state.now
+    c.requires.can (stage_view c.in-Some.found.now) (sym c.in-Some.ensures) c.requires.fits (map case_view f.cases.items)
     (option_map formula_view f.otherwise) (ap body_view (sym c.body.ensures ∙ c.in-Function.is)) _ c.requires.count
 
 pub write_function_row_to_narrow_ring-requires-clause-some : goal.write_function_row_to_narrow_ring-requires-clause-some

@@ -9,7 +9,7 @@ use Rattle.row_plans.specs.declared.row_state.RowState.{RowState}
 use Rattle.row_rings.specs.RingRows.{row_at, ring_states}
 use Rattle.row_rings.specs.Rings.{states_in}
 use Rattle.row_rings.specs.TrueRings.{AreTrueRings, ArePlacedRings, AreRoomy}
-use Rattle.row_rings.specs.declared.narrow_shapes.NarrowShape.{NarrowShape}
+use Rattle.row_rings.specs.declared.ring_shapes.RingShape.{RingShape}
 use Rattle.row_rings.proofs.LeastBounds.{least_body}
 use Rattle.row_rings.proofs.Made.{state_within, state_is, few_made, served_narrow, ring_within, some_kept, room_made, next_is, line_made, with_line, row_for}
 use Rattle.row_rings.proofs.Places.{refilled}
@@ -89,16 +89,16 @@ make_next_row_of_narrow_ring-requires-clause-narrow c =
     least_body (value job) s.body r col
     (∥∥₁_map self.made (λ all. all g (state_within job (states_in self) g can) c.requires.form s at is plain r col inside))
 
-pub borrow_narrow_ring_shape-shape-requires : goal.borrow_narrow_ring_shape-shape-requires
-borrow_narrow_ring_shape-shape-requires c =
+pub borrow_ring_shape-shape-requires : goal.borrow_ring_shape-shape-requires
+borrow_ring_shape-shape-requires c =
     let self = c.args.self.now in
     let reach = shapes_reach self.shapes.items (pipeline_in self.job.now).stages c.args.stage c.requires.can.stage self.shaped c.requires.can.there in
-    subst (λ (xs : List NarrowShape). c.args.stage < length xs) (sym c.deref.ensures.value) reach
+    subst (λ (xs : List RingShape). c.args.stage < length xs) (sym c.deref.ensures.value) reach
 
 pub make_next_row_of_narrow_ring-requires-clause-shape : goal.make_next_row_of_narrow_ring-requires-clause-shape
 make_next_row_of_narrow_ring-requires-clause-shape c =
     let self = c.args.self.now in
-    let found = ap (λ (xs : List NarrowShape). slice_get xs c.args.stage) (sym c.deref.ensures.value) ∙ c.borrow_narrow_ring_shape-shape.ensures in
+    let found = ap (λ (xs : List RingShape). slice_get xs c.args.stage) (sym c.deref.ensures.value) ∙ c.borrow_ring_shape-shape.ensures in
     λ s there. shape_at self.shapes.items (pipeline_in self.job.now).stages c.args.stage _ s self.shaped found there
 
 pub index-requires : goal.index-requires

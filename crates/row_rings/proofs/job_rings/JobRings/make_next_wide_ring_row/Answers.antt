@@ -1,4 +1,4 @@
-use Rattle.std.proofs.Common.{arith, ◌≡◌, false, length, set, refl, ap, ◌∙◌, sym, subst}
+use Rattle.std.proofs.Common.{arith, List, ◌≡◌, ◌<◌, false, length, set, slice_get, refl, ap, ◌∙◌, sym, subst}
 use Rattle.std.proofs.Math.Logic.{∥∥₁_map}
 use Rattle.std.proofs.lemmas.List.{length-set}
 use Rattle.domains.specs.Span.{len_of}
@@ -8,8 +8,10 @@ use Rattle.row_plans.specs.declared.row_state.RowState.{RowState}
 use Rattle.row_rings.specs.RingRows.{row_at, ring_states}
 use Rattle.row_rings.specs.Rings.{states_in}
 use Rattle.row_rings.specs.TrueRings.{AreTrueRings, ArePlacedRings, AreRoomy}
+use Rattle.row_rings.specs.declared.ring_shapes.RingShape.{RingShape}
 use Rattle.row_rings.proofs.Made.{state_within, state_is, few_made, served_wide, ring_within, some_kept, room_made, next_is, line_made, with_line, row_for, fitting_for}
 use Rattle.row_rings.proofs.Places.{refilled}
+use Rattle.row_rings.proofs.Shapes.{shape_at, shapes_reach}
 use Rattle.row_rings.proofs.Stages.{true_without, makeable}
 use Rattle.row_rings.proofs.Stepping.{states_made, true_more, placed_more, forms_made, whole_made}
 use Rattle.row_rings.proofs.job_rings.JobRings.make_next_wide_ring_row.Goals as goal
@@ -34,6 +36,18 @@ make_next_row-requires-clause-can c =
     self.computed_narrow.items self.forms c.requires.form in
     makeable job (states_in self) self.wide.rings.items c.take_out_ring-ring.new.self.rings.items g c.take_out_ring-ring.ensures.others
     c.take_out_ring-ring.ensures.none self.job.now.well self.placed can served c.take_out_ring-ring.result c.take_out_ring-ring.ensures.ring
+
+pub borrow_ring_shape-shape-requires : goal.borrow_ring_shape-shape-requires
+borrow_ring_shape-shape-requires c =
+    let self = c.args.self.now in
+    let reach = shapes_reach self.shapes.items (pipeline_in self.job.now).stages c.args.stage c.requires.can.stage self.shaped c.requires.can.there in
+    subst (λ (xs : List RingShape). c.args.stage < length xs) (sym c.deref.ensures.value) reach
+
+pub make_next_row-requires-clause-shape : goal.make_next_row-requires-clause-shape
+make_next_row-requires-clause-shape c =
+    let self = c.args.self.now in
+    let found = ap (λ (xs : List RingShape). slice_get xs c.args.stage) (sym c.deref.ensures.value) ∙ c.borrow_ring_shape-shape.ensures in
+    λ s there. shape_at self.shapes.items (pipeline_in self.job.now).stages c.args.stage _ s self.shaped found there
 
 pub make_next_row-requires-clause-some : goal.make_next_row-requires-clause-some
 make_next_row-requires-clause-some c =

@@ -3,17 +3,17 @@ use Rattle.std.proofs.lemmas.List.{take_all}
 use Rattle.job.specs.Pipeline.{Stage}
 use Rattle.job.specs.Views.{stage_view}
 use Rattle.job.specs.declared.stage.Stage.{Stage as KeptStage}
-use Rattle.row_rings.specs.NarrowShapes.{AreShapesOf}
-use Rattle.row_rings.specs.declared.narrow_shapes.NarrowShape.{NarrowShape}
+use Rattle.row_rings.specs.RingShapes.{AreShapesOf}
+use Rattle.row_rings.specs.declared.ring_shapes.RingShape.{RingShape}
 use Rattle.row_rings.proofs.Shapes.{shapes_more}
-use Rattle.row_rings.proofs.narrow_shapes.list_narrow_ring_shapes.Goals as goal
+use Rattle.row_rings.proofs.ring_shapes.list_ring_shapes.Goals as goal
 
 pub loop-stage-preserved : goal.loop-stage-preserved
 loop-stage-preserved c =
     let after : List Stage = map stage_view (take (c.loop-stage.stage-index + 1) c.stages-stage-items.result.now) in
-    subst (λ (xs : List NarrowShape). AreShapesOf xs after) (sym c.in_ok-push.ensures.items)
-    (shapes_more c.loop-stage.shapes.items c.in_ok-find_narrow_ring_shape.field-0 c.stages-stage-items.result.now c.loop-stage.stage-index
-    c.stage-item.result c.loop-stage-test.true c.stage-item.is c.loop-stage.invariant c.in_ok-find_narrow_ring_shape.ensures)
+    subst (λ (xs : List RingShape). AreShapesOf xs after) (sym c.in_ok-push.ensures.items)
+    (shapes_more c.loop-stage.shapes.items c.in_ok-find_ring_shape.field-0 c.stages-stage-items.result.now c.loop-stage.stage-index
+    c.stage-item.result c.loop-stage-test.true c.stage-item.is c.loop-stage.invariant c.in_ok-find_ring_shape.ensures)
 
 pub returns : goal.returns
 returns c =

@@ -1,4 +1,4 @@
--- How the rows of stages are made in 16 bits.
+-- How the rows of stages are made.
 use Rattle.std.specs.Prelude.{ℕ, ◌≡◌, false, Some, List, [], ◌∷◌, slice_get}
 use Rattle.job.specs.Formula.{Formula}
 use Rattle.job.specs.Pipeline.{Body, plane, function, accumulator, Stage, Pipeline}
@@ -10,8 +10,9 @@ use Rattle.narrow_mixes.specs.NarrowMixes.{mix_formula, IsRightMix}
 use Rattle.narrow_averages.specs.NarrowAverages.{average_formula, IsRightAverage}
 use Rattle.narrow_pieces.specs.Pieces.{AreFunctionPieces}
 use Rattle.narrow_pieces.specs.declared.piece.NarrowPieces.{NarrowPieces}
-use Rattle.row_rings.specs.declared.narrow_shapes.NarrowShape.{NarrowShape}
-use Rattle.row_rings.specs.declared.narrow_shapes.NarrowShape.TheVariants.{Mix, Pieces, Bar, Average, Limit, Choice, Filter, Halves, Other}
+use Rattle.wide_divisions.specs.DivisionSteps.{step_formula, IsRightStep}
+use Rattle.row_rings.specs.declared.ring_shapes.RingShape.{RingShape}
+use Rattle.row_rings.specs.declared.ring_shapes.RingShape.TheVariants.{Mix, Pieces, Bar, Average, Limit, Choice, Filter, Division, Decimation, Halves, Other}
 use Rattle.row_rings.specs.NarrowRings.{is_mix_body}
 
 -- a function that is this formula everywhere
@@ -27,7 +28,7 @@ ArePiecesOfBody pieces (function cases otherwise) = AreFunctionPieces pieces cas
 ArePiecesOfBody pieces (accumulator fold bins value bin) = ⊥
 
 -- rows that are made so are those of the body. A body of another shape than that of a mix is no mix
-abbrev pub IsShapeOf : NarrowShape → Body → Type 0
+abbrev pub IsShapeOf : RingShape → Body → Type 0
 IsShapeOf (Mix mix) body = IsFormulaBody (mix_formula mix) body × IsRightMix mix
 IsShapeOf (Pieces pieces) body = ArePiecesOfBody pieces body × (is_mix_body body ≡ false)
 IsShapeOf (Bar bar) body = IsFormulaBody (bar_formula bar) body × IsRightBar bar × (is_mix_body body ≡ false)
@@ -35,15 +36,17 @@ IsShapeOf (Average average) body = IsFormulaBody (average_formula average) body 
 IsShapeOf (Limit limit) body = IsFormulaBody (limit_formula limit) body × IsRightLimit limit × (is_mix_body body ≡ false)
 IsShapeOf (Choice choice) body = IsFormulaBody (choice_formula choice) body × IsRightChoice choice × (is_mix_body body ≡ false)
 IsShapeOf (Filter filter) body = IsFormulaBody (filter_formula filter) body × IsRightFilter filter × (is_mix_body body ≡ false)
+IsShapeOf (Division step) body = IsFormulaBody (step_formula step) body × IsRightStep step × (is_mix_body body ≡ false)
+IsShapeOf Decimation body = is_mix_body body ≡ false
 IsShapeOf Halves body = is_mix_body body ≡ false
 IsShapeOf Other body = is_mix_body body ≡ false
 
 -- and so for stage g
-abbrev pub IsStageShape : Pipeline → ℕ → NarrowShape → Type 0
+abbrev pub IsStageShape : Pipeline → ℕ → RingShape → Type 0
 IsStageShape job g shape = (s : Stage) → slice_get job.stages g ≡ Some s → IsShapeOf shape s.body
 
 -- and for each stage, in a list
-abbrev pub AreShapesOf : List NarrowShape → List Stage → Type 0
+abbrev pub AreShapesOf : List RingShape → List Stage → Type 0
 AreShapesOf [] [] = Unit {0}
 AreShapesOf [] (s ∷ stages) = ⊥
 AreShapesOf (shape ∷ shapes) [] = ⊥
