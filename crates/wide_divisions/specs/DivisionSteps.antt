@@ -1,18 +1,24 @@
 -- Functions that are a step of a restoring division.
-use Rattle.std.specs.Prelude.{ℕ, ◌≡◌, ◌<◌, ◌^◌, ℤ, pos, ◌+ℤ◌, ◌-ℤ◌, ◌*ℤ◌, int_le, if◌then◌else◌, Option, Some, None}
+use Rattle.std.specs.Prelude.{ℕ, ◌<◌, ◌^◌, ℤ, pos, ◌+ℤ◌, ◌-ℤ◌, ◌*ℤ◌, int_le, if◌then◌else◌, Option, Some, None}
+use Rattle.std.specs.Int.{int_min}
 use Rattle.std.specs.Option.{ForSome}
 use Rattle.domains.specs.Arithmetic.{wrapped, floor_rem}
-use Rattle.operators.specs.declared.operator.BinaryOp.TheVariants.{Add, Sub}
+use Rattle.operators.specs.declared.operator.BinaryOp.TheVariants.{Add, Sub, Mul, Min}
 use Rattle.operators.specs.declared.operator.LiteralOp.TheVariants.{Rem, Shl}
 use Rattle.operators.specs.declared.operator.Relation.TheVariants.{AtMost}
-use Rattle.job.specs.Formula.{Formula, number, read, binary, literal, select}
-use Rattle.wide_divisions.specs.declared.step.DivisionStepRead.{DivisionStepRead}
+use Rattle.adjacent_reads.specs.Reads.{read_formula, IsAdjacentRead}
+use Rattle.adjacent_reads.specs.declared.reads.AdjacentRead.{AdjacentRead}
+use Rattle.job.specs.Formula.{Formula, number, binary, literal, select}
+use Rattle.wide_divisions.specs.declared.step.DivisionStepRest.{DivisionStepRest}
+use Rattle.wide_divisions.specs.declared.step.DivisionStepRest.TheVariants.{Read, Capped}
 use Rattle.wide_divisions.specs.declared.step.DivisionStep.{DivisionStep}
 
 -- ---- the formulas of its parts
 
-abbrev pub read_formula : DivisionStepRead → Formula
-read_formula x = read x.stage x.row.now x.col.now
+-- what a step begins with
+abbrev pub rest_formula : DivisionStepRest → Formula
+rest_formula (Read x) = read_formula x
+rest_formula (Capped factor x most) = binary Mul (number factor) (binary Min (read_formula x) (number most))
 
 -- a formula, shifted to the left if there is by how much
 abbrev pub shifted_formula : Option ℕ → Formula → Formula
@@ -24,25 +30,30 @@ divisor_formula s = shifted_formula s.shift (read_formula s.divisor)
 
 -- the lower bits of the rest
 abbrev pub remainder_formula : DivisionStep → Formula
-remainder_formula s = literal Rem (read_formula s.rest) (2 ^ s.bits)
+remainder_formula s = literal Rem (rest_formula s.rest) (2 ^ s.bits)
 
 -- if the divisor is at most the remainder, it is subtracted from the rest, and the digit is added
 abbrev pub step_formula : DivisionStep → Formula
 step_formula s =
     select (divisor_formula s) AtMost (remainder_formula s)
-    (binary Add (binary Sub (read_formula s.rest) (divisor_formula s)) (number s.digit))
-    (read_formula s.rest)
+    (binary Add (binary Sub (rest_formula s.rest) (divisor_formula s)) (number s.digit))
+    (rest_formula s.rest)
 
 -- ---- what can be computed of them
 
--- the index of the column only adds
-abbrev pub IsShiftingRead : DivisionStepRead → Type 0
-IsShiftingRead x = (x.col.now.mul ≡ pos 1) × (x.col.now.div ≡ pos 1)
+-- the read of what a step begins with
+abbrev pub read_of_rest : DivisionStepRest → AdjacentRead
+read_of_rest (Read x) = x
+read_of_rest (Capped factor x most) = x
+
+abbrev pub IsRightRest : DivisionStepRest → Type 0
+IsRightRest (Read x) = IsAdjacentRead x
+IsRightRest (Capped factor x most) = IsAdjacentRead x
 
 -- both reads take adjacent samples at adjacent points, and numbers of 32 bits have as many bits as are shifted and kept
 pub record IsRightStep (s : DivisionStep) : Type 0 where
-  pub rest : IsShiftingRead s.rest
-  pub divisor : IsShiftingRead s.divisor
+  pub rest : IsRightRest s.rest
+  pub divisor : IsAdjacentRead s.divisor
   pub shift : ForSome s.shift (λ bits. bits < 32)
   pub bits : s.bits < 32
 
@@ -60,6 +71,11 @@ rest_after bits digit rest subtracted =
     then wrapped (wrapped (rest -ℤ subtracted) +ℤ digit)
     else rest
 
--- what a step makes of a rest and a divisor
+-- what a step begins with, by the sample that it reads
+abbrev pub rest_before : DivisionStepRest → ℤ → ℤ
+rest_before (Read x) v = v
+rest_before (Capped factor x most) v = wrapped (factor *ℤ int_min v most)
+
+-- what a step makes of the samples of the rest and of the divisor
 abbrev pub step_result : DivisionStep → (rest divisor : ℤ) → ℤ
-step_result s rest divisor = rest_after s.bits s.digit rest (shifted s.shift divisor)
+step_result s rest divisor = rest_after s.bits s.digit (rest_before s.rest rest) (shifted s.shift divisor)

@@ -2,12 +2,13 @@
 //! A digit of a quotient, at each place of a row.
 
 ghost use Rattle.std.specs.Prelude.{◌≡◌, ◌<◌, ◌^◌, ◌*ℤ◌, pos, length};
+ghost use Rattle.std.specs.Int.{int_min};
 ghost use Rattle.domains.specs.Arithmetic.{wrapped, floor_rem};
 ghost use Rattle.row_loops.specs.Rows.{EachPlace, at};
-ghost use Rattle.wide_divisions.specs.DivisionSteps.{rest_after, step_result, IsRightStep};
+ghost use Rattle.wide_divisions.specs.DivisionSteps.{rest_after, rest_before, step_result, IsRightStep};
 
-use crate::step::DivisionStep;
-use domains::arithmetic::{floor_shr, wrapping_add, wrapping_shl, wrapping_sub};
+use crate::step::{DivisionStep, DivisionStepRest};
+use domains::arithmetic::{floor_shr, wrapping_add, wrapping_mul, wrapping_shl, wrapping_sub};
 use row_loops::{PairMap, choose_number, write_combination_of_two_rows};
 
 // A step at each place, by a divisor that is not shifted: how many bits the remainder has, and what is added.
@@ -61,18 +62,64 @@ impl PairMap for DivisionStepShiftedDigit {
     }
 }
 
-/// Writes what a step makes of the rests and the divisors of two lines.
+// A step that begins with `factor * min(sample, most)`.
+#[derive(Clone, Copy)]
+struct CappedDivisionStep<P: PairMap<Made = i32>> {
+    factor: i32,
+    most: i32,
+    step: P,
+}
+
+impl<P: PairMap<Made = i32>> PairMap for CappedDivisionStep<P> {
+    type Made = i32;
+
+    ghost value = { λ s number divisor. P.value s.step (wrapped (s.factor *ℤ int_min number s.most)) divisor };
+
+    #[inline]
+    fn apply_to_pair(&self, left: i32, right: i32) -> i32 {
+        let rest = wrapping_mul(self.factor, left.min(self.most));
+        self.step.apply_to_pair(rest, right)
+    }
+}
+
+// Writes what a step makes of the samples that it begins with and of the divisors of two lines.
+fn write_division_steps_from_rests<P: PairMap<Made = i32>>(
+    out: &mut [i32],
+    samples: &[i32],
+    divisors: &[i32],
+    rest: &DivisionStepRest<'_>,
+    step: P,
+)
+    requires samples { length samples.now ≡ length out.old }
+    requires divisors { length divisors.now ≡ length out.old }
+    ensures { EachPlace (length out.old) (λ k. at out.new k
+        ≡ P.value step (rest_before rest.now (at samples.now k)) (at divisors.now k)) }
+{
+    match rest {
+        DivisionStepRest::Read(_) => write_combination_of_two_rows(out, samples, divisors, step),
+        DivisionStepRest::Capped { factor, most, .. } => {
+            let capped = CappedDivisionStep {
+                factor: *factor,
+                most: *most,
+                step,
+            };
+            write_combination_of_two_rows(out, samples, divisors, capped);
+        }
+    }
+}
+
+/// Writes what a step makes of the samples that it begins with and of the divisors of two lines.
 pub(crate) fn write_division_step_results(
     out: &mut [i32],
-    rests: &[i32],
+    samples: &[i32],
     divisors: &[i32],
     step: &DivisionStep<'_>,
 )
-    requires rests { length rests.now ≡ length out.old }
+    requires samples { length samples.now ≡ length out.old }
     requires divisors { length divisors.now ≡ length out.old }
     requires right { IsRightStep step.now }
     ensures { EachPlace (length out.old)
-        (λ k. at out.new k ≡ step_result step.now (at rests.now k) (at divisors.now k)) }
+        (λ k. at out.new k ≡ step_result step.now (at samples.now k) (at divisors.now k)) }
 {
     let digit = DivisionStepDigit {
         bits: step.bits,
@@ -81,8 +128,8 @@ pub(crate) fn write_division_step_results(
     match step.shift {
         Some(shift) => {
             let make = DivisionStepShiftedDigit { digit, shift };
-            write_combination_of_two_rows(out, rests, divisors, make);
+            write_division_steps_from_rests(out, samples, divisors, &step.rest, make);
         }
-        None => write_combination_of_two_rows(out, rests, divisors, digit),
+        None => write_division_steps_from_rests(out, samples, divisors, &step.rest, digit),
     }
 }

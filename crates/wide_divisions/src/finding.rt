@@ -3,34 +3,20 @@
 
 ghost use Rattle.std.specs.Prelude.{◌≡◌, ◌<◌, ◌^◌, ℤ, [], Some, map, IfSome, IsTrue};
 ghost use Rattle.std.specs.Option.{option_map, ForSome};
+ghost use Rattle.adjacent_reads.specs.Reads.{read_formula, IsAdjacentRead};
 ghost use Rattle.job.specs.Formula.{binary, literal, number};
 ghost use Rattle.job.specs.Views.{case_view, formula_view};
-ghost use Rattle.operators.specs.declared.operator.BinaryOp.TheVariants.{Add, Sub};
+ghost use Rattle.operators.specs.declared.operator.BinaryOp.TheVariants.{Add, Sub, Min};
 ghost use Rattle.operators.specs.declared.operator.LiteralOp.TheVariants.{Rem};
-ghost use Rattle.wide_divisions.specs.DivisionSteps.{read_formula, shifted_formula, step_formula};
-ghost use Rattle.wide_divisions.specs.DivisionSteps.{IsShiftingRead, IsRightStep};
+ghost use Rattle.wide_divisions.specs.DivisionSteps.{rest_formula, shifted_formula, step_formula};
+ghost use Rattle.wide_divisions.specs.DivisionSteps.{IsRightRest, IsRightStep};
+ghost use Rattle.wide_divisions.specs.declared.step.DivisionStepRest.TheVariants.{Capped};
 
-use crate::step::{DivisionStep, DivisionStepRead};
+use crate::step::{DivisionStep, DivisionStepRest};
+use adjacent_reads::{AdjacentRead, match_adjacent_read};
 use domains::Index;
 use job::{Formula, Function};
 use operators::{BinaryOp, LiteralOp, Relation};
-
-// The read that a formula is, if it takes adjacent samples at adjacent points.
-fn match_division_step_read(formula: &Formula) -> Option<DivisionStepRead<'_>>
-    ensures some { IfSome result (λ it. formula_view formula.now ≡ read_formula it) }
-    ensures right { IfSome result IsShiftingRead }
-{
-    match formula {
-        Formula::Read(stage, row, col) if col.mul() == 1 && col.div() == 1 => Some(
-            DivisionStepRead {
-                stage: *stage,
-                row,
-                col,
-            },
-        ),
-        _ => None,
-    }
-}
 
 // Whether two indices are the same.
 fn is_same_division_step_index(a: &Index, b: &Index) -> bool
@@ -40,7 +26,7 @@ fn is_same_division_step_index(a: &Index, b: &Index) -> bool
 }
 
 // Whether a formula is this read.
-fn is_division_step_read(formula: &Formula, read: &DivisionStepRead<'_>) -> bool
+fn is_division_step_read(formula: &Formula, read: &AdjacentRead<'_>) -> bool
     ensures { IsTrue result → formula_view formula.now ≡ read_formula read.now }
 {
     match formula {
@@ -54,25 +40,101 @@ fn is_division_step_read(formula: &Formula, read: &DivisionStepRead<'_>) -> bool
 }
 
 // A read, and by how many bits it is shifted to the left, if it is.
-fn match_division_step_divisor(formula: &Formula) -> Option<(DivisionStepRead<'_>, Option<u32>)>
+fn match_division_step_divisor(formula: &Formula) -> Option<(AdjacentRead<'_>, Option<u32>)>
     ensures some { IfSome result (λ it. formula_view formula.now ≡ shifted_formula it.1 (read_formula it.0)) }
-    ensures right { IfSome result (λ it. IsShiftingRead it.0) }
+    ensures right { IfSome result (λ it. IsAdjacentRead it.0) }
     ensures few { IfSome result (λ it. ForSome it.1 (λ bits. bits < 32)) }
 {
     match formula {
         Formula::Literal(LiteralOp::Shl, of, bits) if *bits < 32 => {
-            Some((match_division_step_read(of)?, Some(*bits)))
+            Some((match_adjacent_read(of)?, Some(*bits)))
         }
-        _ => Some((match_division_step_read(formula)?, None)),
+        _ => Some((match_adjacent_read(formula)?, None)),
+    }
+}
+
+// The lesser of a read and a number.
+fn match_division_step_cap(formula: &Formula) -> Option<(AdjacentRead<'_>, i32)>
+    ensures some { IfSome result
+        (λ it. formula_view formula.now ≡ binary Min (read_formula it.0) (number it.1)) }
+    ensures right { IfSome result (λ it. IsAdjacentRead it.0) }
+{
+    let Formula::Binary(BinaryOp::Min, of, most) = formula else {
+        return None;
+    };
+    match &**most {
+        Formula::Number(most) => Some((match_adjacent_read(of)?, *most)),
+        _ => None,
+    }
+}
+
+// What a step begins with.
+fn match_division_step_rest(formula: &Formula) -> Option<DivisionStepRest<'_>>
+    ensures some { IfSome result (λ it. formula_view formula.now ≡ rest_formula it) }
+    ensures right { IfSome result IsRightRest }
+{
+    let Formula::Binary(BinaryOp::Mul, factor, capped) = formula else {
+        return Some(DivisionStepRest::Read(match_adjacent_read(formula)?));
+    };
+    match &**factor {
+        Formula::Number(factor) => {
+            let (read, most) = match_division_step_cap(capped)?;
+            Some(DivisionStepRest::Capped {
+                factor: *factor,
+                read,
+                most,
+            })
+        }
+        _ => None,
+    }
+}
+
+// Whether a formula is this read, at most a number.
+fn is_division_step_cap(formula: &Formula, read: &AdjacentRead<'_>, most: i32) -> bool
+    ensures { IsTrue result → formula_view formula.now ≡ binary Min (read_formula read.now) (number most) }
+{
+    let Formula::Binary(BinaryOp::Min, of, other) = formula else {
+        return false;
+    };
+    match &**other {
+        Formula::Number(other) => *other == most && is_division_step_read(of, read),
+        _ => false,
+    }
+}
+
+// Whether a formula is a multiple of this read, at most a number.
+fn is_capped_division_step_rest(
+    formula: &Formula,
+    factor: i32,
+    read: &AdjacentRead<'_>,
+    most: i32,
+) -> bool
+    ensures { IsTrue result
+        → formula_view formula.now ≡ rest_formula (Capped factor read.now most) }
+{
+    let Formula::Binary(BinaryOp::Mul, other, capped) = formula else {
+        return false;
+    };
+    match &**other {
+        Formula::Number(other) => *other == factor && is_division_step_cap(capped, read, most),
+        _ => false,
+    }
+}
+
+// Whether a formula is this beginning of a step.
+fn is_division_step_rest(formula: &Formula, rest: &DivisionStepRest<'_>) -> bool
+    ensures { IsTrue result → formula_view formula.now ≡ rest_formula rest.now }
+{
+    match rest {
+        DivisionStepRest::Read(read) => is_division_step_read(formula, read),
+        DivisionStepRest::Capped { factor, read, most } => {
+            is_capped_division_step_rest(formula, *factor, read, *most)
+        }
     }
 }
 
 // Whether a formula is this read, shifted to the left by this many bits, if it is shifted.
-fn is_division_step_divisor(
-    formula: &Formula,
-    read: &DivisionStepRead<'_>,
-    shift: Option<u32>,
-) -> bool
+fn is_division_step_divisor(formula: &Formula, read: &AdjacentRead<'_>, shift: Option<u32>) -> bool
     ensures { IsTrue result → formula_view formula.now ≡ shifted_formula shift (read_formula read.now) }
 {
     match (formula, shift) {
@@ -100,17 +162,17 @@ fn find_division_step_bits(literal: u32) -> Option<u32>
     }
 }
 
-// The lower bits of a read, and how many they are.
-fn match_division_step_remainder(formula: &Formula) -> Option<(DivisionStepRead<'_>, u32)>
-    ensures some { IfSome result (λ it. formula_view formula.now ≡ literal Rem (read_formula it.0) (2 ^ it.1)) }
-    ensures right { IfSome result (λ it. IsShiftingRead it.0) }
+// The lower bits of what a step begins with, and how many they are.
+fn match_division_step_remainder(formula: &Formula) -> Option<(DivisionStepRest<'_>, u32)>
+    ensures some { IfSome result (λ it. formula_view formula.now ≡ literal Rem (rest_formula it.0) (2 ^ it.1)) }
+    ensures right { IfSome result (λ it. IsRightRest it.0) }
     ensures few { IfSome result (λ it. it.1 < 32) }
 {
     let Formula::Literal(LiteralOp::Rem, of, modulus) = formula else {
         return None;
     };
     Some((
-        match_division_step_read(of)?,
+        match_division_step_rest(of)?,
         find_division_step_bits(*modulus)?,
     ))
 }
@@ -142,9 +204,9 @@ fn match_division_step(formula: &Formula) -> Option<DivisionStep<'_>>
     let (divisor, shift) = match_division_step_divisor(left)?;
     let (rest, bits) = match_division_step_remainder(right)?;
     let (from, subtracted, digit) = match_division_step_difference(first)?;
-    if is_division_step_read(from, &rest)
+    if is_division_step_rest(from, &rest)
         && is_division_step_divisor(subtracted, &divisor, shift)
-        && is_division_step_read(second, &rest)
+        && is_division_step_rest(second, &rest)
     {
         Some(DivisionStep {
             rest,

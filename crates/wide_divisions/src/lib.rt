@@ -10,5 +10,5 @@ mod step;
 mod writing;
 
 pub use finding::find_division_step;
-pub use step::{DivisionStep, DivisionStepRead};
+pub use step::{DivisionStep, DivisionStepRest};
 pub use writing::write_division_step;
