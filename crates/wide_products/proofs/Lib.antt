@@ -1,0 +1,2 @@
+pub mod ProductReads
+pub mod ProductValues

@@ -1,0 +1,3 @@
+pub mod WideProducts
+pub mod ProductsOnce
+pub mod inside

@@ -1,0 +1,3 @@
+-- What clauses of inner functions cite, and no public clause does.
+pub mod Lines
+pub mod Mixing
