@@ -1,12 +1,10 @@
 -- Rings in which nothing is made.
 use Rattle.std.proofs.Common.{arith, ℕ, zero, suc, ℤ, ◌≡◌, ◌+◌, ◌++◌, ◌<◌, ◌≤◌, ◌⊎◌, inl, inr, List, [], ◌∷◌, Some, length, slice_get, take}
-use Rattle.std.proofs.Common.{refl, sym, ap, ◌∙◌, subst}
+use Rattle.std.proofs.Common.{refl, sym, ap, ◌∙◌}
 use Rattle.std.specs.Prelude.{All, slice_index_or}
-use Rattle.std.specs.Option.{option_map}
-use Rattle.std.proofs.lemmas.List.{take_more, map-append, length-map, length-take}
+use Rattle.std.proofs.lemmas.List.{take_more, map-append}
 use Rattle.std.proofs.lemmas.Option.{none-some, same_Some, slice_get_within}
 use Rattle.domains.proofs.Places.{all_at}
-use Rattle.domains.specs.Span.{len_of}
 use Rattle.job.specs.Pipeline.{Pipeline}
 use Rattle.row_plans.specs.Rows.{IsKeptRow}
 use Rattle.row_plans.specs.declared.row_state.RowState.{RowState}

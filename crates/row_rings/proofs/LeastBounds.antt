@@ -1,16 +1,13 @@
 -- What is narrow by some bounds is narrow by the least ones.
-use Rattle.std.proofs.Common.{arith, ℕ, zero, suc, ◌*◌, ◌<◌, ◌≤◌, ◌≡◌, ◌⊎◌, inl, inr, ℤ, max, unsigned_abs, List, Option, Some, length, ap, subst}
-use Rattle.std.specs.Prelude.{All}
-use Rattle.std.specs.Option.{ForSome}
+use Rattle.std.proofs.Common.{arith, ℕ, zero, suc, ◌*◌, ◌<◌, ◌≤◌, ◌≡◌, ◌⊎◌, inl, inr, ℤ, max, unsigned_abs, List, length, ap}
 use Rattle.std.proofs.Math.Logic.{∥∥₁_elim, ∥∥₁_map}
 use Rattle.std.proofs.Math.Nat.{mul-le-mul_left}
 use Rattle.std.proofs.Props.{props}
 use Rattle.std.proofs.lemmas.Bool.{cases_eq}
-use Rattle.domains.specs.Area.{HoldsPoint}
 use Rattle.job.specs.Formula.{Formula, number, coordinate, read, unary, binary, ternary, literal, lookup, select, stencil}
-use Rattle.job.specs.Pipeline.{Body, JobCase, plane, function, accumulator}
+use Rattle.job.specs.Pipeline.{Body, plane, function, accumulator}
 use Rattle.job.specs.Values.{Valuation, factors, kernel_row, kernel_column}
-use Rattle.value_ranges.specs.Narrow.{Fits16, IsNarrow, IsNarrowFunction, IsNarrowStencil, kernel_weight}
+use Rattle.value_ranges.specs.Narrow.{Fits16, IsNarrow, IsNarrowStencil, kernel_weight}
 use Rattle.value_ranges.specs.Ranges.{IsNarrowBody}
 
 -- ---- the greatest of the first n numbers

@@ -1,13 +1,11 @@
 -- The ring of the stage whose next row is made, and the row for its ring of the other form.
-use Rattle.std.proofs.Common.{arith, ℕ, ℤ, pos, ◌≡◌, ◌<◌, ◌≤◌, ◌+ℤ◌, Bool, true, false, List, Some, length, slice_get, set, refl, sym, ap, ◌∙◌, subst}
+use Rattle.std.proofs.Common.{arith, ℕ, ℤ, ◌≡◌, ◌<◌, ◌≤◌, Bool, true, false, List, Some, length, slice_get, set, refl, sym, ap, ◌∙◌, subst}
 use Rattle.std.specs.Prelude.{if◌then◌else◌, slice_index_or}
 use Rattle.std.proofs.lemmas.Option.{same_Some, slice_get_read, slice_get_within}
-use Rattle.domains.specs.Area.{HoldsPoint}
 use Rattle.domains.specs.Span.{Holds, IsSpan, len_of}
 use Rattle.domains.specs.declared.area.Area.{Area}
 use Rattle.job.specs.Pipeline.{Pipeline}
 use Rattle.job.specs.WellFormed.{IsJob}
-use Rattle.row_loops.specs.Rows.{at}
 use Rattle.row_plans.specs.Plans.{CanMake}
 use Rattle.row_plans.specs.Rows.{next_row, one_row_more}
 use Rattle.row_plans.specs.declared.row_state.RowState.{RowState}
@@ -15,7 +13,7 @@ use Rattle.tile_eval.proofs.Rasters.{nth_held}
 use Rattle.value_ranges.specs.Narrow.{Fits16}
 use Rattle.row_rings.specs.RingForms.{AreRightForms, IsWholeWhereKept, IsFittingWhereKept, IsServed}
 use Rattle.row_rings.specs.RingRows.{row_at, ring_states}
-use Rattle.row_rings.specs.TrueRings.{ArePlacedRings, HasOwnRoom, HasStageRoom}
+use Rattle.row_rings.specs.TrueRings.{HasOwnRoom, HasStageRoom}
 use Rattle.row_rings.specs.inside.Converting.{AreWithRow, IsRowFor, IsFittingRowFor}
 use Rattle.row_rings.specs.inside.Making.{IsValueRow, HasOneRowMore}
 use Rattle.row_rings.specs.declared.ring.RowRing.{RowRing}

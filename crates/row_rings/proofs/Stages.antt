@@ -1,29 +1,23 @@
 -- The rings of all stages, when one of them makes its next row.
-use Rattle.std.proofs.Common.{arith, ℕ, ℤ, pos, ◌≡◌, ◌≢◌, ◌<◌, ◌≤◌, ◌+ℤ◌, ◌⊎◌, inl, inr, List, Option, Some, None, set, slice_get}
+use Rattle.std.proofs.Common.{ℕ, ℤ, pos, ◌≡◌, ◌≢◌, ◌⊎◌, inl, inr, List, Option, Some, None, slice_get}
 use Rattle.std.proofs.Common.{refl, sym, ap, ◌∙◌, subst}
-use Rattle.std.specs.Int.{int_gap}
 use Rattle.std.specs.Option.{option_map, option_map_or}
-use Rattle.std.proofs.lemmas.Bool.{cases_eq, cases_lt}
-use Rattle.std.proofs.lemmas.Option.{none-some, same_Some, slice_get-map, slice_get_within}
-use Rattle.domains.proofs.Lengths.{gap_is}
-use Rattle.domains.proofs.Places.{slice_get-set_same, slice_get-set_other}
+use Rattle.std.proofs.lemmas.Bool.{cases_eq}
+use Rattle.std.proofs.lemmas.Option.{none-some, same_Some, slice_get-map}
 use Rattle.domains.specs.Span.{Holds}
 use Rattle.domains.specs.declared.area.Area.{Area}
-use Rattle.job.specs.Pipeline.{Stage, Pipeline}
+use Rattle.job.specs.Pipeline.{Pipeline}
 use Rattle.job.specs.Reads.{Read, EachTaken, point, window, stage_read}
 use Rattle.job.specs.Values.{value}
 use Rattle.job.specs.WellFormed.{IsJob, IsReadable}
 use Rattle.job.proofs.Solving.{BodyReads-both}
-use Rattle.row_kernels.proofs.Places.{gap_below}
-use Rattle.row_loops.specs.Rows.{at}
-use Rattle.row_plans.specs.Plans.{CanMake, states_after}
-use Rattle.row_plans.specs.Rows.{IsKeptAt, IsKeptRow, next_row, one_row_more}
+use Rattle.row_plans.specs.Plans.{CanMake}
+use Rattle.row_plans.specs.Rows.{IsKeptAt, IsKeptRow, next_row}
 use Rattle.row_plans.specs.declared.row_state.RowState.{RowState}
 use Rattle.row_rings.specs.RingForms.{IsWhole, IsServed}
-use Rattle.row_rings.specs.RingRows.{row_at, number_at, number_in, sample_in, IsKeptPoint, ring_states}
+use Rattle.row_rings.specs.RingRows.{number_at, number_in, sample_in, IsKeptPoint, ring_states}
 use Rattle.row_rings.specs.TrueRings.{AreTrueRings, ArePlacedRings}
-use Rattle.row_rings.specs.inside.Converting.{HasRowMore, AreWithRow}
-use Rattle.row_rings.specs.inside.Making.{IsMakeable, IsValueRow}
+use Rattle.row_rings.specs.inside.Making.{IsMakeable}
 use Rattle.row_rings.specs.declared.ring.RowRing.{RowRing}
 use Rattle.row_rings.proofs.Taking.{reads_both}
 

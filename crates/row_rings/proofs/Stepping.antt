@@ -10,7 +10,7 @@ use Rattle.std.proofs.lemmas.List.Elements.{All-weaker}
 use Rattle.std.proofs.lemmas.Option.{none-some, same_Some, slice_get-map, slice_get_within}
 use Rattle.domains.proofs.Lengths.{gap_is}
 use Rattle.domains.proofs.Places.{slice_get-set_same, slice_get-set_other}
-use Rattle.domains.specs.Span.{Holds, len_of}
+use Rattle.domains.specs.Span.{Holds}
 use Rattle.domains.specs.declared.area.Area.{Area}
 use Rattle.job.specs.Pipeline.{Stage, Pipeline}
 use Rattle.job.specs.Reads.{Read, reads_of, stage_read}
@@ -20,13 +20,13 @@ use Rattle.row_loops.specs.Rows.{at}
 use Rattle.row_plans.specs.Plans.{CanMake, states_after}
 use Rattle.row_plans.specs.Rows.{IsKeptRow, next_row, one_row_more}
 use Rattle.row_plans.specs.declared.row_state.RowState.{RowState}
-use Rattle.row_rings.specs.RingForms.{IsWhole, IsWholeWhereKept, IsFittingWhereKept, IsServed, IsRightForm, AreRightForms}
-use Rattle.row_rings.specs.RingRows.{row_at, number_at, sample_in, IsKeptPoint, ring_states}
+use Rattle.row_rings.specs.RingForms.{IsWhole, IsWholeWhereKept, IsFittingWhereKept, IsServed, AreRightForms}
+use Rattle.row_rings.specs.RingRows.{row_at, number_at, sample_in, ring_states}
 use Rattle.row_rings.specs.TrueRings.{AreTrueRings, ArePlacedRings}
 use Rattle.row_rings.specs.inside.Converting.{HasRowMore, AreWithRow}
 use Rattle.row_rings.specs.inside.Making.{IsValueRow, HasOneRowMore}
 use Rattle.row_rings.specs.declared.ring.RowRing.{RowRing}
-use Rattle.row_rings.proofs.Stages.{state_of, state_ring, state_at, ring_state, ring_sample}
+use Rattle.row_rings.proofs.Stages.{state_of, state_ring, state_at, ring_sample}
 
 -- ---- states
 

@@ -11,8 +11,9 @@ use Rattle.narrow_averages.specs.NarrowAverages.{average_formula, IsRightAverage
 use Rattle.narrow_pieces.specs.Pieces.{AreFunctionPieces}
 use Rattle.narrow_pieces.specs.declared.piece.NarrowPieces.{NarrowPieces}
 use Rattle.wide_divisions.specs.DivisionSteps.{step_formula, IsRightStep}
+use Rattle.wide_products.specs.WideProducts.{products_formula, IsRightProducts}
 use Rattle.row_rings.specs.declared.ring_shapes.RingShape.{RingShape}
-use Rattle.row_rings.specs.declared.ring_shapes.RingShape.TheVariants.{Mix, Pieces, Bar, Average, Limit, Choice, Filter, Division, Decimation, Halves, Other}
+use Rattle.row_rings.specs.declared.ring_shapes.RingShape.TheVariants.{Mix, Pieces, Bar, Average, Limit, Choice, Filter, Division, Products, Decimation, Halves, Other}
 use Rattle.row_rings.specs.NarrowRings.{is_mix_body}
 
 -- a function that is this formula everywhere
@@ -37,6 +38,7 @@ IsShapeOf (Limit limit) body = IsFormulaBody (limit_formula limit) body × IsRig
 IsShapeOf (Choice choice) body = IsFormulaBody (choice_formula choice) body × IsRightChoice choice × (is_mix_body body ≡ false)
 IsShapeOf (Filter filter) body = IsFormulaBody (filter_formula filter) body × IsRightFilter filter × (is_mix_body body ≡ false)
 IsShapeOf (Division step) body = IsFormulaBody (step_formula step) body × IsRightStep step × (is_mix_body body ≡ false)
+IsShapeOf (Products products) body = IsFormulaBody (products_formula products) body × IsRightProducts products × (is_mix_body body ≡ false)
 IsShapeOf Decimation body = is_mix_body body ≡ false
 IsShapeOf Halves body = is_mix_body body ≡ false
 IsShapeOf Other body = is_mix_body body ≡ false

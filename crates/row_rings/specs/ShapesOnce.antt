@@ -12,8 +12,9 @@ use Rattle.narrow_averages.specs.AveragesOnce.{IsRightAverage-prop}
 use Rattle.narrow_pieces.specs.PiecesOnce.{AreFunctionPieces-prop}
 use Rattle.narrow_pieces.specs.declared.piece.NarrowPieces.{NarrowPieces}
 use Rattle.wide_divisions.specs.StepsOnce.{IsRightStep-prop}
+use Rattle.wide_products.specs.ProductsOnce.{IsRightProducts-prop}
 use Rattle.row_rings.specs.declared.ring_shapes.RingShape.{RingShape}
-use Rattle.row_rings.specs.declared.ring_shapes.RingShape.TheVariants.{Mix, Pieces, Bar, Average, Limit, Choice, Filter, Division, Decimation, Halves, Other}
+use Rattle.row_rings.specs.declared.ring_shapes.RingShape.TheVariants.{Mix, Pieces, Bar, Average, Limit, Choice, Filter, Division, Products, Decimation, Halves, Other}
 use Rattle.row_rings.specs.RingShapes.{IsFormulaBody, ArePiecesOfBody, IsShapeOf, AreShapesOf}
 
 IsFormulaBody-prop : (f : Formula) (body : Body) → IsProp (IsFormulaBody f body)
@@ -35,6 +36,7 @@ IsShapeOf-prop (Limit limit) body = hlevel (IsFormulaBody-prop, IsRightLimit-pro
 IsShapeOf-prop (Choice choice) body = hlevel (IsFormulaBody-prop, IsRightChoice-prop, props)
 IsShapeOf-prop (Filter filter) body = hlevel (IsFormulaBody-prop, IsRightFilter-prop, props)
 IsShapeOf-prop (Division step) body = hlevel (IsFormulaBody-prop, IsRightStep-prop, props)
+IsShapeOf-prop (Products products) body = hlevel (IsFormulaBody-prop, IsRightProducts-prop, props)
 IsShapeOf-prop Decimation body = hlevel props
 IsShapeOf-prop Halves body = hlevel props
 IsShapeOf-prop Other body = hlevel props

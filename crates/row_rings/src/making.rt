@@ -13,10 +13,11 @@ ghost use Rattle.row_plans.specs.Rows.{next_row};
 ghost use Rattle.row_rings.specs.RingRows.{sample_in, IsKeptPoint};
 ghost use Rattle.row_rings.specs.RingShapes.{IsFormulaBody, IsShapeOf, IsStageShape};
 ghost use Rattle.row_rings.specs.TrueRings.{AreTrueRings, HasStageRoom};
-ghost use Rattle.row_rings.specs.inside.Making.{row_area, IsPictureRow, IsMakeable, IsValueRow, HasOneRowMore};
+ghost use Rattle.row_rings.specs.inside.Making.{row_area, IsPictureRow, IsRowToWrite, IsFunctionRow, IsMakeable, IsValueRow, HasOneRowMore};
 ghost use Rattle.tile_eval.specs.Cases.{function_value, IsComputable};
 ghost use Rattle.tile_eval.specs.Reading.{HasFunctionRoom};
 ghost use Rattle.wide_divisions.specs.DivisionSteps.{step_formula, IsRightStep};
+ghost use Rattle.wide_products.specs.WideProducts.{products_formula, IsRightProducts};
 
 use crate::ring::{RowRing, RowRings};
 use crate::ring_shapes::RingShape;
@@ -29,6 +30,7 @@ use row_plans::RowState;
 use tile_eval::{RowSpan, evaluate_function_area, find_span_number_at_position};
 use wide_divisions::{DivisionStep, write_division_step};
 use wide_halves::write_wide_halves;
+use wide_products::{WideProducts, write_wide_products};
 
 // Writes a row of a plane, which is counted from the first one of the picture.
 fn write_samples_to_ring(picture: &Picture, plane: usize, row: usize, out: &mut [i32])
@@ -47,16 +49,9 @@ fn write_formula_row_to_ring(
     out: &mut [i32],
     temps: &mut [i32],
 )
-    requires one { area.now.rows.hi ≡ area.now.rows.lo }
-    requires function { IsComputable (IsKeptPoint known.now.rings.items) area.now
-        (map case_view function.now.cases.items) (option_map formula_view function.now.otherwise) }
-    requires count { length out.old ≡ len_of area.now.cols }
-    requires room { HasFunctionRoom (len_of area.now.cols) (length temps.old)
-        (map case_view function.now.cases.items) (option_map formula_view function.now.otherwise) }
-    ensures { EachPlace (length out.old) (λ k. at out.new k
-        ≡ function_value (sample_in known.now.rings.items) (map case_view function.now.cases.items)
-        (option_map formula_view function.now.otherwise) area.now.rows.lo
-        (area.now.cols.lo +ℤ pos k)) }
+    requires row { IsRowToWrite known.now.rings.items function.now area.now (length out.old)
+        (length temps.old) }
+    ensures { IsFunctionRow known.now.rings.items function.now area.now (length out.old) out.new }
 {
     evaluate_function_area(known, function, area, out, temps);
 }
@@ -70,23 +65,39 @@ fn write_division_row_to_ring(
     out: &mut [i32],
     temps: &mut [i32],
 )
-    requires one { area.now.rows.hi ≡ area.now.rows.lo }
-    requires function { IsComputable (IsKeptPoint known.now.rings.items) area.now
-        (map case_view function.now.cases.items) (option_map formula_view function.now.otherwise) }
-    requires count { length out.old ≡ len_of area.now.cols }
-    requires room { HasFunctionRoom (len_of area.now.cols) (length temps.old)
-        (map case_view function.now.cases.items) (option_map formula_view function.now.otherwise) }
+    requires row { IsRowToWrite known.now.rings.items function.now area.now (length out.old)
+        (length temps.old) }
     requires formula { IsFormulaBody (step_formula step.now)
         (function_body (map case_view function.now.cases.items)
         (option_map formula_view function.now.otherwise)) }
     requires right { IsRightStep step.now }
-    ensures { EachPlace (length out.old) (λ k. at out.new k
-        ≡ function_value (sample_in known.now.rings.items) (map case_view function.now.cases.items)
-        (option_map formula_view function.now.otherwise) area.now.rows.lo
-        (area.now.cols.lo +ℤ pos k)) }
+    ensures { IsFunctionRow known.now.rings.items function.now area.now (length out.old) out.new }
 {
     let points = RowSpan::from_area_top(area);
     if !write_division_step(known, step, &points, out) {
+        write_formula_row_to_ring(known, function, area, out, temps);
+    }
+}
+
+// Writes a row of a function that is made of products, on an area of one row. The contents of the operands' buffer have no meaning.
+fn write_products_row_to_ring(
+    known: &RowRings<i32>,
+    function: &Function,
+    products: &WideProducts<'_>,
+    area: &Area,
+    out: &mut [i32],
+    temps: &mut [i32],
+)
+    requires row { IsRowToWrite known.now.rings.items function.now area.now (length out.old)
+        (length temps.old) }
+    requires formula { IsFormulaBody (products_formula products.now)
+        (function_body (map case_view function.now.cases.items)
+        (option_map formula_view function.now.otherwise)) }
+    requires right { IsRightProducts products.now }
+    ensures { IsFunctionRow known.now.rings.items function.now area.now (length out.old) out.new }
+{
+    let points = RowSpan::from_area_top(area);
+    if !write_wide_products(known, products, &points, out) {
         write_formula_row_to_ring(known, function, area, out, temps);
     }
 }
@@ -100,16 +111,9 @@ fn write_halved_row_to_ring(
     out: &mut [i32],
     temps: &mut [i32],
 )
-    requires one { area.now.rows.hi ≡ area.now.rows.lo }
-    requires function { IsComputable (IsKeptPoint known.now.rings.items) area.now
-        (map case_view function.now.cases.items) (option_map formula_view function.now.otherwise) }
-    requires count { length out.old ≡ len_of area.now.cols }
-    requires room { HasFunctionRoom (len_of area.now.cols) (length temps.old)
-        (map case_view function.now.cases.items) (option_map formula_view function.now.otherwise) }
-    ensures { EachPlace (length out.old) (λ k. at out.new k
-        ≡ function_value (sample_in known.now.rings.items) (map case_view function.now.cases.items)
-        (option_map formula_view function.now.otherwise) area.now.rows.lo
-        (area.now.cols.lo +ℤ pos k)) }
+    requires row { IsRowToWrite known.now.rings.items function.now area.now (length out.old)
+        (length temps.old) }
+    ensures { IsFunctionRow known.now.rings.items function.now area.now (length out.old) out.new }
 {
     match find_row_halves(function) {
         Some(halves) => write_wide_halves(known, function, &halves, area, out, temps),
@@ -126,22 +130,18 @@ fn write_shaped_row_to_ring(
     out: &mut [i32],
     temps: &mut [i32],
 )
-    requires one { area.now.rows.hi ≡ area.now.rows.lo }
-    requires function { IsComputable (IsKeptPoint known.now.rings.items) area.now
-        (map case_view function.now.cases.items) (option_map formula_view function.now.otherwise) }
-    requires count { length out.old ≡ len_of area.now.cols }
-    requires room { HasFunctionRoom (len_of area.now.cols) (length temps.old)
-        (map case_view function.now.cases.items) (option_map formula_view function.now.otherwise) }
+    requires row { IsRowToWrite known.now.rings.items function.now area.now (length out.old)
+        (length temps.old) }
     requires shape { IsShapeOf shape.now (function_body (map case_view function.now.cases.items)
         (option_map formula_view function.now.otherwise)) }
-    ensures { EachPlace (length out.old) (λ k. at out.new k
-        ≡ function_value (sample_in known.now.rings.items) (map case_view function.now.cases.items)
-        (option_map formula_view function.now.otherwise) area.now.rows.lo
-        (area.now.cols.lo +ℤ pos k)) }
+    ensures { IsFunctionRow known.now.rings.items function.now area.now (length out.old) out.new }
 {
     match shape {
         RingShape::Division(step) => {
             write_division_row_to_ring(known, function, step, area, out, temps)
+        }
+        RingShape::Products(products) => {
+            write_products_row_to_ring(known, function, products, area, out, temps)
         }
         RingShape::Halves => write_halved_row_to_ring(known, function, area, out, temps),
         _ => write_formula_row_to_ring(known, function, area, out, temps),

@@ -1,5 +1,6 @@
 -- The next row of a ring.
-use Rattle.std.specs.Prelude.{ℕ, ◌+◌, ◌<◌, ◌≡◌, ℤ, pos, ◌+ℤ◌, Option, Some, List, length, slice_get}
+use Rattle.std.specs.Prelude.{ℕ, ◌+◌, ◌<◌, ◌≡◌, ℤ, pos, ◌+ℤ◌, Option, Some, List, length, map, slice_get}
+use Rattle.std.specs.Option.{option_map}
 use Rattle.domains.specs.Area.{HoldsPoint}
 use Rattle.domains.specs.Span.{len_of}
 use Rattle.domains.specs.declared.area.Area.{Area}
@@ -8,13 +9,16 @@ use Rattle.job.specs.Formula.{Formula}
 use Rattle.job.specs.Pipeline.{JobCase, Stage, Pipeline}
 use Rattle.job.specs.Reads.{BodyReads}
 use Rattle.job.specs.Values.{Valuation, value, sample_at}
+use Rattle.job.specs.Views.{case_view, formula_view}
 use Rattle.job.specs.WellFormed.{IsValued}
+use Rattle.job.specs.declared.stage.Function.{Function}
 use Rattle.row_loops.specs.Rows.{EachPlace, at}
 use Rattle.row_plans.specs.Rows.{next_row, one_row_more}
 use Rattle.row_plans.specs.declared.row_state.RowState.{RowState}
-use Rattle.row_rings.specs.RingRows.{row_at, IsKeptPoint}
+use Rattle.row_rings.specs.RingRows.{row_at, sample_in, IsKeptPoint}
 use Rattle.row_rings.specs.declared.ring.RowRing.{RowRing}
-use Rattle.tile_eval.specs.Cases.{function_value}
+use Rattle.tile_eval.specs.Cases.{function_value, IsComputable}
+use Rattle.tile_eval.specs.Reading.{HasFunctionRoom}
 use Rattle.value_ranges.specs.Narrow.{Fits16}
 
 -- row y of a picture that has plane n, counted from the first one, has so many samples
@@ -32,6 +36,20 @@ AreFittingValues env cases otherwise r c n = EachPlace n (λ k. Fits16 (function
 -- row r of an area alone
 abbrev pub row_area : Area → ℤ → Area
 row_area area r = record { rows = record { lo = r; hi = r }; cols = area.cols }
+
+-- a function can be computed on an area of one row, into so many numbers, with a buffer of so many for operands
+pub record IsRowToWrite (rings : List (RowRing ℤ)) (f : Function) (area : Area) (n temps : ℕ) : Type 0 where
+  pub one : area.rows.hi ≡ area.rows.lo
+  pub function : IsComputable (IsKeptPoint rings) area (map case_view f.cases.items) (option_map formula_view f.otherwise)
+  pub count : n ≡ len_of area.cols
+  pub room : HasFunctionRoom (len_of area.cols) temps (map case_view f.cases.items) (option_map formula_view f.otherwise)
+
+-- n numbers are its values on that area
+abbrev pub IsFunctionRow : List (RowRing ℤ) → Function → Area → ℕ → List ℤ → Type 0
+IsFunctionRow rings f area n line =
+    EachPlace n
+    (λ k. at line k
+    ≡ function_value (sample_in rings) (map case_view f.cases.items) (option_map formula_view f.otherwise) area.rows.lo (area.cols.lo +ℤ pos k))
 
 -- the next row of stage g is one of its domain, and all that it reads is kept
 pub record IsMakeable (job : Pipeline) (rings : List (RowRing ℤ)) (g : ℕ) (state : RowState) : Type 0 where

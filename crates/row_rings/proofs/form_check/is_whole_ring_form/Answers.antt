@@ -1,5 +1,4 @@
 use Rattle.std.proofs.Common.{◌≡◌, slice_get, Some, ap, ◌∙◌, sym}
-use Rattle.row_plans.specs.declared.row_state.RowState.{RowState}
 use Rattle.row_rings.proofs.Places.{found_at}
 use Rattle.row_rings.proofs.form_check.is_whole_ring_form.Goals as goal
 

@@ -20,7 +20,7 @@ write_division_step-requires-clause-reads c = λ k l.
     (subst (Read area.rows.lo) (sym points.col)
     (formula_read (IsKeptPoint c.args.known.now.rings.items) step (map case_view f.cases.items) (option_map formula_view f.otherwise)
     _ _ c.requires.formula
-    (c.requires.function.reads _ _ (only_row_held area k c.requires.one (omega (arith, l, points.len))))))
+    (c.requires.row.function.reads _ _ (only_row_held area k c.requires.row.one (omega (arith, l, points.len))))))
 
 pub returns-else-not-write_division_step : goal.returns-else-not-write_division_step
 returns-else-not-write_division_step c = λ k h.

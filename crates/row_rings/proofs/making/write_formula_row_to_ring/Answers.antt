@@ -12,7 +12,7 @@ returns c = λ k h.
     let area = c.args.area.now in
     let f = c.args.function.now in
     let is : area ≡ row_area area area.rows.lo =
-    ap (λ (z : ℤ). record { rows = record { lo = area.rows.lo; hi = z }; cols = area.cols }) c.requires.one in
+    ap (λ (z : ℤ). record { rows = record { lo = area.rows.lo; hi = z }; cols = area.cols }) c.requires.row.one in
     raster_row area area
     (function_value (sample_in c.args.known.now.rings.items) (map case_view f.cases.items) (option_map formula_view f.otherwise))
-    area.rows.lo c.evaluate_function_area.new.out is c.evaluate_function_area.ensures k (omega (arith, h, c.requires.count))
+    area.rows.lo c.evaluate_function_area.new.out is c.evaluate_function_area.ensures k (omega (arith, h, c.requires.row.count))

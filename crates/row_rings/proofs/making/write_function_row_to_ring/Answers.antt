@@ -6,17 +6,17 @@ use Rattle.tile_eval.specs.Cases.{function_value, IsComputable}
 use Rattle.row_rings.specs.RingRows.{sample_in, IsKeptPoint}
 use Rattle.row_rings.proofs.making.write_function_row_to_ring.Goals as goal
 
-pub write_shaped_row_to_ring-requires-clause-one : goal.write_shaped_row_to_ring-requires-clause-one
-write_shaped_row_to_ring-requires-clause-one c =
+pub write_shaped_row_to_ring-requires-clause-row : goal.write_shaped_row_to_ring-requires-clause-row
+write_shaped_row_to_ring-requires-clause-row c =
     let rows : c.in-Some.rows ≡ record { lo = c.args.row; hi = c.args.row } = search rules in
-    ap (λ (e : Ends). e.hi) rows ∙ sym (ap (λ (e : Ends). e.lo) rows)
-
-pub write_shaped_row_to_ring-requires-clause-function : goal.write_shaped_row_to_ring-requires-clause-function
-write_shaped_row_to_ring-requires-clause-function c =
-    let rows : c.in-Some.rows ≡ record { lo = c.args.row; hi = c.args.row } = search rules in
-    subst (λ (e : Ends). IsComputable (IsKeptPoint c.args.known.now.rings.items) (record { rows = e; cols = c.args.area.now.cols })
-    (map case_view c.args.function.now.cases.items) (option_map formula_view c.args.function.now.otherwise))
-    (sym rows) c.requires.function
+    record {
+      one = ap (λ (e : Ends). e.hi) rows ∙ sym (ap (λ (e : Ends). e.lo) rows);
+      function = subst (λ (e : Ends). IsComputable (IsKeptPoint c.args.known.now.rings.items) (record { rows = e; cols = c.args.area.now.cols })
+          (map case_view c.args.function.now.cases.items) (option_map formula_view c.args.function.now.otherwise))
+          (sym rows) c.requires.function;
+      count = c.requires.count;
+      room = c.requires.room;
+    }
 
 pub returns-in-Some : goal.returns-in-Some
 returns-in-Some c = λ k h.

@@ -1,5 +1,3 @@
-use Rattle.std.proofs.lemmas.Option.{slice_get_read}
-use Rattle.std.proofs.Common.{refl}
 use Rattle.row_rings.proofs.Points.{ring_there}
 use Rattle.row_rings.proofs.Stepping.{with_more, with_none}
 use Rattle.row_rings.proofs.converting.RowRings+i32.push_widened_ring_row.Goals as goal
