@@ -13,7 +13,7 @@ use Rattle.narrow_kernels.specs.NarrowCenters.{centered_tap_at, centered_tap_sum
 use Rattle.std.proofs.lemmas.List.{take_more}
 use Rattle.narrow_kernels.proofs.NarrowWraps.{wrapped_left}
 use Rattle.narrow_kernels.proofs.NarrowSums.{sum_of_one, sum_of_two, sum_of_three, sum_of_four, sum_with_four}
-use Rattle.narrow_kernels.specs.NarrowNearTaps.{near_tap_at, near_tap_sum, factor_sum}
+use Rattle.narrow_kernels.specs.NarrowNearTaps.{near_tap_at, near_tap_sum, near_line_at, factor_sum}
 
 -- ---- numbers between bounds that are saturated at 16 bits
 
@@ -125,6 +125,41 @@ near_taps_from_four center taps k d own s some =
     (+ℤ_assoc own _ _
     ∙ ap (λ (z : ℤ). own +ℤ z)
     (sym (sum_with_four (λ (tap : NarrowTap). near_tap_at center tap k) (λ taps. near_tap_sum center taps k) refl (λ x xs. refl) taps d some)))
+
+-- ---- taps of one factor
+
+-- the taps of two lists
+pub near_taps_joined : (center : NarrowCenter) (xs ys : List NarrowTap) (k : ℕ)
+    → near_tap_sum center xs k +ℤ near_tap_sum center ys k ≡ near_tap_sum center (xs ++ ys) k
+near_taps_joined center [] ys k = nothing_first (near_tap_sum center ys k)
+  where
+    nothing_first : (z : ℤ) → pos 0 +ℤ z ≡ z
+    nothing_first z = omega (arith, ints)
+near_taps_joined center (x ∷ xs) ys k =
+    +ℤ_assoc (near_tap_at center x k) (near_tap_sum center xs k) (near_tap_sum center ys k)
+    ∙ ap (λ (z : ℤ). near_tap_at center x k +ℤ z) (near_taps_joined center xs ys k)
+
+-- four products of one factor
+four_times : (f a b c d : ℤ) → f *ℤ ((a +ℤ b) +ℤ (c +ℤ d)) ≡ f *ℤ a +ℤ (f *ℤ b +ℤ (f *ℤ c +ℤ f *ℤ d))
+four_times f a b c d =
+    times_sum f (a +ℤ b) (c +ℤ d)
+    ∙ (λ i. times_sum f a b i +ℤ times_sum f c d i)
+    ∙ +ℤ_assoc (f *ℤ a) (f *ℤ b) (f *ℤ c +ℤ f *ℤ d)
+
+-- four taps of one factor
+pub quad_of_taps : (center : NarrowCenter) (taps : List NarrowTap) (k : ℕ) (d : NarrowTap) → 4 ≤ length taps → length taps < 5
+    → (slice_index_or taps 0 d).factor ≡ (slice_index_or taps 1 d).factor
+    → (slice_index_or taps 0 d).factor ≡ (slice_index_or taps 2 d).factor
+    → (slice_index_or taps 0 d).factor ≡ (slice_index_or taps 3 d).factor
+    → (slice_index_or taps 0 d).factor
+    *ℤ ((near_line_at center (slice_index_or taps 0 d).line.now k +ℤ near_line_at center (slice_index_or taps 1 d).line.now k)
+    +ℤ (near_line_at center (slice_index_or taps 2 d).line.now k +ℤ near_line_at center (slice_index_or taps 3 d).line.now k))
+    ≡ near_tap_sum center taps k
+quad_of_taps center taps k d some few one two three =
+    let line : ℕ → ℤ = λ n. near_line_at center (slice_index_or taps n d).line.now k in
+    four_times (slice_index_or taps 0 d).factor (line 0) (line 1) (line 2) (line 3)
+    ∙ (λ i. (slice_index_or taps 0 d).factor *ℤ line 0 +ℤ (one i *ℤ line 1 +ℤ (two i *ℤ line 2 +ℤ three i *ℤ line 3)))
+    ∙ sym (sum_of_four (λ (tap : NarrowTap). near_tap_at center tap k) (λ taps. near_tap_sum center taps k) refl (λ x xs. refl) taps d some few)
 
 -- ---- the factors, one after another
 

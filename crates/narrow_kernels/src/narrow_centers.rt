@@ -1,20 +1,20 @@
 #![tactic(auto)]
 //! Sums of clamped differences of lines of numbers of 16 bits from one line, their center, wrapped at 16 bits, eight of them in one pass.
 
-ghost use Rattle.std.specs.Prelude.{◌≡◌, ◌≤◌, ◌<◌, ◌≤ℤ◌, ◌+ℤ◌, ◌-ℤ◌, ◌*ℤ◌, ℤ, pos, negsuc, neg_ℤ, length};
+ghost use Rattle.std.specs.Prelude.{◌≡◌, ◌≤◌, ◌<◌, ◌≤ℤ◌, ◌+ℤ◌, ◌-ℤ◌, ◌*ℤ◌, ℕ, ℤ, pos, negsuc, neg_ℤ, length, IfSome};
 ghost use Rattle.std.specs.Int.{w16, int_wrap};
 ghost use Rattle.domains.specs.Arithmetic.{clamped};
 ghost use Rattle.narrow_kernels.specs.NarrowTaps.{HaveTapLines};
 ghost use Rattle.narrow_kernels.specs.NarrowCenters.{centered_tap_sum, IsCenter};
-ghost use Rattle.narrow_kernels.specs.NarrowNearTaps.{near_tap_at, near_tap_sum, factor_sum};
+ghost use Rattle.narrow_kernels.specs.NarrowNearTaps.{near_tap_at, near_tap_sum, factor_sum, near_quad_at, HasNearQuad};
 ghost use Rattle.row_loops.specs.Rows.{EachPlace, at};
 
 use crate::narrow_clamped_sums::saturate_to_narrow_number;
 use crate::narrow_loops::fill_narrow_row;
 use crate::narrow_taps::NarrowTap;
 use crate::narrow_terms::{
-    NarrowTerm, NarrowTermPair, add_narrow_term, multiply_wrapping_narrow_numbers,
-    subtract_wrapping_narrow_numbers,
+    NarrowTerm, NarrowTermPair, add_narrow_term, add_wrapping_narrow_numbers,
+    multiply_wrapping_narrow_numbers, subtract_wrapping_narrow_numbers,
 };
 
 /// A line, and the bounds of how far numbers of other lines count as lying from its own.
@@ -60,6 +60,83 @@ impl<'a> NarrowTerm for NarrowNearTap<'a> {
         let near = find_nearest_narrow_number(self.1.line[k], line[k], low, high);
         multiply_wrapping_narrow_numbers(self.1.factor, near)
     }
+}
+
+/// Four lines, each as near to a center as its bounds, and the factor by which their sum is multiplied.
+#[derive(Clone, Copy)]
+pub(crate) struct NarrowNearQuad<'a> {
+    center: NarrowCenter<'a>,
+    factor: i16,
+    a: &'a [i16],
+    b: &'a [i16],
+    c: &'a [i16],
+    d: &'a [i16],
+}
+
+impl<'a> NarrowTerm for NarrowNearQuad<'a> {
+    ghost has = { λ q k. HasNearQuad q k };
+
+    ghost exact = { λ q k. near_quad_at q k };
+
+    #[inline]
+    fn compute_narrow_term_at_place(&self, k: usize) -> i16 {
+        let NarrowCenter { line, low, high } = self.center;
+        let own = line[k];
+        let front = add_wrapping_narrow_numbers(
+            find_nearest_narrow_number(self.a[k], own, low, high),
+            find_nearest_narrow_number(self.b[k], own, low, high),
+        );
+        let back = add_wrapping_narrow_numbers(
+            find_nearest_narrow_number(self.c[k], own, low, high),
+            find_nearest_narrow_number(self.d[k], own, low, high),
+        );
+        multiply_wrapping_narrow_numbers(self.factor, add_wrapping_narrow_numbers(front, back))
+    }
+}
+
+// The four taps, if they have one factor.
+fn match_four_near_narrow_taps<'a>(
+    center: NarrowCenter<'a>,
+    taps: &[NarrowTap<'a>],
+) -> Option<NarrowNearQuad<'a>>
+    ensures has { (n : ℕ) → IsCenter n center.entry → HaveTapLines n taps.now
+        → IfSome result (λ quad. EachPlace n (HasNearQuad quad)) }
+    ensures exact { IfSome result
+        (λ quad. (k : ℕ) → near_quad_at quad k ≡ near_tap_sum center.entry taps.now k) }
+{
+    match taps {
+        [a, b, c, d] if a.factor == b.factor && a.factor == c.factor && a.factor == d.factor => {
+            Some(NarrowNearQuad {
+                center,
+                factor: a.factor,
+                a: a.line,
+                b: b.line,
+                c: c.line,
+                d: d.line,
+            })
+        }
+        _ => None,
+    }
+}
+
+// The first four of eight taps, and the last four, if each four have one factor.
+fn match_eight_near_narrow_taps<'a>(
+    center: NarrowCenter<'a>,
+    taps: &[NarrowTap<'a>],
+) -> Option<(NarrowNearQuad<'a>, NarrowNearQuad<'a>)>
+    ensures has { (n : ℕ) → IsCenter n center.entry → HaveTapLines n taps.now → IfSome result
+        (λ both. EachPlace n (HasNearQuad both.0) × EachPlace n (HasNearQuad both.1)) }
+    ensures exact { IfSome result (λ both. (k : ℕ) → near_quad_at both.0 k +ℤ near_quad_at both.1 k
+        ≡ near_tap_sum center.entry taps.now k) }
+{
+    if taps.len() < 4 {
+        return None;
+    }
+    let (front, back) = taps.split_at(4);
+    Some((
+        match_four_near_narrow_taps(center, front)?,
+        match_four_near_narrow_taps(center, back)?,
+    ))
 }
 
 // The sum of the factors of taps with the other sign, wrapped at 16 bits.
@@ -108,12 +185,8 @@ fn add_near_narrow_taps_to_term<T: NarrowTerm>(
     }
 }
 
-/// Adds the sums of the clamped differences of up to eight taps from a center, wrapped at 16 bits.
-pub fn add_centered_narrow_tap_sums(
-    out: &mut [i16],
-    center: NarrowCenter<'_>,
-    taps: &[NarrowTap<'_>],
-)
+// Adds the sums of the clamped differences of up to eight taps from a center, each of which is multiplied by itself.
+fn add_each_centered_narrow_tap(out: &mut [i16], center: NarrowCenter<'_>, taps: &[NarrowTap<'_>])
     requires count { length taps.now ≤ 8 }
     requires center { IsCenter (length out.old) center }
     requires taps { HaveTapLines (length out.old) taps.now }
@@ -133,6 +206,29 @@ pub fn add_centered_narrow_tap_sums(
         }
         _ => add_near_narrow_taps_to_term(out, own, center, taps),
     }
+}
+
+/// Adds the sums of the clamped differences of up to eight taps from a center, wrapped at 16 bits. If the first four taps have one
+/// factor, and the last four too, four numbers are added before they are multiplied.
+pub fn add_centered_narrow_tap_sums(
+    out: &mut [i16],
+    center: NarrowCenter<'_>,
+    taps: &[NarrowTap<'_>],
+)
+    requires count { length taps.now ≤ 8 }
+    requires center { IsCenter (length out.old) center }
+    requires taps { HaveTapLines (length out.old) taps.now }
+    ensures { EachPlace (length out.old) (λ k. (s : ℤ) → at out.old k ≡ int_wrap w16 s
+        → at out.new k ≡ int_wrap w16 (s +ℤ centered_tap_sum center.entry taps.now k)) }
+{
+    let Some((front, back)) = match_eight_near_narrow_taps(center, taps) else {
+        return add_each_centered_narrow_tap(out, center, taps);
+    };
+    let own = NarrowTap {
+        line: center.line,
+        factor: negate_sum_of_narrow_tap_factors(taps),
+    };
+    add_narrow_term(out, NarrowTermPair(own, NarrowTermPair(front, back)));
 }
 
 /// Writes the sums of the clamped differences of up to eight taps from a center, wrapped at 16 bits.

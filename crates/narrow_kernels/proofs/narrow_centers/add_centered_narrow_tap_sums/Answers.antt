@@ -1,20 +1,21 @@
-use Rattle.std.proofs.Common.{rules, ap, ◌∙◌, w16, FitsSigned, to_z, of_z}
+use Rattle.std.proofs.Common.{arith, rules, ℤ, ◌<◌, ◌+ℤ◌, ◌*ℤ◌, length, ap, ◌∙◌, w16, FitsSigned, to_z, of_z}
 use Rattle.std.specs.Int.{int_wrap}
 use Rattle.std.proofs.lemmas.Int.{to_z-of_z}
-use Rattle.narrow_kernels.proofs.NarrowCenters.{centered_taps_are, near_taps_from_four}
+use Rattle.row_loops.specs.Rows.{at}
+use Rattle.narrow_kernels.proofs.NarrowCenters.{centered_taps_are}
 use Rattle.narrow_kernels.proofs.narrow_centers.add_centered_narrow_tap_sums.Goals as goal
 
-pub returns-in_default : goal.returns-in_default
-returns-in_default c = λ k h s e.
-    let fits : FitsSigned w16 c.negate_sum_of_narrow_tap_factors.result = search rules in
-    c.add_near_narrow_taps_to_term.ensures k h s e
-    ∙ centered_taps_are c.args.center c.args.taps.now k (to_z w16 (of_z w16 c.negate_sum_of_narrow_tap_factors.result)) s
-    (to_z-of_z w16 c.negate_sum_of_narrow_tap_factors.result fits ∙ c.negate_sum_of_narrow_tap_factors.ensures)
+pub add_narrow_term-requires : goal.add_narrow_term-requires
+add_narrow_term-requires c = λ k l.
+    let own : k < length c.args.center.line.now = omega (arith, l, c.requires.center.line) in
+    let both = c.in-Some.ensures.has (length c.args.out.now) c.requires.center c.requires.taps in
+    (own, (both.0 k l, both.1 k l))
 
-pub returns-in-len4-up : goal.returns-in-len4-up
-returns-in-len4-up c = λ k h s e.
+pub returns : goal.returns
+returns c = λ k h s e.
     let fits : FitsSigned w16 c.negate_sum_of_narrow_tap_factors.result = search rules in
-    c.add_near_narrow_taps_to_term-in-len4-up.ensures k h s e
-    ∙ ap (int_wrap w16) (near_taps_from_four c.args.center c.args.taps.now k _ _ s c.in-len4-up.len_at_least)
-    ∙ centered_taps_are c.args.center c.args.taps.now k (to_z w16 (of_z w16 c.negate_sum_of_narrow_tap_factors.result)) s
+    let own : ℤ = to_z w16 (of_z w16 c.negate_sum_of_narrow_tap_factors.result) in
+    c.add_narrow_term.ensures k h s e
+    ∙ ap (λ (z : ℤ). int_wrap w16 (s +ℤ (own *ℤ at c.args.center.line.now k +ℤ z))) (c.in-Some.ensures.exact k)
+    ∙ centered_taps_are c.args.center c.args.taps.now k own s
     (to_z-of_z w16 c.negate_sum_of_narrow_tap_factors.result fits ∙ c.negate_sum_of_narrow_tap_factors.ensures)
