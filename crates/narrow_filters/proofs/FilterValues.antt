@@ -24,7 +24,8 @@ use Rattle.narrow_filters.specs.declared.filter.NarrowFilterCenter.{NarrowFilter
 use Rattle.narrow_filters.specs.declared.filter.NarrowFilterTap.{NarrowFilterTap}
 use Rattle.narrow_filters.specs.declared.filter.NarrowFilter.{NarrowFilter}
 use Rattle.narrow_filters.specs.Filters.{read_formula, difference_formula, tap_formula, taps_formula, scaled_formula, filter_formula, IsShiftingRead}
-use Rattle.narrow_filters.specs.inside.Taps.{sample_of, tap_value, taps_value, IsReadyRead}
+use Rattle.narrow_filters.specs.inside.Taps.{IsReadyRead}
+use Rattle.narrow_filters.specs.inside.TapValues.{sample_of, tap_value, taps_value}
 
 -- ---- what they read
 

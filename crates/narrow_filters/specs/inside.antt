@@ -1,2 +1,3 @@
--- What clauses of inner functions cite, and no public clause does.
+-- What clauses of inner functions and private fields cite, and no public clause does.
+pub mod TapValues
 pub mod Taps

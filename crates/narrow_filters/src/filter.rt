@@ -1,6 +1,8 @@
 #![tactic(auto)]
 //! Filters, and their parts.
 
+ghost use Rattle.narrow_filters.specs.inside.TapValues.{AddsAllTaps, AreTapNumbers};
+
 use domains::Index;
 use operators::LiteralOp;
 
@@ -36,10 +38,13 @@ pub struct NarrowFilterScale {
 }
 
 /// A filter: the scaled sum of the taps' clamped differences is added to the center. The taps are listed from the last one of the
-/// text on.
+/// text on. They are added in another order, those of one factor one after another.
 #[derive(Drop)]
 pub struct NarrowFilter<'a> {
     pub(crate) center: NarrowFilterCenter<'a>,
     pub(crate) taps: Vec<NarrowFilterTap<'a>>,
+    pub(crate) order: Vec<usize>,
     pub(crate) scale: NarrowFilterScale,
+    ghost numbers: { AreTapNumbers taps.items order.items },
+    ghost all: { AddsAllTaps taps.items order.items },
 }

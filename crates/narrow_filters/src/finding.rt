@@ -14,6 +14,7 @@ ghost use Rattle.narrow_filters.specs.inside.Taps.{taps_onto, IsSameCenter};
 use crate::filter::{
     NarrowFilter, NarrowFilterCenter, NarrowFilterRead, NarrowFilterScale, NarrowFilterTap,
 };
+use crate::ordering::order_narrow_filter_taps;
 use domains::Index;
 use job::{Formula, Function};
 use operators::{BinaryOp, LiteralOp, TernaryOp, UnaryOp};
@@ -305,9 +306,11 @@ fn find_narrow_filter_of_formula<'a>(
     if !push_narrow_filter_taps(sum, &center, &mut taps)? || taps.len() < LEAST {
         return Ok(None);
     }
+    let order = order_narrow_filter_taps(alloc, &taps)?;
     Ok(Some(NarrowFilter {
         center,
         taps,
+        order,
         scale,
     }))
 }

@@ -6,6 +6,7 @@
 
 mod filter;
 mod finding;
+mod ordering;
 mod writing;
 
 pub use filter::NarrowFilter;

@@ -13,7 +13,8 @@ ghost use Rattle.narrow_kernels.specs.NarrowCenters.{centered_tap_sum, IsCenter}
 ghost use Rattle.narrow_filters.specs.declared.filter.NarrowFilterCenter.{NarrowFilterCenter as FilterCenter};
 ghost use Rattle.narrow_eval.specs.NarrowFormulas.{NarrowWithin};
 ghost use Rattle.narrow_filters.specs.Filters.{taps_formula, filter_formula, IsRightFilter};
-ghost use Rattle.narrow_filters.specs.inside.Taps.{sample_of, taps_value, IsReadyRead, HasCenter};
+ghost use Rattle.narrow_filters.specs.inside.TapValues.{sample_of, taps_value, ordered_value, AreTapNumbers};
+ghost use Rattle.narrow_filters.specs.inside.Taps.{IsReadyRead, HasCenter};
 
 use crate::filter::{NarrowFilter, NarrowFilterRead, NarrowFilterTap};
 use narrow_eval::NarrowSource;
@@ -44,29 +45,32 @@ fn borrow_narrow_filter_line<'a, S: NarrowSource>(
     source.borrow_narrow_row(read.stage, row, first, points.len)
 }
 
-// The lines of up to eight taps, with their factors.
+// The lines of up to eight taps of these numbers, with their factors.
 #[inline]
 fn borrow_narrow_filter_taps<'a, S: NarrowSource>(
     source: &'a S,
     taps: &[NarrowFilterTap<'_>],
+    order: &[usize],
     points: &RowSpan,
 ) -> [NarrowTap<'a>; TAPS]
-    requires count { length taps.now ≤ 8 }
+    requires count { length order.now ≤ 8 }
+    requires numbers { AreTapNumbers taps.now order.now }
     requires ready { All (λ t. IsReadyRead (S.has source.now) points.now.row points.now.col
         points.now.len t.read) taps.now }
     ensures space { length result ≡ 8 }
-    ensures lines { HaveTapLines points.now.len (take (length taps.now) result) }
+    ensures lines { HaveTapLines points.now.len (take (length order.now) result) }
     ensures values { (center : CenterView) (own : FilterCenter)
         → HasCenter (S.samples source.now) points.now.row points.now.col points.now.len own center
-        → EachPlace points.now.len (λ k. centered_tap_sum center (take (length taps.now) result) k
-        ≡ taps_value (S.samples source.now) own taps.now points.now.row (points.now.col +ℤ pos k)) }
+        → EachPlace points.now.len (λ k. centered_tap_sum center (take (length order.now) result) k
+        ≡ ordered_value (S.samples source.now) own taps.now order.now points.now.row
+        (points.now.col +ℤ pos k)) }
 {
     let mut lines = [NarrowTap {
         line: &[],
         factor: 0,
     }; TAPS];
-    for i in 0..taps.len() {
-        let tap = &taps[i];
+    for i in 0..order.len() {
+        let tap = &taps[order[i]];
         lines[i] = NarrowTap {
             line: borrow_narrow_filter_line(source, &tap.read, points),
             factor: tap.factor,
@@ -93,12 +97,12 @@ fn add_narrow_filter_taps<S: NarrowSource>(
         → at out.new k ≡ int_wrap w16 (s +ℤ taps_value (S.samples source.now) filter.now.center
         filter.now.taps.items points.now.row (points.now.col +ℤ pos k))) }
 {
-    let taps = filter.taps.as_slice();
+    let order = filter.order.as_slice();
     let mut start = 0;
-    while start < taps.len() {
-        let end = start + (taps.len() - start).min(TAPS);
-        let chunk = &taps[start..end];
-        let lines = borrow_narrow_filter_taps(source, chunk, points);
+    while start < order.len() {
+        let end = start + (order.len() - start).min(TAPS);
+        let chunk = &order[start..end];
+        let lines = borrow_narrow_filter_taps(source, &filter.taps, chunk, points);
         add_centered_narrow_tap_sums(out, center, &lines[..chunk.len()]);
         start = end;
     }

@@ -1,6 +1,5 @@
--- Taps along a row of points, and what they add there.
-use Rattle.std.specs.Prelude.{ℕ, ℤ, pos, neg_ℤ, ◌≡◌, ◌+ℤ◌, ◌-ℤ◌, ◌*ℤ◌, List, [], ◌∷◌}
-use Rattle.domains.specs.Arithmetic.{clamped}
+-- Sums of taps, and their reads along a row of points.
+use Rattle.std.specs.Prelude.{ℕ, ℤ, pos, neg_ℤ, ◌≡◌, ◌+ℤ◌, List, [], ◌∷◌}
 use Rattle.domains.specs.Index.{index_at}
 use Rattle.operators.specs.declared.operator.BinaryOp.TheVariants.{Add}
 use Rattle.job.specs.Formula.{Formula, binary}
@@ -11,6 +10,7 @@ use Rattle.narrow_filters.specs.declared.filter.NarrowFilterRead.{NarrowFilterRe
 use Rattle.narrow_filters.specs.declared.filter.NarrowFilterCenter.{NarrowFilterCenter}
 use Rattle.narrow_filters.specs.declared.filter.NarrowFilterTap.{NarrowFilterTap}
 use Rattle.narrow_filters.specs.Filters.{read_formula, tap_formula, IsShiftingRead}
+use Rattle.narrow_filters.specs.inside.TapValues.{sample_of}
 
 -- the taps of a list added to a formula, from the last one of the list on
 abbrev pub taps_onto : NarrowFilterCenter → Formula → List NarrowFilterTap → Formula
@@ -22,20 +22,6 @@ pub record IsSameCenter (center other : NarrowFilterCenter) : Type 0 where
   pub read : read_formula center.read ≡ read_formula other.read
   pub below : center.below ≡ other.below
   pub above : center.above ≡ other.above
-
--- the sample that a read takes at the point of row r and column c
-abbrev pub sample_of : Valuation → NarrowFilterRead → ℤ → ℤ → ℤ
-sample_of env x r c = env x.stage (index_at x.row.now r) (index_at x.col.now c)
-
--- what a tap adds there, exactly
-abbrev pub tap_value : Valuation → NarrowFilterCenter → NarrowFilterTap → ℤ → ℤ → ℤ
-tap_value env center t r c =
-    t.factor *ℤ clamped (sample_of env t.read r c -ℤ sample_of env center.read r c) (neg_ℤ center.below) center.above
-
--- and the taps of a list
-abbrev pub taps_value : Valuation → NarrowFilterCenter → List NarrowFilterTap → ℤ → ℤ → ℤ
-taps_value env center [] r c = pos 0
-taps_value env center (t ∷ ts) r c = tap_value env center t r c +ℤ taps_value env center ts r c
 
 -- at n points of row r from column c on the samples of a read are available, and adjacent
 pub record IsReadyRead (has : ℕ → ℤ → ℤ → Type 0) (r c : ℤ) (n : ℕ) (x : NarrowFilterRead) : Type 0 where

@@ -4,8 +4,7 @@ use Rattle.std.proofs.lemmas.List.{take_all, length-set}
 use Rattle.narrow_kernels.specs.declared.narrow_taps.NarrowTap.{NarrowTap}
 use Rattle.narrow_kernels.specs.NarrowCenters.{centered_tap_sum}
 use Rattle.narrow_eval.proofs.NarrowAddends.{more_tap_lines}
-use Rattle.narrow_filters.specs.declared.filter.NarrowFilterTap.{NarrowFilterTap}
-use Rattle.narrow_filters.specs.inside.Taps.{taps_value}
+use Rattle.narrow_filters.specs.inside.TapValues.{ordered_value}
 use Rattle.narrow_filters.proofs.TapRows.{one_more_line}
 use Rattle.narrow_filters.proofs.writing.borrow_narrow_filter_taps.Goals as goal
 
@@ -17,15 +16,15 @@ loop-i-preserved g c =
     let few = c.requires.count in
     let long = c.loop-i-test.true in
     let space : c.loop-i.i < length c.loop-i.lines = omega (arith, eight, few, long) in
-    let t = c.index-taps-i.result in
+    let t = c.index-taps-order.result in
     let fits : FitsSigned w16 t.factor = search rules in
     let tap : NarrowTap = record { line = c.borrow_narrow_filter_line.result; factor = to_z w16 (of_z w16 t.factor) } in
     record {
       space = length-set c.loop-i.lines c.loop-i.i tap ∙ eight;
       lines = more_tap_lines points.len c.loop-i.lines c.loop-i.i tap space c.loop-i.invariant.lines c.borrow_narrow_filter_line.ensures.count;
       values = λ center own has k l.
-          one_more_line env points.row points.col points.len own center has c.loop-i.lines c.args.taps.now c.loop-i.i tap t k l space long
-          c.index-taps-i.is (to_z-of_z w16 t.factor fits) (c.borrow_narrow_filter_line.ensures.values k l)
+          one_more_line env points.row points.col points.len own center has c.loop-i.lines c.args.taps.now c.args.order.now c.loop-i.i
+          tap t k l space long (c.requires.numbers c.loop-i.i 0 long) c.index-taps-order.is (to_z-of_z w16 t.factor fits) (c.borrow_narrow_filter_line.ensures.values k l)
           (c.loop-i.invariant.values center own has k l);
     }
 
@@ -33,10 +32,10 @@ pub returns-clause-values : goal.returns-clause-values
 returns-clause-values g c = λ center own has k l.
     let env = g.S.NarrowSource.samples c.args.source.now in
     let points = c.args.points.now in
-    let ts = c.args.taps.now in
+    let order = c.args.order.now in
     let most = c.loop-i.auto.i-end in
     let least = c.loop-i-test.false in
-    let all : length ts ≡ c.loop-i.i = omega (arith, most, least) in
+    let all : length order ≡ c.loop-i.i = omega (arith, most, least) in
     ap (λ (n : ℕ). centered_tap_sum center (take n c.loop-i.lines) k) all
     ∙ c.loop-i.invariant.values center own has k l
-    ∙ ap (λ (xs : List NarrowFilterTap). taps_value env own xs points.row (points.col +ℤ pos k)) (take_all c.loop-i.i ts least)
+    ∙ ap (λ (xs : List ℕ). ordered_value env own c.args.taps.now xs points.row (points.col +ℤ pos k)) (take_all c.loop-i.i order least)
