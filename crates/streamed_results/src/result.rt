@@ -95,7 +95,7 @@ impl<'a> StreamedResultRows<'a> {
             ≡ raw_rows (pipeline_in job.now) (output_view output.now) 0 (len_of area.now.rows))) }
     {
         let height = area.rows.len() as usize;
-        let threads = count_streamed_result_threads(rt, job);
+        let threads = count_streamed_result_threads(rt, job, output, area);
         if threads > 1 {
             let len = height.div_ceil(threads).max(1);
             let Some(strips) = make_strip_streams(rt, alloc, job, output, len)? else {
