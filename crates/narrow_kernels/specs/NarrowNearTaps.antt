@@ -6,10 +6,13 @@ use Rattle.narrow_kernels.specs.declared.narrow_taps.NarrowTap.{NarrowTap}
 use Rattle.narrow_kernels.specs.declared.narrow_centers.NarrowCenter.{NarrowCenter}
 use Rattle.narrow_kernels.specs.declared.narrow_centers.NarrowNearQuad.{NarrowNearQuad}
 
--- at place k: the number within the center's bounds that lies nearest to the tap's, times its factor
+-- at place k: the number within the center's bounds that lies nearest to that of a line
+abbrev pub near_line_at : NarrowCenter → List ℤ → ℕ → ℤ
+near_line_at center line k = at center.line.now k +ℤ clamped (at line k -ℤ at center.line.now k) center.low center.high
+
+-- and that of the tap's line, times its factor
 abbrev pub near_tap_at : NarrowCenter → NarrowTap → ℕ → ℤ
-near_tap_at center tap k =
-    tap.factor *ℤ (at center.line.now k +ℤ clamped (at tap.line.now k -ℤ at center.line.now k) center.low center.high)
+near_tap_at center tap k = tap.factor *ℤ near_line_at center tap.line.now k
 
 -- those of a list of taps, added up exactly
 abbrev pub near_tap_sum : NarrowCenter → List NarrowTap → ℕ → ℤ
@@ -20,10 +23,6 @@ near_tap_sum center (tap ∷ taps) k = near_tap_at center tap k +ℤ near_tap_su
 abbrev pub factor_sum : List NarrowTap → ℤ
 factor_sum [] = pos 0
 factor_sum (tap ∷ taps) = tap.factor +ℤ factor_sum taps
-
--- at place k: the number within the center's bounds that lies nearest to that of a line
-abbrev pub near_line_at : NarrowCenter → List ℤ → ℕ → ℤ
-near_line_at center line k = at center.line.now k +ℤ clamped (at line k -ℤ at center.line.now k) center.low center.high
 
 -- those of four lines, added up and then multiplied, exactly
 abbrev pub near_quad_at : NarrowNearQuad → ℕ → ℤ

@@ -62,7 +62,7 @@ impl<'a> NarrowTerm for NarrowNearTap<'a> {
     }
 }
 
-/// Four lines, each as near to a center as its bounds, and the factor by which their sum is multiplied.
+/// Four lines, whose numbers count as lying no further from a center than its bounds, and the factor of their sum.
 #[derive(Clone, Copy)]
 pub(crate) struct NarrowNearQuad<'a> {
     center: NarrowCenter<'a>,
@@ -185,7 +185,7 @@ fn add_near_narrow_taps_to_term<T: NarrowTerm>(
     }
 }
 
-// Adds the sums of the clamped differences of up to eight taps from a center, each of which is multiplied by itself.
+// Adds the sums of the clamped differences of up to eight taps from a center. Each number is multiplied on its own.
 fn add_each_centered_narrow_tap(out: &mut [i16], center: NarrowCenter<'_>, taps: &[NarrowTap<'_>])
     requires count { length taps.now ≤ 8 }
     requires center { IsCenter (length out.old) center }
@@ -208,8 +208,8 @@ fn add_each_centered_narrow_tap(out: &mut [i16], center: NarrowCenter<'_>, taps:
     }
 }
 
-/// Adds the sums of the clamped differences of up to eight taps from a center, wrapped at 16 bits. If the first four taps have one
-/// factor, and the last four too, four numbers are added before they are multiplied.
+/// Adds the sums of the clamped differences of up to eight taps from a center, wrapped at 16 bits. If there are eight, and the first
+/// four have one factor and the last four too, each four are added before they are multiplied.
 pub fn add_centered_narrow_tap_sums(
     out: &mut [i16],
     center: NarrowCenter<'_>,
