@@ -1,7 +1,7 @@
 #![tactic(auto)]
 //! Filters, and their parts.
 
-ghost use Rattle.narrow_filters.specs.inside.TapValues.{AddsAllTaps, AreTapNumbers};
+ghost use Rattle.narrow_filters.specs.inside.TapValues.{HasSumOfAllTaps, AreTapNumbers};
 
 use domains::Index;
 use operators::LiteralOp;
@@ -46,5 +46,5 @@ pub struct NarrowFilter<'a> {
     pub(crate) order: Vec<usize>,
     pub(crate) scale: NarrowFilterScale,
     ghost numbers: { AreTapNumbers taps.items order.items },
-    ghost all: { AddsAllTaps taps.items order.items },
+    ghost all: { HasSumOfAllTaps taps.items order.items },
 }
