@@ -1,7 +1,7 @@
 #![tactic(auto)]
 //! What gives the samples that formulas read.
 
-ghost use Rattle.std.specs.Prelude.{◌≡◌, ◌≤◌, ℕ, ℤ, ◌+ℤ◌, ◌≤ℤ◌, pos, length, IfSome};
+ghost use Rattle.std.specs.Prelude.{◌≡◌, ◌≤◌, ℕ, ℤ, ◌+ℤ◌, ◌≤ℤ◌, pos, length, slice_index, IfSome};
 ghost use Rattle.domains.specs.Index.{index_at};
 ghost use Rattle.row_loops.specs.Rows.{EachPlace, at};
 
@@ -26,6 +26,15 @@ pub trait RowSource {
         requires { EachPlace count (λ k. has self.now stage row (first +ℤ pos k)) }
         ensures { IfSome result (λ line. (length line.now ≡ count)
             × EachPlace count (λ k. at line.now k ≡ samples self.now stage row (first +ℤ pos k))) };
+
+    /// The samples of a stage along a row, from a column on, if they are bytes that are adjacent in memory.
+    fn borrow_byte_row(&self, _stage: usize, _row: i32, _first: i32, _count: usize) -> Option<&[u8]>
+        requires { EachPlace _count (λ k. has self.now _stage _row (_first +ℤ pos k)) }
+        ensures { IfSome result (λ line. (length line.now ≡ _count) × EachPlace _count
+            (λ k. pos (slice_index line.now k) ≡ samples self.now _stage _row (_first +ℤ pos k))) }
+    {
+        None
+    }
 
     /// Writes the samples of a stage along a row, at the columns that an index takes at the columns of some points.
     fn gather_row(&self, stage: usize, row: i32, col: &Index, points: &RowSpan, out: &mut [i32])
