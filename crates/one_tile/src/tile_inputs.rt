@@ -15,7 +15,8 @@ use job::{Body, Function};
 use overlap_tiles::TileStep;
 use tile_eval::{BufferView, RowSource, RowSpan, evaluate_function_area};
 use tile_sources::{
-    TileSource, gather_plane_row_for_tile, read_plane_row_for_tile, read_plane_sample_for_tile,
+    TileSource, borrow_plane_row_bytes_for_tile, gather_plane_row_for_tile,
+    read_plane_row_for_tile, read_plane_sample_for_tile,
 };
 
 /// What a tile reads: planes of its job, supplied tiles of stored functions, and boxes of inlined functions.
@@ -41,7 +42,7 @@ fn find_tile_step_range_start(ranges: &[(usize, usize)], place: usize) -> Option
 }
 
 impl<K: TileSource> TileInputs<'_, '_, K> {
-    ghost use Rattle.std.specs.Prelude.{ℤ, ◌<◌, ◌+ℤ◌, pos, length, IfSome, IfNone};
+    ghost use Rattle.std.specs.Prelude.{ℤ, ◌<◌, ◌+ℤ◌, pos, length, slice_index, IfSome, IfNone};
     ghost use Rattle.domains.specs.Area.{HoldsPoint, IsArea, point_count};
     ghost use Rattle.domains.specs.Span.{len_of};
     ghost use Rattle.job.specs.Values.{sample_at};
@@ -91,6 +92,19 @@ impl<K: TileSource> TileInputs<'_, '_, K> {
             Some(line) => out.copy_from_slice(line),
             None => read_plane_row_for_tile(self.tile.job.picture(), plane, row, first, out),
         }
+    }
+
+    // The samples of a plane along a row, from a column on, if they are adjacent bytes.
+    fn borrow_plane_bytes(&self, plane: usize, row: i32, first: i32, count: usize) -> Option<&[u8]>
+        requires plane { plane < length (pipeline_in self.now.tile.job.now).picture.planes }
+        requires there { EachPlace count
+            (λ k. HoldsPoint (picture_area (pipeline_in self.now.tile.job.now).picture) row
+            (first +ℤ pos k)) }
+        ensures count { IfSome result (λ line. length line.now ≡ count) }
+        ensures samples { IfSome result (λ line. EachPlace count (λ k. pos (slice_index line.now k)
+            ≡ sample_at (pipeline_in self.now.tile.job.now).picture plane row (first +ℤ pos k))) }
+    {
+        borrow_plane_row_bytes_for_tile(self.tile.job.picture(), plane, row, first, count)
     }
 
     /// Writes the values of a function over an area of its domain, row by row, where all its reads are available. The content of
@@ -165,6 +179,14 @@ impl<K: TileSource> RowSource for TileInputs<'_, '_, K> {
                 .planes
                 .borrow_plane_row(*plane, row, first, count),
             Body::Accumulator(_) => None,
+        }
+    }
+
+    fn borrow_byte_row(&self, stage: usize, row: i32, first: i32, count: usize) -> Option<&[u8]> {
+        let found = self.tile.job.stage(stage)?;
+        match found.body() {
+            Body::Plane(plane) => self.borrow_plane_bytes(*plane, row, first, count),
+            Body::Function(_) | Body::Accumulator(_) => None,
         }
     }
 

@@ -15,7 +15,10 @@ mod tile_source;
 pub use plane_buffers::ThreePlaneBuffers;
 pub use plane_reads::{PlaneAreas, find_plane_areas_to_convert};
 pub use ranges::borrow_number_range;
-pub use samples::{gather_plane_row_for_tile, read_plane_row_for_tile, read_plane_sample_for_tile};
+pub use samples::{
+    borrow_plane_row_bytes_for_tile, gather_plane_row_for_tile, read_plane_row_for_tile,
+    read_plane_sample_for_tile,
+};
 pub use supplied_rows::borrow_supplied_row_up_to_tile_end;
 pub use supplied_tiles::SuppliedTiles;
 pub use tile_source::TileSource;
