@@ -1,27 +1,59 @@
 #![tactic(auto)]
 //! What an accumulator accumulates over an area, from any source of the samples that are read.
 
-ghost use Rattle.std.specs.Prelude.{◌≡◌, ◌<◌, ◌+ℤ◌, ◌≤ℤ◌, ℤ, pos, length, IfOk};
+ghost use Rattle.std.specs.Prelude.{◌≡◌, ◌<◌, ◌+ℤ◌, ◌≤ℤ◌, ℤ, pos, length, replicate, IfOk};
 ghost use Rattle.domains.specs.Area.{HoldsPoint, points_of};
 ghost use Rattle.domains.specs.Span.{len_of};
 ghost use Rattle.job.specs.Pipeline.{accumulator as accumulator_by};
 ghost use Rattle.job.specs.Totals.{body_totals};
 ghost use Rattle.job.specs.Views.{formula_view};
-ghost use Rattle.job.specs.WellFormed.{InDomainRange};
-ghost use Rattle.tile_eval.specs.Rows.{EachPlace};
+ghost use Rattle.job.specs.WellFormed.{InDomainRange, IsFormula};
+ghost use Rattle.tile_eval.specs.Reading.{HasRoom, ReadsWithin};
+ghost use Rattle.tile_eval.specs.Rows.{EachPlace, at};
 ghost use Rattle.reductions.specs.Accumulating.{HasFormulas, ReadsAt, HasRoomAlong, TookPoints};
-ghost use Rattle.reductions.specs.inside.Gathering.{points_along};
+ghost use Rattle.operators.specs.declared.operator.ReductionOp.TheVariants.{Sum};
+ghost use Rattle.reductions.specs.inside.Gathering.{after_values, bins_along, points_along, values_of_bin};
 
 use crate::bin_starts::create_start_bins;
 use crate::bins::{accumulate_row_of_values_in_bins, add_number_to_bin_of_each_point};
+use crate::byte_bins::{add_number_to_bin_of_each_byte, is_each_byte_place_of_its_bin};
 use crate::row_bins::find_adjacent_bins_place;
 use crate::row_buffers::AccumulatorBuffers;
 use crate::side_by_side::{accumulate_values_in_adjacent_bins, accumulate_values_in_one_bin};
 use domains::Area;
-use job::Accumulator;
+use job::{Accumulator, Formula};
 use operators::ReductionOp;
 use std::alloc::{AllocError, Global};
 use tile_eval::{RowSource, RowSpan, SourceRow, borrow_or_evaluate_row, find_constant_along_row};
+
+// Adds a number, which is the value of each point of a row, to the bin of each.
+fn add_number_to_bin_of_each_point_of_row<S: RowSource>(
+    row: &SourceRow<'_, S>,
+    bin: &Formula,
+    lo: i32,
+    bins: &mut [i64],
+    number: i32,
+    bins_of: &mut [i32],
+    temps: &mut [i32],
+)
+    requires fits { length bins_of.old ≡ row.now.points.len }
+    requires formula { IsFormula (formula_view bin.now) }
+    requires reads { ReadsWithin (S.has row.now.source.now) (formula_view bin.now)
+        row.now.points.row row.now.points.col (length bins_of.old) }
+    requires room { HasRoom (formula_view bin.now) (length bins_of.old) (length temps.old) }
+    ensures { EachPlace (length bins.old) (λ j. at bins.new j
+        ≡ after_values Sum (at bins.old j) (values_of_bin (replicate (length bins_of.old) number)
+        (bins_along (S.samples row.now.source.now) (formula_view bin.now) row.now.points.row
+        row.now.points.col (length bins_of.old)) (lo +ℤ pos j))) }
+{
+    if is_each_byte_place_of_its_bin(lo, bins.len()) {
+        if let Some(bytes) = row.borrow_bytes_of_read_along_row(bin) {
+            return add_number_to_bin_of_each_byte(bins, number, bytes);
+        }
+    }
+    let each = borrow_or_evaluate_row(row.source, &row.points, bin, bins_of, temps);
+    add_number_to_bin_of_each_point(lo, bins, number, each);
+}
 
 // Accumulates a row of points in the bins.
 fn accumulate_point_row_in_bins<S: RowSource>(
@@ -54,14 +86,12 @@ fn accumulate_point_row_in_bins<S: RowSource>(
         let line = borrow_or_evaluate_row(source, points, value, values, temps);
         return accumulate_values_in_one_bin(op, lo, bins, line, one);
     }
-    let each = borrow_or_evaluate_row(source, points, bin, bins_of, temps);
-    match (op, find_constant_along_row(value, points)) {
-        (ReductionOp::Sum, Some(number)) => add_number_to_bin_of_each_point(lo, bins, number, each),
-        _ => {
-            let line = borrow_or_evaluate_row(source, points, value, values, temps);
-            accumulate_row_of_values_in_bins(op, lo, bins, line, each);
-        }
+    if let (ReductionOp::Sum, Some(number)) = (op, find_constant_along_row(value, points)) {
+        return add_number_to_bin_of_each_point_of_row(row, bin, lo, bins, number, bins_of, temps);
     }
+    let each = borrow_or_evaluate_row(source, points, bin, bins_of, temps);
+    let line = borrow_or_evaluate_row(source, points, value, values, temps);
+    accumulate_row_of_values_in_bins(op, lo, bins, line, each);
 }
 
 /// Accumulates the points of an area in the bins, row by row.

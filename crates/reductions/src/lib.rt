@@ -5,6 +5,7 @@
 
 mod bin_starts;
 mod bins;
+mod byte_bins;
 mod gather;
 mod join;
 mod known_bins;

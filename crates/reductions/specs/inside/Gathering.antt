@@ -3,7 +3,9 @@ use Rattle.std.specs.Prelude.{ℕ, ℤ, pos, ◌+ℤ◌, ◌≡◌, ◌≤ℤ◌
 use Rattle.std.specs.Ordering.{int_eq}
 use Rattle.domains.specs.Span.{numbers_from}
 use Rattle.operators.specs.declared.operator.ReductionOp.{ReductionOp}
+use Rattle.job.specs.Formula.{Formula}
 use Rattle.job.specs.Totals.{joined}
+use Rattle.job.specs.Values.{Valuation, formula_value}
 use Rattle.tile_eval.specs.Rows.{EachPlace, at}
 
 -- the content of a bin after a value, if the value is of this bin
@@ -29,6 +31,10 @@ values_among value bin points b = map (λ p. value p.0 p.1) (filter (λ p. int_e
 -- n points of row r, from column c on
 abbrev pub points_along : ℤ → ℤ → ℕ → List (ℤ × ℤ)
 points_along r c n = map (λ v. (r, v)) (numbers_from c n)
+
+-- the bins of n points of row r, from column c on, where env has the values of the stages
+abbrev pub bins_along : Valuation → Formula → ℤ → ℤ → ℕ → List ℤ
+bins_along env bin r c n = map (formula_value env bin r) (numbers_from c n)
 
 -- each bin, from lo on, accumulated its values at these points
 abbrev pub TookIn : ReductionOp → (ℤ → ℤ → ℤ) → (ℤ → ℤ → ℤ) → ℤ → List (ℤ × ℤ) → List ℤ → List ℤ → Type 0

@@ -1,4 +1,4 @@
-use Rattle.std.proofs.Common.{rules, arith, ℕ, ℤ, ◌≡◌, ◌<◌, ◌+ℤ◌, pos, length, replicate, List, ap, sym, ◌∙◌, subst, w32, to_z, of_z, FitsSigned}
+use Rattle.std.proofs.Common.{rules, arith, ℕ, ℤ, ◌≡◌, ◌<◌, ◌+ℤ◌, pos, length, replicate, List, ap, sym, refl, ◌∙◌, subst, w32, to_z, of_z, FitsSigned}
 use Rattle.std.specs.Prelude.{map}
 use Rattle.std.proofs.lemmas.Int.{to_z-of_z}
 use Rattle.domains.specs.Span.{numbers_from}
@@ -11,7 +11,7 @@ use Rattle.job.specs.WellFormed.{IsFormula}
 use Rattle.tile_eval.specs.Reading.{ReadsWithin}
 use Rattle.tile_eval.specs.Rows.{EachPlace, at}
 use Rattle.tile_eval.proofs.Gathering.{reads_along}
-use Rattle.reductions.specs.inside.Gathering.{after_values, values_of_bin}
+use Rattle.reductions.specs.inside.Gathering.{after_values, bins_along, values_of_bin}
 use Rattle.reductions.proofs.TakeValues.{row_is, row_took, counted_is, same_is}
 use Rattle.reductions.proofs.gather.accumulate_point_row_in_bins.Goals as goal
 
@@ -35,14 +35,22 @@ borrow_or_evaluate_row-line-requires-in-Some-find_constant_along_row-clause-read
     c.args.accumulator.now.value c.value-value.result.now c.value-value.ensures c.requires.some c.requires.formulas.value
     (λ k l. (c.requires.reads k l).0)
 
-pub borrow_or_evaluate_row-line-requires-in_default-2-clause-reads : goal.borrow_or_evaluate_row-line-requires-in_default-2-clause-reads
-borrow_or_evaluate_row-line-requires-in_default-2-clause-reads g c =
+pub borrow_or_evaluate_row-line-requires-2-clause-reads : goal.borrow_or_evaluate_row-line-requires-2-clause-reads
+borrow_or_evaluate_row-line-requires-2-clause-reads g c =
     found_reads (g.S.RowSource.has c.args.row.now.source.now) c.args.row.now.points.row c.args.row.now.points.col (length c.args.values.now)
     c.args.accumulator.now.value c.value-value.result.now c.value-value.ensures c.requires.some c.requires.formulas.value
     (λ k l. (c.requires.reads k l).0)
 
 pub borrow_or_evaluate_row-each-requires-clause-reads : goal.borrow_or_evaluate_row-each-requires-clause-reads
 borrow_or_evaluate_row-each-requires-clause-reads g c =
+    let has = g.S.RowSource.has c.args.row.now.source.now in
+    let start = c.args.row.now.points in
+    subst (λ (n : ℕ). ReadsWithin has (formula_view c.bin-bin.result.now) start.row start.col n) (sym c.requires.one_length)
+    (found_reads has start.row start.col (length c.args.values.now) c.args.accumulator.now.bin c.bin-bin.result.now c.bin-bin.ensures
+    c.requires.some c.requires.formulas.bin (λ k l. (c.requires.reads k l).1))
+
+pub add_number_to_bin_of_each_point_of_row-requires-clause-reads : goal.add_number_to_bin_of_each_point_of_row-requires-clause-reads
+add_number_to_bin_of_each_point_of_row-requires-clause-reads g c =
     let has = g.S.RowSource.has c.args.row.now.source.now in
     let start = c.args.row.now.points in
     subst (λ (n : ℕ). ReadsWithin has (formula_view c.bin-bin.result.now) start.row start.col n) (sym c.requires.one_length)
@@ -116,26 +124,20 @@ returns-in-Sum-Some g c =
     let lo_fits : FitsSigned w32 c.lo-lo.result = search rules in
     let lo : to_z w32 (of_z w32 c.lo-lo.result) ≡ a.bins.lo = to_z-of_z w32 c.lo-lo.result lo_fits ∙ c.lo-lo.ensures.end
     ∙ (λ i. (c.bins.ensures i).lo) in
-    let cs : List ℤ = c.borrow_or_evaluate_row-each.result.now in
-    let bins : cs ≡ map (bin r) (numbers_from x n) =
-    row_is (bin r) x n cs (c.borrow_or_evaluate_row-each.ensures.count ∙ c.requires.one_length)
-    (λ k l. c.borrow_or_evaluate_row-each.ensures.values k (rw c.requires.one_length l)
-    ∙ ap (λ (f : KeptFormula). formula_value env (formula_view f) r (x +ℤ pos k)) c.bin-bin.ensures) in
     let number : ℤ = c.in-Sum-Some.number in
     let number_fits : FitsSigned w32 number = search rules in
     let same : (z : ℤ) → value r z ≡ number = λ z.
     ap (λ (f : KeptFormula). formula_value env (formula_view f) r z) (sym c.value-value.ensures) ∙ c.in-Sum-Some.ensures env z in
-    let vs : List ℤ = replicate (length cs) number in
-    let values : vs ≡ map (value r) (numbers_from x n) =
-    (λ i. replicate ((c.borrow_or_evaluate_row-each.ensures.count ∙ c.requires.one_length) i) number) ∙ same_is (value r) x number n same in
     let sum : Sum ≡ a.fold = sym c.in-Sum-Some.is-0 ∙ c.fold-op.ensures in
-    row_took a.fold value bin a.bins.lo r x n vs cs c.args.bins.now c.add_number_to_bin_of_each_point.new.bins values bins
-    (λ j h. c.add_number_to_bin_of_each_point.ensures j h
+    row_took a.fold value bin a.bins.lo r x n (replicate n number) (bins_along env (formula_view a.bin) r x n) c.args.bins.now
+    c.add_number_to_bin_of_each_point_of_row.new.bins (same_is (value r) x number n same) refl
+    (λ j h. c.add_number_to_bin_of_each_point_of_row.ensures j h
     ∙ (λ i. after_values (sum i) (at c.args.bins.now j)
-    (values_of_bin (replicate (length cs) (to_z-of_z w32 number number_fits i)) cs (lo i +ℤ pos j))))
+    (values_of_bin (replicate (c.requires.one_length i) (to_z-of_z w32 number number_fits i))
+    (bins_along env (formula_view (c.bin-bin.ensures i)) r x (c.requires.one_length i)) (lo i +ℤ pos j))))
 
-pub returns-in_default-2 : goal.returns-in_default-2
-returns-in_default-2 g c =
+pub returns : goal.returns
+returns g c =
     let env : Valuation = g.S.RowSource.samples c.args.row.now.source.now in
     let a = c.args.accumulator.now in
     let r : ℤ = c.args.row.now.points.row in
@@ -146,10 +148,10 @@ returns-in_default-2 g c =
     let lo_fits : FitsSigned w32 c.lo-lo.result = search rules in
     let lo : to_z w32 (of_z w32 c.lo-lo.result) ≡ a.bins.lo = to_z-of_z w32 c.lo-lo.result lo_fits ∙ c.lo-lo.ensures.end
     ∙ (λ i. (c.bins.ensures i).lo) in
-    let vs : List ℤ = c.borrow_or_evaluate_row-line-in_default-2.result.now in
+    let vs : List ℤ = c.borrow_or_evaluate_row-line-2.result.now in
     let values : vs ≡ map (value r) (numbers_from x n) =
-    row_is (value r) x n vs c.borrow_or_evaluate_row-line-in_default-2.ensures.count
-    (λ k l. c.borrow_or_evaluate_row-line-in_default-2.ensures.values k l
+    row_is (value r) x n vs c.borrow_or_evaluate_row-line-2.ensures.count
+    (λ k l. c.borrow_or_evaluate_row-line-2.ensures.values k l
     ∙ ap (λ (f : KeptFormula). formula_value env (formula_view f) r (x +ℤ pos k)) c.value-value.ensures) in
     let cs : List ℤ = c.borrow_or_evaluate_row-each.result.now in
     let bins : cs ≡ map (bin r) (numbers_from x n) =
