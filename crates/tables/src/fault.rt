@@ -12,7 +12,7 @@ pub enum TableFault {
     /// 1: the line is not `NAME LO..HI: V V V` of a table.
     #[error("no line of a table")]
     BadLine,
-    /// 2: there is no memory for the words of the line, or for its numbers.
+    /// 2: the line is that of a table, and there is no memory for its numbers.
     #[error("out of memory")]
     Memory,
 }

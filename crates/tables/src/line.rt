@@ -1,31 +1,38 @@
 //! Lines that describe tables.
 
-ghost use Rattle.std.specs.Prelude.{◌≡◌, [], ◌∷◌, IfErr, IfNone, IfOk, IfSome, map};
+ghost use Rattle.std.specs.Prelude.{◌≡◌, IfErr, IfNone, IfOk, IfSome};
 ghost use Rattle.domains.specs.Span.{Ends};
 ghost use Rattle.tables.specs.Entries.{AreIndices};
-ghost use Rattle.tables.specs.Lines.{IsTableName, SpellEnds, SpellSpan, TellTable, TellsTable, parts};
-ghost use Rattle.tables.specs.declared.fault.TableFault.TheVariants.{BadLine};
+ghost use Rattle.tables.specs.Lines.{IsTableLine, IsTableName, SpellEnds, SpellSpan, TellsTable, parts};
+ghost use Rattle.tables.specs.declared.fault.TableFault.TheVariants.{BadLine, Memory};
 ghost use Rattle.tables.specs.declared.table.Table.{Table as TableType};
 
 use crate::fault::TableFault;
 use crate::integers::{parse_table_entries, parse_table_integer};
 use crate::table::{MOST_ENTRIES, MOST_INDEX, Table};
-use crate::words::{split_table_span_at_colons, split_table_span_at_dots};
+use crate::words::split_table_line_at_first_byte;
 use domains::Span;
 use pipe_tokens::{Keyword, Name};
 use sequences::SharedSequence;
 use std::alloc::Global;
 
-/// The table that the words of a line describe.
-pub fn parse_table_from_words(alloc: Global, words: &[&[u8]]) -> Result<Table, TableFault>
-    ensures found { IfOk result (TellTable (map (λ w. w.now) words.now)) }
+/// The table that a line describes.
+pub fn parse_table_line(alloc: Global, line: &[u8]) -> Result<Table, TableFault>
+    ensures found { IfOk result (IsTableLine line.now) }
     ensures fault { IfErr result (λ fault. fault ≡ BadLine
-        → (table : TableType) → ¬ TellTable (map (λ w. w.now) words.now) table) }
+        → (table : TableType) → ¬ IsTableLine line.now table) }
+    ensures memory { IfErr result (λ fault. fault ≡ Memory
+        → (table : TableType) × IsTableLine line.now table) }
 {
-    match words {
-        [name, ends, entries @ ..] => parse_table_from_fields(alloc, name, ends, entries),
-        _ => Err(TableFault::BadLine),
-    }
+    let (name, behind) = split_table_line_at_first_byte(line, b' ');
+    let Some(rest) = behind else {
+        return Err(TableFault::BadLine);
+    };
+    let (ends, behind) = split_table_line_at_first_byte(rest, b' ');
+    let Some(entries) = behind else {
+        return Err(TableFault::BadLine);
+    };
+    parse_table_from_fields(alloc, name, ends, entries)
 }
 
 // The table of this name, these ends and these entries.
@@ -33,20 +40,25 @@ fn parse_table_from_fields(
     alloc: Global,
     name: &[u8],
     ends: &[u8],
-    entries: &[&[u8]],
+    entries: &[u8],
 ) -> Result<Table, TableFault>
-    ensures found { IfOk result (TellsTable name.now ends.now (map (λ w. w.now) entries.now)) }
+    ensures found { IfOk result (TellsTable name.now ends.now (parts 32 entries.now)) }
     ensures fault { IfErr result (λ fault. fault ≡ BadLine
-        → (table : TableType) → ¬ TellsTable name.now ends.now (map (λ w. w.now) entries.now) table) }
+        → (table : TableType) → ¬ TellsTable name.now ends.now (parts 32 entries.now) table) }
+    ensures memory { IfErr result (λ fault. fault ≡ Memory
+        → (table : TableType) × TellsTable name.now ends.now (parts 32 entries.now) table) }
 {
     let Some(name) = parse_table_name(name) else {
         return Err(TableFault::BadLine);
     };
-    let span = parse_table_span_with_colon(alloc, ends)?;
-    if entries.len() > MOST_ENTRIES || entries.len() != span.len() as usize {
+    let Some(span) = parse_table_span_with_colon(ends) else {
+        return Err(TableFault::BadLine);
+    };
+    let count = span.len() as usize;
+    if count > MOST_ENTRIES {
         return Err(TableFault::BadLine);
     }
-    let values = parse_table_entries(alloc, entries)?;
+    let values = parse_table_entries(alloc, entries, count)?;
     Ok(Table {
         name,
         lo: span.lo(),
@@ -66,71 +78,36 @@ fn parse_table_name(word: &[u8]) -> Option<Name>
     }
 }
 
-// The indices that `LO..HI:` spells.
-fn parse_table_span_with_colon(alloc: Global, word: &[u8]) -> Result<Span, TableFault>
-    ensures found { IfOk result (SpellSpan (parts 58 word.now)) }
-    ensures within { IfOk result AreIndices }
-    ensures fault { IfErr result (λ fault. fault ≡ BadLine → (span : Ends)
-        → ¬ SpellSpan (parts 58 word.now) span) }
+// The indices that `LO..HI:` spells: nothing follows the one colon.
+fn parse_table_span_with_colon(word: &[u8]) -> Option<Span>
+    ensures some { IfSome result (SpellSpan (parts 58 word.now)) }
+    ensures within { IfSome result AreIndices }
+    ensures none { IfNone result ((span : Ends) → ¬ SpellSpan (parts 58 word.now) span) }
 {
-    let halves = split_table_span_at_colons(alloc, word)?;
-    parse_table_span_from_colon_parts(alloc, &halves)
-}
-
-// The same, from the parts between colons.
-fn parse_table_span_from_colon_parts(alloc: Global, halves: &[&[u8]]) -> Result<Span, TableFault>
-    ensures found { IfOk result (SpellSpan (map (λ h. h.now) halves.now)) }
-    ensures within { IfOk result AreIndices }
-    ensures fault { IfErr result (λ fault. fault ≡ BadLine → (span : Ends)
-        → ¬ SpellSpan (map (λ h. h.now) halves.now) span) }
-{
-    match halves {
-        [ends, behind] => parse_table_span_around_colon(alloc, ends, behind),
-        _ => Err(TableFault::BadLine),
-    }
-}
-
-// The same, from what is before the colon and after it.
-fn parse_table_span_around_colon(
-    alloc: Global,
-    ends: &[u8],
-    behind: &[u8],
-) -> Result<Span, TableFault>
-    ensures found { IfOk result (SpellSpan (ends.now ∷ behind.now ∷ [])) }
-    ensures within { IfOk result AreIndices }
-    ensures fault { IfErr result (λ fault. fault ≡ BadLine → (span : Ends)
-        → ¬ SpellSpan (ends.now ∷ behind.now ∷ []) span) }
-{
+    let (ends, rest) = split_table_line_at_first_byte(word, b':');
+    let Some(behind) = rest else {
+        return None;
+    };
     if !behind.is_empty() {
-        return Err(TableFault::BadLine);
+        return None;
     }
-    let ends = split_table_span_at_dots(alloc, ends)?;
-    match parse_table_span_from_dot_parts(&ends) {
-        Some(span) => Ok(span),
-        None => Err(TableFault::BadLine),
-    }
+    parse_table_span_with_dots(ends)
 }
 
-// The indices whose ends are spelled by the parts of `LO..HI` between dots.
-fn parse_table_span_from_dot_parts(ends: &[&[u8]]) -> Option<Span>
-    ensures some { IfSome result (SpellEnds (map (λ e. e.now) ends.now)) }
+// The indices that `LO..HI` spells: nothing is between the two dots.
+fn parse_table_span_with_dots(ends: &[u8]) -> Option<Span>
+    ensures some { IfSome result (SpellEnds (parts 46 ends.now)) }
     ensures within { IfSome result AreIndices }
-    ensures none { IfNone result ((span : Ends)
-        → ¬ SpellEnds (map (λ e. e.now) ends.now) span) }
+    ensures none { IfNone result ((span : Ends) → ¬ SpellEnds (parts 46 ends.now) span) }
 {
-    match ends {
-        [first, between, last] => parse_table_span_around_dots(first, between, last),
-        _ => None,
-    }
-}
-
-// The same, from what is before two dots, between them, and after them.
-fn parse_table_span_around_dots(first: &[u8], between: &[u8], last: &[u8]) -> Option<Span>
-    ensures some { IfSome result (SpellEnds (first.now ∷ between.now ∷ last.now ∷ [])) }
-    ensures within { IfSome result AreIndices }
-    ensures none { IfNone result ((span : Ends)
-        → ¬ SpellEnds (first.now ∷ between.now ∷ last.now ∷ []) span) }
-{
+    let (first, behind) = split_table_line_at_first_byte(ends, b'.');
+    let Some(rest) = behind else {
+        return None;
+    };
+    let (between, behind) = split_table_line_at_first_byte(rest, b'.');
+    let Some(last) = behind else {
+        return None;
+    };
     if !between.is_empty() {
         return None;
     }

@@ -3,11 +3,10 @@
 ghost use Rattle.std.specs.Prelude.{◌≡◌, IfErr, IfNone, IfOk, IfSome, length};
 ghost use Rattle.tables.specs.Entries.{AreEntries, span_from};
 ghost use Rattle.tables.specs.Lines.{IsTableLine};
-ghost use Rattle.tables.specs.declared.fault.TableFault.TheVariants.{BadLine};
+ghost use Rattle.tables.specs.declared.fault.TableFault.TheVariants.{BadLine, Memory};
 
 use crate::fault::TableFault;
-use crate::line::parse_table_from_words;
-use crate::words::split_table_line_at_blanks;
+use crate::line::parse_table_line;
 use domains::Span;
 use pipe_tokens::Name;
 use sequences::SharedSequence;
@@ -34,13 +33,16 @@ impl Table {
     /// NAME is a name of the language that is not reserved. LO and HI lie within ±16,384, and LO is at most HI.
     /// There are as many numbers as from LO to HI, at most 4,096. A number is digits, with or without a `-` before them,
     /// within 64 bits; entries are clamped to 32 bits.
+    ///
+    /// A line is split no further than its words are read, and a line that is no table's takes no memory.
     pub fn read(alloc: Global, line: &[u8]) -> Result<Table, TableFault>
         ensures found { IfOk result (IsTableLine line.now) }
         ensures fault { IfErr result (λ fault. fault ≡ BadLine
             → (table : TableType) → ¬ IsTableLine line.now table) }
+        ensures memory { IfErr result (λ fault. fault ≡ Memory
+            → (table : TableType) × IsTableLine line.now table) }
     {
-        let words = split_table_line_at_blanks(alloc, line)?;
-        parse_table_from_words(alloc, &words)
+        parse_table_line(alloc, line)
     }
 
     /// The indices. None if there are no entries, more than 4,096, or an index farther than 16,384 from 0.

@@ -1,36 +1,23 @@
 //! The parts of a line.
 
-ghost use Rattle.std.specs.Prelude.{◌≡◌, IfOk, map};
+ghost use Rattle.std.specs.Prelude.{◌≡◌, ◌==◌, [], ◌∷◌, MatchOption, position};
 ghost use Rattle.tables.specs.Lines.{parts};
 
-use std::alloc::{AllocError, Global};
-
-/// The words of a line, separated by one blank each.
-pub fn split_table_line_at_blanks<'a>(
-    alloc: Global,
-    line: &'a [u8],
-) -> Result<Vec<&'a [u8]>, AllocError>
-    ensures { IfOk result (λ found. map (λ w. w.now) found.items ≡ parts 32 line.now) }
+/// The first part of a text whose parts are separated by one such byte each, and what follows that byte. None follows the last
+/// part.
+pub fn split_table_line_at_first_byte(text: &[u8], byte: u8) -> (&[u8], Option<&[u8]>)
+    ensures { MatchOption result.1 (parts byte text.now ≡ result.0.now ∷ [])
+        (λ rest. parts byte text.now ≡ result.0.now ∷ parts byte rest.now) }
 {
-    line.split(|byte| *byte == b' ').collect(alloc)
+    match find_first_byte_of_table_line(text, byte) {
+        Some(end) => (&text[..end], Some(&text[end + 1..])),
+        None => (text, None),
+    }
 }
 
-/// The parts of a word, separated by one colon each.
-pub fn split_table_span_at_colons<'a>(
-    alloc: Global,
-    word: &'a [u8],
-) -> Result<Vec<&'a [u8]>, AllocError>
-    ensures { IfOk result (λ found. map (λ p. p.now) found.items ≡ parts 58 word.now) }
+// Where the first such byte is.
+fn find_first_byte_of_table_line(text: &[u8], byte: u8) -> Option<usize>
+    ensures { result ≡ position (λ other. other == byte) text.now }
 {
-    word.split(|byte| *byte == b':').collect(alloc)
-}
-
-/// The parts of a word, separated by one dot each.
-pub fn split_table_span_at_dots<'a>(
-    alloc: Global,
-    word: &'a [u8],
-) -> Result<Vec<&'a [u8]>, AllocError>
-    ensures { IfOk result (λ found. map (λ p. p.now) found.items ≡ parts 46 word.now) }
-{
-    word.split(|byte| *byte == b'.').collect(alloc)
+    text.iter().position(|other| *other == byte)
 }
