@@ -25,6 +25,8 @@ use Rattle.catalog.specs.contracts.catalog.Catalog as Catalog
 use Rattle.farm.proofs.hand.WorkerSeat.TheSendSync as WorkerSeat
 use Rattle.leases.proofs.live.LiveDesk.TheSendSync as Desk
 use Rattle.leases.specs.contracts.live.LiveDesk as LiveDesk
+use Rattle.leases.proofs.log.SeenLeases.TheSendSync as Seen
+use Rattle.leases.specs.declared.log.NamedDesk.{Ghosts as DeskGhosts}
 use Rattle.posts.proofs.line.MailboxPort.TheSendSync as MailboxPort'
 use Rattle.posts.specs.contracts.line.MailboxPort as MailboxPort
 use Rattle.std.specs.contracts.marker.PhantomData as PhantomData
@@ -174,8 +176,8 @@ module _ (a : NamedLft) (T : RattleType) (g : Ghosts T.Denot) where
     ),
   )
 
-  pub worker_send : IsSend (FarmWorker.the_row a T g)
-  worker_send = declared_send (FarmWorker.the_type a T g) (
+  pub worker_send : (d : DeskGhosts T.Denot) → IsSend (FarmWorker.the_row a T g d)
+  worker_send d = declared_send (FarmWorker.the_type a T g d) (
     as_row_send u8-field (search sendable),
     (
       as_row_send u8-field (search sendable),
@@ -183,7 +185,13 @@ module _ (a : NamedLft) (T : RattleType) (g : Ghosts T.Denot) where
         setup_send,
         (
           reference_send a (Work.the_row a T g) tt work_sync,
-          (reference_send a LiveDesk.the_row tt Desk.the_sync, (WorkerSeat.the_send a T g, (owners.Vec-send (MailboxPort.the_row a T g) (MailboxPort'.the_send a T g), tt))),
+          (
+            reference_send a (LiveDesk.the_row T d) tt (Desk.the_sync T d),
+            (
+              Seen.the_send T d,
+              (WorkerSeat.the_send a T g, (owners.Vec-send (MailboxPort.the_row a T g) (MailboxPort'.the_send a T g), tt)),
+            ),
+          ),
         ),
       ),
     ),

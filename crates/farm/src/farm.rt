@@ -24,7 +24,7 @@ use farm_work::{FarmWork, Gate};
 use grouping::Schedule;
 use identity::Key;
 use job::Job;
-use leases::LiveDesk;
+use leases::{LiveDesk, NamedDesk, NewLeaseLog, SeenLeases};
 use live_nodes::ClosedNode;
 use overlap_tiles::list_work_keys;
 use std::alloc::{AllocError, Global};
@@ -71,7 +71,13 @@ impl Farm {
             keys: &keys,
         };
         let closed = run_farm_to_closed_farm_nodes::<Brand, G, R>(
-            rt, alloc, catalog, &plan, setup, gate,
+            rt,
+            alloc,
+            catalog,
+            &plan,
+            setup,
+            gate,
+            NewLeaseLog::new(),
         )?;
         let held = join_facts_of_closed_farm_nodes_by_keys(alloc, &keys, &closed)?;
         let done = complete_farm_answer(alloc, catalog, job, schedule, held)?;
@@ -93,16 +99,16 @@ struct FarmWorkPlan<'a> {
 
 // What all workers share.
 #[derive(Drop)]
-struct FarmSharedState<'a, C: NamedCatalog> {
+struct FarmSharedState<'a, C: NamedCatalog + NamedDesk> {
     work: FarmWork<'a, C>,
-    desk: LiveDesk,
+    desk: LiveDesk<C>,
     nodes: Vec<FarmNode<C>>,
 }
 
 // The ends of all nodes, after their workers have gone through all turns.
 fn run_farm_to_closed_farm_nodes<
     'a,
-    C: NamedCatalog + Send + Sync + 'static,
+    C: NamedCatalog + NamedDesk + Send + Sync + 'static,
     G: Gate + Sync,
     R: Threads + Wait + Sync,
 >(
@@ -112,18 +118,21 @@ fn run_farm_to_closed_farm_nodes<
     plan: &FarmWorkPlan<'a>,
     setup: &FarmSetup,
     gate: &G,
+    log: NewLeaseLog,
 ) -> Result<Vec<ClosedNode>, FarmFault>
-    requires { catalog.now ≡ C.catalog }
+    requires catalog { catalog.now ≡ C.catalog }
+    requires log { log.seen.book ≡ C.book }
     ensures sound { IfOk result (λ closed. All (IsSoundEnd C.catalog) closed.items) }
     ensures count { IfOk result (λ closed. length closed.items ≡ setup.now.nodes) }
 {
     let (nodes, seats) = open_farm_nodes_and_worker_seats::<C>(alloc, catalog, setup)?;
+    let (desk, leases) = LiveDesk::open(alloc, log);
     let shared = FarmSharedState {
         work: FarmWork::new(catalog, plan.job, plan.schedule, plan.keys),
-        desk: LiveDesk::new(alloc),
+        desk,
         nodes,
     };
-    let workers = make_farm_workers(alloc, setup, &shared, seats)?;
+    let workers = make_farm_workers(alloc, setup, &shared, &leases, seats)?;
     let ends = run_farm_workers(rt, alloc, workers, gate)?;
     let FarmSharedState { nodes, .. } = shared;
     close_farm_nodes_to_list_or_memory_fault(alloc, nodes, ends)
@@ -132,7 +141,7 @@ fn run_farm_to_closed_farm_nodes<
 // Runs all workers in threads of their own.
 fn run_farm_workers<
     'a,
-    C: NamedCatalog + Send + Sync + 'static,
+    C: NamedCatalog + NamedDesk + Send + Sync + 'static,
     G: Gate + Sync,
     R: Threads + Wait + Sync,
 >(
@@ -145,10 +154,11 @@ fn run_farm_workers<
 }
 
 // The workers of all nodes, before their first turn.
-fn make_farm_workers<'a, C: NamedCatalog>(
+fn make_farm_workers<'a, C: NamedCatalog + NamedDesk>(
     alloc: Global,
     setup: &FarmSetup,
     shared: &'a FarmSharedState<'a, C>,
+    leases: &SeenLeases<C>,
     seats: Vec<Vec<WorkerReceipts>>,
 ) -> Result<Vec<FarmWorker<'a, C>>, AllocError> {
     let mut workers: Vec<FarmWorker<'a, C>> = Vec::new(alloc);
@@ -162,6 +172,7 @@ fn make_farm_workers<'a, C: NamedCatalog>(
                 setup: *setup,
                 work: &shared.work,
                 desk: &shared.desk,
+                leases: leases.again(),
                 hand: WorkerSeat {
                     node: &node.live,
                     end,

@@ -1,7 +1,7 @@
 //! A farm: nodes, each with two workers in threads of their own. They make the tiles of a job together and send one another what
 //! they have made.
 //!
-//! Words: farm, farm node, farm worker, farm thread, worker site, worker seat, worker receipts.
+//! Words: farm, farm node, farm worker, farm thread, worker site, worker seat, worker receipts, node lookup.
 #![tactic(auto)]
 
 mod closing;

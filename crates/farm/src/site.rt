@@ -3,10 +3,11 @@
 use crate::hand::{CheckpointStep, WorkerSeat};
 use catalog::NamedCatalog;
 use farm_turns::{KeyReadiness, WorkerPlace};
-use farm_work::{FarmWork, Gate};
+use farm_work::{FarmWork, Gate, KeyLookup};
 use identity::Key;
-use leases::{Claim, LiveDesk};
-use node_state::{LendFault, NodeState};
+use leases::{Claim, LiveDesk, NamedDesk, SeenLeases};
+use live_nodes::LiveNode;
+use node_state::LendFault;
 use overlap_tiles::TilePlan;
 use posts::{MailboxPort, Parcel};
 use std::alloc::{AllocError, Global};
@@ -16,22 +17,40 @@ use updates::{copy_update_list, make_update_list_of_fact};
 
 /// The node, the mailboxes, the desk and the gate that a worker calls.
 #[derive(Drop)]
-pub struct WorkerSite<'s, 'a, C: NamedCatalog, R, G> {
+pub struct WorkerSite<'s, 'a, C: NamedCatalog + NamedDesk, R, G> {
     pub rt: &'s R,
     pub gate: &'s G,
     pub alloc: Global,
     pub work: &'a FarmWork<'a, C>,
-    pub desk: &'a LiveDesk,
+    pub desk: &'a LiveDesk<C>,
+    /// What the worker has seen of the desk's history.
+    pub leases: SeenLeases<C>,
     pub hand: WorkerSeat<'a, C>,
     /// A port to the mailbox of each node.
     pub ports: Vec<MailboxPort<'a, C>>,
 }
 
-impl<'s, 'a, C: NamedCatalog, R: Wait, G: Gate> WorkerPlace for WorkerSite<'s, 'a, C, R, G> {
+// A node that tells which keys nothing is held of, as it is when it is asked.
+#[derive(Clone, Copy)]
+struct NodeLookup<'s, 'a, C: NamedCatalog, R> {
+    rt: &'s R,
+    node: &'a LiveNode<C>,
+}
+
+impl<'s, 'a, C: NamedCatalog, R: Wait> KeyLookup for NodeLookup<'s, 'a, C, R> {
+    ghost use Rattle.live_nodes.specs.Ends.{IsSomeLook};
+
+    ghost may_tell = { λ lookup keys lacking. IsSomeLook C.catalog keys lacking };
+
+    fn lacks_any_key(&self, keys: &[Key]) -> bool {
+        self.node.lacks_any_key(self.rt, keys)
+    }
+}
+
+impl<'s, 'a, C: NamedCatalog + NamedDesk, R: Wait, G: Gate> WorkerPlace
+    for WorkerSite<'s, 'a, C, R, G> {
     ghost use Rattle.fact_audit.specs.TrueFacts.{IsTrueFact};
     ghost use Rattle.updates.specs.TrueUpdates.{AreTrue};
-
-    type HeldState = NodeState;
 
     type Plan = TilePlan<'a>;
 
@@ -67,25 +86,15 @@ impl<'s, 'a, C: NamedCatalog, R: Wait, G: Gate> WorkerPlace for WorkerSite<'s, '
         self.hand.add_updates_to_node(self.rt, updates)
     }
 
-    fn copy_held_state(&mut self) -> Result<NodeState, AllocError> {
-        self.hand.node.state(self.rt)
-    }
-
     fn find_readiness_of_work_key(
         &mut self,
-        held: &NodeState,
         key: &Key,
     ) -> Result<KeyReadiness<TilePlan<'a>>, AllocError> {
-        if held.held().count_facts_of_key(key) > 0 {
-            return Ok(KeyReadiness::Known);
-        }
-        match self
-            .work
-            .plan_tile_if_missing_and_ready(self.alloc, held.held(), key)?
-        {
-            Some(plan) => Ok(KeyReadiness::Open(plan)),
-            None => Ok(KeyReadiness::Waiting),
-        }
+        let held = NodeLookup {
+            rt: self.rt,
+            node: self.hand.node,
+        };
+        self.work.find_tile_readiness(self.alloc, &held, key)
     }
 
     fn claim_key(
@@ -95,7 +104,10 @@ impl<'s, 'a, C: NamedCatalog, R: Wait, G: Gate> WorkerPlace for WorkerSite<'s, '
         key: &Key,
         ttl: u64,
     ) -> Result<bool, AllocError> {
-        match self.desk.claim(self.rt, time, worker, *key, ttl) {
+        let claim = self
+            .desk
+            .claim(self.rt, &mut self.leases, time, worker, *key, ttl);
+        match claim {
             Claim::Granted { .. } | Claim::Renewed { .. } => Ok(true),
             Claim::Held { .. } => Ok(false),
             Claim::Memory => Err(AllocError),
@@ -128,7 +140,8 @@ impl<'s, 'a, C: NamedCatalog, R: Wait, G: Gate> WorkerPlace for WorkerSite<'s, '
     }
 
     fn release_key(&mut self, time: u64, worker: u8, key: &Key) {
-        self.desk.release(self.rt, time, worker, key);
+        self.desk
+            .release(self.rt, &mut self.leases, time, worker, key);
     }
 
     fn keep_node_state(&mut self) -> Result<(), AllocError> {

@@ -7,27 +7,29 @@ use catalog::NamedCatalog;
 use farm_setup::FarmSetup;
 use farm_turns::{TurnRules, WorkerShift};
 use farm_work::{FarmWork, Gate};
-use leases::LiveDesk;
+use leases::{LiveDesk, NamedDesk, SeenLeases};
 use posts::MailboxPort;
 use std::alloc::Global;
 use std::sync::Wait;
 
 /// One thread's work at a node.
 #[derive(Drop)]
-pub struct FarmWorker<'a, C: NamedCatalog> {
+pub struct FarmWorker<'a, C: NamedCatalog + NamedDesk> {
     /// Its number among all workers.
     pub number: u8,
     /// The number of its node.
     pub home: u8,
     pub setup: FarmSetup,
     pub work: &'a FarmWork<'a, C>,
-    pub desk: &'a LiveDesk,
+    pub desk: &'a LiveDesk<C>,
+    /// What it has seen of the desk's history.
+    pub leases: SeenLeases<C>,
     pub hand: WorkerSeat<'a, C>,
     /// A port to the mailbox of each node.
     pub ports: Vec<MailboxPort<'a, C>>,
 }
 
-impl<'a, C: NamedCatalog + 'static> FarmThreadTask for FarmWorker<'a, C> {
+impl<'a, C: NamedCatalog + NamedDesk + 'static> FarmThreadTask for FarmWorker<'a, C> {
     fn run<R: Wait, G: Gate>(self, rt: &R, alloc: Global, gate: &G) -> WorkerReceipts {
         let FarmWorker {
             number,
@@ -35,6 +37,7 @@ impl<'a, C: NamedCatalog + 'static> FarmThreadTask for FarmWorker<'a, C> {
             setup,
             work,
             desk,
+            leases,
             hand,
             ports,
         } = self;
@@ -50,6 +53,7 @@ impl<'a, C: NamedCatalog + 'static> FarmThreadTask for FarmWorker<'a, C> {
             alloc,
             work,
             desk,
+            leases,
             hand,
             ports,
         };

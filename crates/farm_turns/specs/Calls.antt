@@ -14,9 +14,7 @@ pub data Call : Type 0 where
   Found_empty : (node : ℕ) → Call
   -- the worker's node takes updates
   Took : (updates : List Update) → Call
-  -- the worker takes a copy of what its node holds
-  Looked : Call
-  -- by the copy, a key is known, or its tile is to wait, or it can be made from the facts of these keys
+  -- by what the worker's node holds, a key is known, or its tile is to wait, or it can be made from the facts of these keys
   Found_known : (key : Key) → Call
   Found_waiting : (key : Key) → Call
   Found_open : (key : Key) (needs : List Key) → Call

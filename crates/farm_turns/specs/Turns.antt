@@ -4,7 +4,7 @@ use Rattle.identity.specs.declared.key.Key.{Key}
 use Rattle.tile_fact.specs.declared.fact.Fact.{Fact}
 use Rattle.tile_fact.specs.declared.update.Update.{Update}
 use Rattle.tile_fact.specs.declared.update.Update.TheVariants.{Fact as update}
-use Rattle.farm_turns.specs.Calls.{Call, Entered, Received, Found_empty, Took, Looked, Found_known, Found_waiting, Found_open, Claimed, Lent, Computed, Made, Put, Released, Kept, Restarted}
+use Rattle.farm_turns.specs.Calls.{Call, Entered, Received, Found_empty, Took, Found_known, Found_waiting, Found_open, Claimed, Lent, Computed, Made, Put, Released, Kept, Restarted}
 use Rattle.farm_turns.specs.Periods.{is_selected, count_after}
 use Rattle.farm_turns.specs.declared.rules.TurnRules.{TurnRules}
 
@@ -73,13 +73,13 @@ after_picking rules turn g key needs =
 abbrev pub open_keys : TurnRules → Progress → List Key
 open_keys rules g = drop g.settled rules.keys.now
 
--- a copy of what the node holds is taken
-abbrev pub after_looking : TurnRules → Progress → Progress
-after_looking rules g = record (with_call g Looked) { settling = nat_eq rules.setup.faults.restart 0 }
+-- keys are known for good from here on, where no node restarts
+abbrev pub before_looking : TurnRules → Progress → Progress
+before_looking rules g = record g { settling = nat_eq rules.setup.faults.restart 0 }
 
--- and keys are passed over, in order
+-- keys are passed over, in order
 abbrev pub after_passing_all : TurnRules → ℕ → Progress → List (Key × PassReason) → Progress
-after_passing_all rules turn g passed = fold (λ before p. after_passing rules turn before p.0 p.1) (after_looking rules g) passed
+after_passing_all rules turn g passed = fold (λ before p. after_passing rules turn before p.0 p.1) (before_looking rules g) passed
 
 -- ---- what is made and sent
 

@@ -11,6 +11,6 @@ pub struct TurnCounts {
     pub lost: ParcelPeriodCounter,
     /// How many of the first work keys are known for good, where no node of the farm restarts; otherwise 0.
     pub settled: usize,
-    /// No node restarts, and all keys of this look so far are known.
+    /// No node restarts, and all keys of this turn so far are known.
     pub settling: bool,
 }

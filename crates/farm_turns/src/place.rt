@@ -9,15 +9,12 @@ use tile_fact::{Fact, Update};
 /// Contracts see a log of the calls. A place that keeps no log of its own states only what it knows of a log. A worker that uses
 /// this trait alone has made all calls of the log, and no other ones. A call that is refused memory fails, and is in no log.
 pub trait WorkerPlace {
-    ghost use Rattle.farm_turns.specs.Calls.{Call, Calls, Entered, Received, Found_empty, Took, Looked, Claimed, Lent, Computed, Made, Put, Released, Kept, Restarted, finding_call};
+    ghost use Rattle.farm_turns.specs.Calls.{Call, Calls, Entered, Received, Found_empty, Took, Claimed, Lent, Computed, Made, Put, Released, Kept, Restarted, finding_call};
     ghost use Rattle.identity.specs.declared.key.Key.{Key as KeyOf};
     ghost use Rattle.std.specs.Prelude.{◌∷◌, [], All, IfNone, IfOk, IfSome, List, None, OnOk, Option, Some};
     ghost use Rattle.tile_fact.specs.declared.fact.Fact.{Fact as FactOf};
     ghost use Rattle.tile_fact.specs.declared.update.Update.{Update as UpdateOf};
     ghost use Rattle.tile_fact.specs.declared.update.Update.TheVariants as update;
-
-    /// A copy of what a node holds.
-    type HeldState: Drop;
 
     /// How a tile is made.
     type Plan: Drop;
@@ -61,14 +58,9 @@ pub trait WorkerPlace {
         ensures { OnOk result
             (Calls has_log self.old self.new (Took (update.Fact fact.now ∷ []))) };
 
-    /// A copy of what the worker's node holds.
-    fn copy_held_state(&mut self) -> Result<Self::HeldState, AllocError>
-        ensures { OnOk result (Calls has_log self.old self.new Looked) };
-
-    /// The readiness of a key by a copy.
+    /// The readiness of a key by what the worker's node holds.
     fn find_readiness_of_work_key(
         &mut self,
-        held: &Self::HeldState,
         key: &Key,
     ) -> Result<KeyReadiness<Self::Plan>, AllocError>
         ensures { IfOk result (λ standing.

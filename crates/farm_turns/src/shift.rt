@@ -31,7 +31,7 @@ pub struct WorkerShift<'a, P: WorkerPlace> {
 impl<'a, P: WorkerPlace> WorkerShift<'a, P> {
     ghost use Rattle.farm_turns.specs.Calls.{Call, Released};
     ghost use Rattle.farm_turns.specs.Shifts.{HasRun, HasTurned, IsAt};
-    ghost use Rattle.farm_turns.specs.Turns.{WorkOutcome, Progress, IsWorkOutcome, MakeOutcome, PassReason, with_call, passed_key, after_giving, after_keeping, after_looking, after_making, open_keys, after_picking, after_parcels, after_restarting, after_sending_below, after_sending_to, after_passing_all, after_passing, after_working};
+    ghost use Rattle.farm_turns.specs.Turns.{WorkOutcome, Progress, IsWorkOutcome, MakeOutcome, PassReason, with_call, passed_key, after_giving, after_keeping, before_looking, after_making, open_keys, after_picking, after_parcels, after_restarting, after_sending_below, after_sending_to, after_passing_all, after_passing, after_working};
     ghost use Rattle.identity.specs.declared.key.Key.{Key as KeyOf};
     ghost use Rattle.std.specs.Prelude.{◌+◌, ◌++◌, ◌^◌, ◌≤◌, ◌<◌, ◌∷◌, false, IfNone, IfOk, IfSome, List, OnOk, length, map};
     ghost use Rattle.tile_fact.specs.declared.update.Update.{Update as UpdateOf};
@@ -142,7 +142,7 @@ impl<'a, P: WorkerPlace> WorkerShift<'a, P> {
             .release_key(u64::from(turn), self.rules.number, key);
     }
 
-    // The first key that can be made and is leased to the worker, by a copy of what its node holds.
+    // The first key that can be made and is leased to the worker. No call is made where all keys are settled.
     fn lease_first_open_work_key(&mut self, turn: u32) -> Result<Option<(Key, P::Plan)>, AllocError>
         ensures rules { self.new.rules ≡ self.old.rules }
         ensures none { IfOk result (λ found. IfNone found
@@ -161,31 +161,29 @@ impl<'a, P: WorkerPlace> WorkerShift<'a, P> {
         if start >= keys.len() {
             return Ok(None);
         }
-        let held = self.copy_held_state()?;
+        self.begin_to_look();
         for key in &keys[start..] {
-            if let Some(plan) = self.plan_and_lease_work_key_if_open(turn, &held, key)? {
+            if let Some(plan) = self.plan_and_lease_work_key_if_open(turn, key)? {
                 return Ok(Some((*key, plan)));
             }
         }
         Ok(None)
     }
 
-    // A copy of what the node holds.
-    fn copy_held_state(&mut self) -> Result<P::HeldState, AllocError>
+    // From here on keys are settled, unless nodes restart.
+    fn begin_to_look(&mut self)
         ensures rules { self.new.rules ≡ self.old.rules }
         ensures settled { self.new.counts.settled ≡ self.old.counts.settled }
-        ensures looked { OnOk result ((g : Progress) → IsAt P.has_log self.old.place self.old.counts g
-            → IsAt P.has_log self.new.place self.new.counts (after_looking self.old.rules g)) }
+        ensures looking { (g : Progress) → IsAt P.has_log self.old.place self.old.counts g
+            → IsAt P.has_log self.new.place self.new.counts (before_looking self.old.rules g) }
     {
         self.counts.settling = self.rules.setup.faults.restart == 0;
-        self.place.copy_held_state()
     }
 
     // How the tile of a key is made, if it can be made and is leased to the worker.
     fn plan_and_lease_work_key_if_open(
         &mut self,
         turn: u32,
-        held: &P::HeldState,
         key: &Key,
     ) -> Result<Option<P::Plan>, AllocError>
         requires { self.old.counts.settled + 1 < 2 ^ 64 }
@@ -199,7 +197,7 @@ impl<'a, P: WorkerPlace> WorkerShift<'a, P> {
             → IsAt P.has_log self.new.place self.new.counts
             (after_picking self.old.rules turn g key.now (P.needs_of plan)))) }
     {
-        let standing = self.place.find_readiness_of_work_key(held, key)?;
+        let standing = self.place.find_readiness_of_work_key(key)?;
         if let KeyReadiness::Known = standing {
             if self.counts.settling {
                 self.counts.settled += 1;

@@ -1,6 +1,6 @@
 //! The readiness of a key at a node.
 
-/// What is to be done with a key, by a copy of what a node holds.
+/// What is to be done with a key, by what a node holds.
 #[derive(Debug, Drop)]
 pub enum KeyReadiness<P> {
     /// Nothing: a fact of it is held.

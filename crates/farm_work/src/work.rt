@@ -1,16 +1,18 @@
 //! The work of a farm: the tiles of a job that its workers make.
 
-ghost use Rattle.std.specs.Prelude.{◌≡◌, true, false, All, IfOk, IfSome, IfNone, List, fold};
-ghost use Rattle.std.specs.List.{list_any};
+ghost use Rattle.std.specs.Prelude.{◌≡◌, All, IfOk, IfSome, IfNone, List, fold};
 ghost use Rattle.catalog.specs.Entries.{Entry};
 ghost use Rattle.farm_work.specs.Making.{IsNotMade};
+ghost use Rattle.farm_work.specs.Readiness.{IsNoTile, IsReadiness};
 ghost use Rattle.fact_store.specs.Facts.{nothing, with_fact};
-ghost use Rattle.held_facts.specs.HeldAnswers.{HoldsTrueFacts, lacks};
+ghost use Rattle.held_facts.specs.HeldAnswers.{HoldsTrueFacts};
 ghost use Rattle.fact_audit.specs.TrueFacts.{IsTrueFact};
 ghost use Rattle.job.specs.Kept.{pipeline_in, program_id_in};
 ghost use Rattle.overlap_tiles.specs.Plans.{IsTilePlan};
 
+use crate::lookup::KeyLookup;
 use catalog::{Catalog, NamedCatalog};
+use farm_turns::KeyReadiness;
 use grouping::Schedule;
 use held_facts::{HeldFacts, MakeFault};
 use identity::Key;
@@ -51,30 +53,32 @@ impl<'a, C: NamedCatalog> FarmWork<'a, C> {
         }
     }
 
-    /// How a tile is made of which nothing is held, if something is held of all that it needs.
-    pub fn plan_tile_if_missing_and_ready(
+    /// What is to be done with a key. Its tile is to wait where there is none, where it does not fit into scratch memory, and
+    /// where nothing is held of a tile that it needs.
+    ///
+    /// # Errors
+    ///
+    /// Fails only where memory is refused.
+    pub fn find_tile_readiness<L: KeyLookup>(
         &self,
         alloc: Global,
-        held: &HeldFacts,
+        held: &L,
         key: &Key,
-    ) -> Result<Option<TilePlan<'a>>, AllocError>
-        ensures plan { IfOk result (λ found. IfSome found (IsTilePlan
+    ) -> Result<KeyReadiness<TilePlan<'a>>, AllocError>
+        ensures { IfOk result (IsReadiness (L.may_tell held.now)
             (program_id_in self.now.job.now) (pipeline_in self.now.job.now)
-            self.now.schedule.now.inlining key.now.stage key.now.row key.now.col)) }
-        ensures lacked { IfOk result (λ found. IfSome found (λ _. lacks held.now key.now ≡ true)) }
-        ensures ready { IfOk result
-            (λ found. IfSome found (λ plan. list_any (lacks held.now) plan.needs ≡ false)) }
+            self.now.schedule.now.inlining key.now) }
     {
-        if !is_farm_work_fact_missing(held, key) {
-            return Ok(None);
+        if !held.lacks_any_key(&[*key]) {
+            return Ok(KeyReadiness::Known);
         }
         let Some(plan) = self.plan_tile_if_it_exists_and_fits(alloc, key)? else {
-            return Ok(None);
+            return Ok(KeyReadiness::Waiting);
         };
-        if is_any_farm_work_fact_missing(held, plan.needs()) {
-            return Ok(None);
+        if held.lacks_any_key(plan.needs()) {
+            return Ok(KeyReadiness::Waiting);
         }
-        Ok(Some(plan))
+        Ok(KeyReadiness::Open(plan))
     }
 
     // How a tile is made, if there is such a tile and it fits into scratch memory.
@@ -83,9 +87,11 @@ impl<'a, C: NamedCatalog> FarmWork<'a, C> {
         alloc: Global,
         key: &Key,
     ) -> Result<Option<TilePlan<'a>>, AllocError>
-        ensures { IfOk result (λ found. IfSome found (IsTilePlan
+        ensures plan { IfOk result (λ found. IfSome found (IsTilePlan
             (program_id_in self.now.job.now) (pipeline_in self.now.job.now)
             self.now.schedule.now.inlining key.now.stage key.now.row key.now.col)) }
+        ensures none { IfOk result (λ found. IfNone found (IsNoTile
+            (pipeline_in self.now.job.now) self.now.schedule.now.inlining key.now)) }
     {
         let stage = usize::from(key.stage);
         match TilePlan::of(alloc, self.job, self.schedule, stage, key.row, key.col) {
@@ -116,20 +122,6 @@ impl<'a, C: NamedCatalog> FarmWork<'a, C> {
             Err(_) => Ok(None),
         }
     }
-}
-
-// Whether nothing is held of a key.
-fn is_farm_work_fact_missing(held: &HeldFacts, key: &Key) -> bool
-    ensures { result ≡ lacks held.now key.now }
-{
-    held.count_facts_of_key(key) == 0
-}
-
-// Whether nothing is held of one of these keys.
-fn is_any_farm_work_fact_missing(held: &HeldFacts, keys: &[Key]) -> bool
-    ensures { result ≡ list_any (lacks held.now) keys.now }
-{
-    keys.iter().any(|key| is_farm_work_fact_missing(held, key))
 }
 
 // These facts as held facts, all of which are true if these are.

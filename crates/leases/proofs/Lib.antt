@@ -1,3 +1,5 @@
 pub mod LeaseLists
 pub mod LegalHistories
 pub mod StandingDesks
+pub mod Beginnings
+pub mod Adding

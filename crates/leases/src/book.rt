@@ -60,6 +60,7 @@ impl DeskBook {
 
     /// Claims a key for a node, as `Desk::claim` does, and records it. With `Memory` nothing changes.
     pub fn claim(&mut self, now: u64, node: u8, key: Key, ttl: u64) -> Claim
+        ensures legal { IsLegal self.old.history self.old.time }
         ensures answer { result ≢ Claim.Memory
             → result ≡ claim_answer self.old.history (max self.old.time now) node key ttl }
         ensures history { self.new.history
@@ -80,6 +81,7 @@ impl DeskBook {
 
     /// Ends the lease of a node, as `Desk::release` does, and records it if it was in force.
     pub fn release(&mut self, now: u64, node: u8, key: &Key) -> Release
+        ensures legal { IsLegal self.old.history self.old.time }
         ensures answer { result
             ≡ release_answer self.old.history (max self.old.time now) node key.now }
         ensures history { self.new.history
@@ -96,6 +98,7 @@ impl DeskBook {
 
     /// The node whose lease of a key is in force. The call moves the time, and is not recorded.
     pub fn holder(&mut self, now: u64, key: &Key) -> Option<u8>
+        ensures legal { IsLegal self.old.history self.old.time }
         ensures answer { result ≡ holder_of self.old.history (max self.old.time now) key.now }
         ensures history { self.new.history ≡ self.old.history }
         ensures time { self.new.time ≡ max self.old.time now }

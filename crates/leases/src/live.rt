@@ -1,38 +1,172 @@
 //! A desk that threads share.
 
+ghost use Rattle.leases.specs.Logs.{IsLegalLog};
+ghost use Rattle.leases.specs.Rules.{with_entry};
+ghost use Rattle.leases.specs.Shared.{IsClaimIn, IsHolderIn, IsReleaseIn};
+ghost use Rattle.leases.specs.declared.answer.Claim.{Claim as ClaimOf};
+ghost use Rattle.leases.specs.declared.entry.LeaseEntry.{LeaseEntry as EntryOf};
+ghost use Rattle.std.specs.Prelude.{◌≡◌, ◌≢◌, ◌<◌, ◌^◌, [], Option, length};
+ghost use mathlib.Core.List.{IsPrefix};
+
 use crate::answer::{Claim, Release};
 use crate::book::DeskBook;
+use crate::entry::LeaseEntry;
+use crate::log::{LeaseLog, NamedDesk, NewLeaseLog, SeenLeases};
 use identity::Key;
 use std::alloc::Global;
 use std::sync::{Mutex, Wait};
 
-/// A desk with its record, which threads share. Calls take turns under a lock, which preserves what the type of a record
-/// promises: that the desk stands for its history. The order of calls is not specified.
+/// A desk with its record, which threads share. Calls take turns under a lock. Each answer is what the rules give at that point of
+/// the desk's one history, which the caller has then seen up to there. So no key has two holders at one time, whichever callers
+/// were told of them.
 #[derive(Drop)]
-pub struct LiveDesk {
-    book: Mutex<DeskBook>,
+pub struct LiveDesk<J: NamedDesk> {
+    log: LeaseLog<J>,
+    desk: Mutex<SharedDesk<J>>,
 }
 
-impl LiveDesk {
-    /// A desk with no leases, at time 0.
-    pub fn new(alloc: Global) -> LiveDesk {
-        LiveDesk {
-            book: Mutex::new(DeskBook::new(alloc)),
-        }
+impl<J: NamedDesk> LiveDesk<J> {
+    /// A desk with no leases, at time 0, and a caller's view of its history.
+    pub fn open(alloc: Global, log: NewLeaseLog) -> (LiveDesk<J>, SeenLeases<J>)
+        requires { log.seen.book ≡ J.book }
+        ensures { result.1 ≡ [] }
+    {
+        let (log, seen) = log.into_named::<J>();
+        let desk = SharedDesk {
+            book: DeskBook::new(alloc),
+            all: seen.again(),
+        };
+        let desk = LiveDesk {
+            log,
+            desk: Mutex::new(desk),
+        };
+        (desk, seen)
     }
 
     /// Claims a key for a node, as `DeskBook::claim` does.
-    pub fn claim<R: Wait>(&self, rt: &R, now: u64, node: u8, key: Key, ttl: u64) -> Claim {
-        self.book.lock(rt).claim(now, node, key, ttl)
+    pub fn claim<R: Wait>(
+        &self,
+        rt: &R,
+        seen: &mut SeenLeases<J>,
+        now: u64,
+        node: u8,
+        key: Key,
+        ttl: u64,
+    ) -> Claim
+        ensures answer { result ≢ ClaimOf.Memory → IsClaimIn seen.new now node key ttl result }
+        ensures longer { IsPrefix seen.old seen.new }
+    {
+        self.desk
+            .lock(rt)
+            .claim(rt, &self.log, seen, now, node, key, ttl)
     }
 
     /// Ends the lease of a node, as `DeskBook::release` does.
-    pub fn release<R: Wait>(&self, rt: &R, now: u64, node: u8, key: &Key) -> Release {
-        self.book.lock(rt).release(now, node, key)
+    pub fn release<R: Wait>(
+        &self,
+        rt: &R,
+        seen: &mut SeenLeases<J>,
+        now: u64,
+        node: u8,
+        key: &Key,
+    ) -> Release
+        ensures answer { IsReleaseIn seen.new now node key.now result }
+        ensures longer { IsPrefix seen.old seen.new }
+    {
+        self.desk
+            .lock(rt)
+            .release(rt, &self.log, seen, now, node, key)
     }
 
     /// The node whose lease of a key is in force, as `DeskBook::holder` reports it.
-    pub fn holder<R: Wait>(&self, rt: &R, now: u64, key: &Key) -> Option<u8> {
-        self.book.lock(rt).holder(now, key)
+    pub fn holder<R: Wait>(
+        &self,
+        rt: &R,
+        seen: &mut SeenLeases<J>,
+        now: u64,
+        key: &Key,
+    ) -> Option<u8>
+        ensures answer { IsHolderIn seen.new now key.now result }
+        ensures longer { IsPrefix seen.old seen.new }
+    {
+        self.desk.lock(rt).holder(seen, now, key)
     }
+}
+
+// A desk with its record, and the history of which its callers have seen a beginning.
+#[derive(Drop)]
+struct SharedDesk<J: NamedDesk> {
+    book: DeskBook,
+    all: SeenLeases<J>,
+    ghost same: { all ≡ book.history },
+}
+
+impl<J: NamedDesk> SharedDesk<J> {
+    fn claim<R: Wait>(
+        &mut self,
+        rt: &R,
+        log: &LeaseLog<J>,
+        seen: &mut SeenLeases<J>,
+        now: u64,
+        node: u8,
+        key: Key,
+        ttl: u64,
+    ) -> Claim
+        ensures answer { result ≢ ClaimOf.Memory → IsClaimIn seen.new now node key ttl result }
+        ensures longer { IsPrefix seen.old seen.new }
+    {
+        let claim = self.book.claim(now, node, key, ttl);
+        add_lease_entry_of_call(rt, log, &mut self.all, self.book.history());
+        *seen = seen.longer(&self.all);
+        claim
+    }
+
+    fn release<R: Wait>(
+        &mut self,
+        rt: &R,
+        log: &LeaseLog<J>,
+        seen: &mut SeenLeases<J>,
+        now: u64,
+        node: u8,
+        key: &Key,
+    ) -> Release
+        ensures answer { IsReleaseIn seen.new now node key.now result }
+        ensures longer { IsPrefix seen.old seen.new }
+    {
+        let release = self.book.release(now, node, key);
+        add_lease_entry_of_call(rt, log, &mut self.all, self.book.history());
+        *seen = seen.longer(&self.all);
+        release
+    }
+
+    fn holder(&mut self, seen: &mut SeenLeases<J>, now: u64, key: &Key) -> Option<u8>
+        ensures answer { IsHolderIn seen.new now key.now result }
+        ensures longer { IsPrefix seen.old seen.new }
+    {
+        let holder = self.book.holder(now, key);
+        *seen = seen.longer(&self.all);
+        holder
+    }
+}
+
+// Adds what was recorded of a call, if anything was, to the history that callers see. Only the desk under the lock adds to it, so
+// that no other entry is ever found there; if one were, this would wait forever.
+fn add_lease_entry_of_call<J: NamedDesk, R: Wait>(
+    rt: &R,
+    log: &LeaseLog<J>,
+    all: &mut SeenLeases<J>,
+    history: &[LeaseEntry],
+)
+    requires one { (entry : Option EntryOf) × (history.now ≡ with_entry all.old entry) }
+    requires legal { IsLegalLog history.now }
+    ensures { all.new ≡ history.now }
+{
+    let Some(entry) = history.get(all.count_entries() as usize) else {
+        return;
+    };
+    if all.add_entry(log, *entry) {
+        return;
+    }
+    for _ in rt.forever() {}
+    unreachable!()
 }

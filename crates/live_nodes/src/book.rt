@@ -1,13 +1,15 @@
 //! A node with its history.
 
-ghost use Rattle.live_nodes.specs.Books.{IsRecorded};
+ghost use Rattle.live_nodes.specs.Books.{IsRecorded, updates_in, updates_of};
 ghost use Rattle.live_nodes.specs.Histories.{IsLegal, replay};
 ghost use Rattle.live_nodes.specs.Loans.{AreTrueFactsOf};
-ghost use Rattle.live_nodes.specs.Updates.{state_of, with_update};
+ghost use Rattle.live_nodes.specs.Updates.{state_of, with_update, with_updates};
 ghost use Rattle.live_nodes.specs.declared.event.Event.TheVariants.{Kept, Lent, Restarted, Took};
 ghost use Rattle.held_facts.specs.Answers.{IsLendFault};
+ghost use Rattle.held_facts.specs.HeldAnswers.{lacks};
 ghost use Rattle.held_facts.specs.HeldFacts.{HoldsTrueFacts};
 ghost use Rattle.node_state.specs.States.{facts_in, lent, retired_in};
+ghost use Rattle.std.specs.List.{list_any};
 ghost use Rattle.std.specs.Prelude.{◌≡◌, ◌++◌, ◌∷◌, [], IfErr, IfOk, OnErr, OnOk, length};
 ghost use Rattle.updates.specs.TrueUpdates.{AreTrue};
 
@@ -30,6 +32,8 @@ pub struct NodeBook<C: NamedCatalog, S: FactStore = TableFacts> {
     alloc: Global,
     held: NodeState<S>,
     kept: NodeState<S>,
+    // How many events there were up to the last keep or restart, both included.
+    since: usize,
     history: Vec<Event>,
     of: PhantomData<C>,
 }
@@ -43,7 +47,7 @@ impl<C: NamedCatalog, S: FactStore> Model for NodeBook<C, S> {
 
     ghost view = { λ book. book.history.items };
 
-    ghost invariant = { λ book. IsBook C.catalog book.held book.kept book.history.items };
+    ghost invariant = { λ book. IsBook C.catalog book.held book.kept book.since book.history.items };
 }
 
 impl<C: NamedCatalog, S: FactStore> NodeBook<C, S> {
@@ -58,6 +62,7 @@ impl<C: NamedCatalog, S: FactStore> NodeBook<C, S> {
             alloc,
             held: NodeState::new(alloc),
             kept: NodeState::new(alloc),
+            since: 0,
             history: Vec::new(alloc),
             of: PhantomData,
         }
@@ -77,6 +82,18 @@ impl<C: NamedCatalog, S: FactStore> NodeBook<C, S> {
         ensures truth { HoldsTrueFacts C.catalog result.now.facts }
     {
         &self.kept
+    }
+
+    /// Whether nothing is held of one of the keys. It is not recorded.
+    pub fn lacks_any_key(&self, keys: &[Key]) -> bool
+        ensures lacking { result ≡ list_any (lacks (replay self.now).held.facts) keys.now }
+        ensures legal { IsLegal self.now }
+        ensures truth { HoldsTrueFacts C.catalog (replay self.now).held.facts }
+    {
+        // `history` ensures that it is legal.
+        let _ = self.history();
+        let held = self.held().held();
+        keys.iter().any(|key| held.count_facts_of_key(key) == 0)
     }
 
     /// All events so far.
@@ -151,18 +168,21 @@ impl<C: NamedCatalog, S: FactStore> NodeBook<C, S> {
         Ok(number)
     }
 
-    /// Keeps what is held, and records it. What is kept shares its facts with what is held.
+    /// Keeps what is held, and records it. What is kept shares its facts with what is held. It takes time by what was taken since
+    /// the last keep or restart, and not by all that is held.
     pub fn keep(&mut self) -> Result<Receipt, AllocError>
         ensures recorded { IfOk result (IsRecorded self.old self.new Kept) }
         ensures unchanged { OnErr result (self.new ≡ self.old) }
     {
-        let kept = self.held.copy()?;
+        let (_, recent) = self.history.split_at(self.since);
+        let taken: NodeState<S> = build_node_book_state_from_events(self.alloc, recent)?;
         self.history.reserve(1)?;
-        let number = self.history.len() as u64;
-        self.kept = kept;
+        self.kept.merge(&taken)?;
+        let number = self.history.len();
         self.history.push_reserved(Event::Kept);
+        self.since = number + 1;
         Ok(Receipt {
-            number,
+            number: number as u64,
             event: Event::Kept,
         })
     }
@@ -174,11 +194,12 @@ impl<C: NamedCatalog, S: FactStore> NodeBook<C, S> {
     {
         let held = self.kept.copy()?;
         self.history.reserve(1)?;
-        let number = self.history.len() as u64;
+        let number = self.history.len();
         self.held = held;
         self.history.push_reserved(Event::Restarted);
+        self.since = number + 1;
         Ok(Receipt {
-            number,
+            number: number as u64,
             event: Event::Restarted,
         })
     }
@@ -203,10 +224,45 @@ fn build_node_book_state_from_updates<S: FactStore>(
     ensures { IfOk result (λ state. state ≡ state_of updates.now) }
 {
     let mut state = NodeState::new(alloc);
-    for update in updates {
-        apply_update_to_node_book_state(&mut state, update)?;
+    apply_updates_to_node_book_state(&mut state, updates)?;
+    Ok(state)
+}
+
+// What the updates that these events took make.
+fn build_node_book_state_from_events<S: FactStore>(
+    alloc: Global,
+    events: &[Event],
+) -> Result<NodeState<S>, AllocError>
+    ensures { IfOk result (λ state. state ≡ state_of (updates_in events.now)) }
+{
+    let mut state = NodeState::new(alloc);
+    for event in events {
+        apply_updates_to_node_book_state(&mut state, borrow_updates_of_node_event(event))?;
     }
     Ok(state)
+}
+
+// The updates that an event took.
+fn borrow_updates_of_node_event(event: &Event) -> &[Update]
+    ensures { result.now ≡ updates_of event.now }
+{
+    match event {
+        Event::Took(updates) => updates.as_slice(),
+        Event::Lent(_, _) | Event::Kept | Event::Restarted => &[],
+    }
+}
+
+// Takes updates into a state, one after another.
+fn apply_updates_to_node_book_state<S: FactStore>(
+    state: &mut NodeState<S>,
+    updates: &[Update],
+) -> Result<(), AllocError>
+    ensures { OnOk result (state.new ≡ with_updates state.old updates.now) }
+{
+    for update in updates {
+        apply_update_to_node_book_state(state, update)?;
+    }
+    Ok(())
 }
 
 // Takes an update into a state.

@@ -4,7 +4,7 @@ ghost use Rattle.live_nodes.specs.Histories.{IsLegal, replay};
 ghost use Rattle.live_nodes.specs.Loans.{AreTrueFactsOf};
 ghost use Rattle.live_nodes.specs.declared.event.Event.TheVariants.{Kept, Lent, Restarted, Took};
 ghost use Rattle.held_facts.specs.HeldFacts.{HoldsTrueFacts};
-ghost use Rattle.live_nodes.specs.Ends.{HaveAllReceipts, IsAsked, IsSomeCloseFault, calls_of, receipts_of};
+ghost use Rattle.live_nodes.specs.Ends.{HaveAllReceipts, IsAsked, IsSomeCloseFault, IsSomeLook, calls_of, receipts_of};
 ghost use Rattle.live_nodes.specs.Accounts.{AccountFor};
 ghost use Rattle.std.specs.Prelude.{◌≡◌, ◌+◌, All, IfErr, IfOk, OnErr, OnOk, length};
 ghost use Rattle.updates.specs.TrueUpdates.{AreTrue};
@@ -54,6 +54,13 @@ impl<C: NamedCatalog> LiveNode<C> {
         ensures { IfOk result (λ state. HoldsTrueFacts C.catalog state.facts) }
     {
         self.book.lock(rt).held().copy()
+    }
+
+    /// Whether nothing is held of one of the keys, as `NodeBook::lacks_any_key` tells. It is not recorded.
+    pub fn lacks_any_key<R: Wait>(&self, rt: &R, keys: &[Key]) -> bool
+        ensures { IsSomeLook C.catalog keys.now result }
+    {
+        self.book.lock(rt).lacks_any_key(keys)
     }
 
     /// Lends the facts of the keys, as `NodeBook::lend` does: the one true fact of each, rising, and the identities of retired

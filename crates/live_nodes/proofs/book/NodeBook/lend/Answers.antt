@@ -12,7 +12,7 @@ invariant_of-self-2 g c =
     let pushed : c.push_reserved.new.self.items ≡ s.history.items ++ Lent c.args.keys.now c.in_ok-retired.retired.items ∷ [] =
     search rules in
     let told : c.in_ok-retired.retired.items ≡ retired_in s.held = search rules in
-    rw pushed (book_lent g.C.NamedCatalog.catalog _ _ _ c.args.keys.now _ c.self.invariant c.in_ok-facts.ensures.held told)
+    rw pushed (book_lent g.C.NamedCatalog.catalog _ _ _ _ c.args.keys.now _ c.self.invariant c.in_ok-facts.ensures.held told)
 
 pub returns-clause-truth : goal.returns-clause-truth
 returns-clause-truth g c =

@@ -10,4 +10,4 @@ invariant_of-self-2 g c =
     let s = c.self.inside in
     let joined : c.merge.new.self ≡ join s.held (state_of c.args.updates.now) = search rules in
     let pushed : c.push_reserved.new.self.items ≡ s.history.items ++ Took c.args.updates.now ∷ [] = search rules in
-    rw (pushed, joined) (book_took g.C.NamedCatalog.catalog _ _ _ c.args.updates.now c.self.invariant c.requires)
+    rw (pushed, joined) (book_took g.C.NamedCatalog.catalog _ _ _ _ c.args.updates.now c.self.invariant c.requires)

@@ -1,0 +1,18 @@
+use Rattle.std.proofs.Common.{sym, ◌∙◌, ap}
+use Rattle.std.specs.Prelude.{[], ◌∷◌, ◌++◌}
+use Rattle.leases.specs.Logs.{IsLegalLog}
+use Rattle.leases.proofs.Adding.{adds_moves}
+use Rattle.leases.proofs.log.SeenLeases.add_entry.Goals as goal
+
+pub compare_exchange-found-requires : goal.compare_exchange-found-requires
+compare_exchange-found-requires g c =
+    let h = c.args.log.now.head_is in
+    let offer = c.plain-offer.ensures in
+    let pen = c.no_pen-pen.ensures in
+    let may : IsLegalLog (c.self.inside.seen.log ++ c.args.entry ∷ []) = rw c.self.view_is c.requires.legal in (
+      ap (λ w. w.tracked) h,
+      c.self.invariant.1 ∙ sym (ap (λ w. w.book) h),
+      pen.0 ∙ (c.self.invariant.1 ∙ sym (ap (λ w. w.book) h)),
+      offer.0,
+      rw (ap (λ w. w.key) h, pen.1, offer.1, offer.3) (adds_moves c.self.inside.seen.log c.args.entry c.self.inside.count (sym c.self.invariant.0) may),
+    )
