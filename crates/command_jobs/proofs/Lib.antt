@@ -1,2 +1,5 @@
 pub mod TotalLines
 pub mod SideLaws
+pub mod TotalNames
+pub mod TotalWords
+pub mod TotalTables

@@ -1,4 +1,5 @@
 pub mod Evaluation
 pub mod RequestedSchedule
 pub mod Results
+pub mod TotalTables
 pub mod inside

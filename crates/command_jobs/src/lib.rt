@@ -5,6 +5,7 @@
 #![tactic(auto)]
 
 mod evaluation;
+pub mod laws;
 mod result_reply;
 mod schedule;
 mod totals;

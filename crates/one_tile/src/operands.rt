@@ -1,9 +1,10 @@
 #![tactic(auto)]
 //! The capacity that the operands of formulas need.
 
-ghost use Rattle.std.specs.Prelude.{◌≡◌, map, length, IfSome};
+ghost use Rattle.std.specs.Prelude.{◌≡◌, map, length};
 ghost use Rattle.job.specs.Kept.{pipeline_in};
 ghost use Rattle.overlap_tiles.specs.Views.{step_view};
+ghost use Rattle.tile_eval.specs.Counted.{IsLeast};
 ghost use Rattle.one_tile.specs.inside.Steps.{HasStepRoom, HasStepsRoom};
 
 use crate::steps::find_tile_step_function;
@@ -11,9 +12,9 @@ use job::Job;
 use overlap_tiles::TileStep;
 use tile_eval::compute_operand_capacity_of_function;
 
-// The capacity for the operands of a step, if it can be counted; 0 for a stage that is no function.
+// The least capacity for the operands of a step, if that many numbers can be counted; 0 for a stage that is no function.
 fn compute_operand_capacity_of_tile_step(job: &Job, step: &TileStep) -> Option<usize>
-    ensures { IfSome result (HasStepRoom (pipeline_in job.now) (step_view step.now)) }
+    ensures { IsLeast (HasStepRoom (pipeline_in job.now) (step_view step.now)) result }
 {
     match find_tile_step_function(job, step.stage) {
         Some(function) => compute_operand_capacity_of_function(
@@ -24,9 +25,9 @@ fn compute_operand_capacity_of_tile_step(job: &Job, step: &TileStep) -> Option<u
     }
 }
 
-/// A capacity for the operands of each of these steps, if it can be counted.
+/// The least capacity for the operands of each of these steps, if that many numbers can be counted.
 pub(crate) fn find_greatest_tile_operand_capacity(job: &Job, steps: &[TileStep]) -> Option<usize>
-    ensures { IfSome result (HasStepsRoom (pipeline_in job.now) (map step_view steps.now)) }
+    ensures { IsLeast (HasStepsRoom (pipeline_in job.now) (map step_view steps.now)) result }
 {
     let mut room = 0;
     for step in steps {

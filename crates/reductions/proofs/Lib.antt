@@ -6,3 +6,4 @@ pub mod GatherOnto
 pub mod TilesJoinInTurn
 pub mod TilesPartTotals
 pub mod WholeTotals
+pub mod RoomIsLeast

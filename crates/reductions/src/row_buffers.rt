@@ -1,13 +1,14 @@
 #![tactic(auto)]
 //! Row buffers for accumulators, kept from one area to the next.
 
-ghost use Rattle.std.specs.Prelude.{◌≡◌, ◌≤◌, ℤ, vec_len, IfSome, OnOk};
+ghost use Rattle.std.specs.Prelude.{◌≡◌, ◌≤◌, ℤ, vec_len, OnOk};
 ghost use Rattle.domains.specs.Area.{HoldsPoint};
 ghost use Rattle.domains.specs.Span.{len_of};
 ghost use Rattle.job.specs.Pipeline.{accumulator as accumulator_by};
 ghost use Rattle.job.specs.Totals.{body_totals};
 ghost use Rattle.job.specs.Views.{formula_view};
 ghost use Rattle.job.specs.WellFormed.{InDomainRange};
+ghost use Rattle.tile_eval.specs.Counted.{IsLeast};
 ghost use Rattle.reductions.specs.Bins.{joined_bins};
 ghost use Rattle.reductions.specs.Accumulating.{AreBins, HasFormulas, HasRoomAlong, ReadsAt};
 
@@ -17,9 +18,9 @@ use job::Accumulator;
 use std::alloc::{AllocError, Global};
 use tile_eval::{RowSource, compute_operand_capacity_of_formula};
 
-// The capacity for the operands of both formulas at `n` points, if it can be counted.
+// The least capacity for the operands of both formulas at `n` points, if that many numbers can be counted.
 fn compute_accumulator_buffer_capacity(accumulator: &Accumulator, n: usize) -> Option<usize>
-    ensures { IfSome result (HasRoomAlong accumulator.now n) }
+    ensures { IsLeast (HasRoomAlong accumulator.now n) result }
 {
     let value = compute_operand_capacity_of_formula(accumulator.value(), n)?;
     let bin = compute_operand_capacity_of_formula(accumulator.bin(), n)?;

@@ -1,22 +1,14 @@
-use Rattle.std.proofs.Common.{rules, arith, ◌≤◌, subst}
-use Rattle.job.specs.declared.formula.Formula.{Formula as KeptFormula}
-use Rattle.job.specs.Views.{formula_view}
-use Rattle.tile_eval.specs.Reading.{HasRoom}
-use Rattle.tile_eval.proofs.Gathering.{room_less}
+use Rattle.std.proofs.Common.{rules, arith}
+use Rattle.reductions.proofs.RoomIsLeast.{both_least, no_bin_room, no_value_room}
 use Rattle.reductions.proofs.row_buffers.compute_accumulator_buffer_capacity.Goals as goal
+
+pub returns-in_err-value : goal.returns-in_err-value
+returns-in_err-value c = no_value_room c.args.accumulator.now c.args.n c.from_residual.result (search rules) (search rules)
+
+pub returns-in_err-bin : goal.returns-in_err-bin
+returns-in_err-bin c = no_bin_room c.args.accumulator.now c.args.n c.from_residual-in_err-bin.result (search rules) (search rules)
 
 pub returns : goal.returns
 returns c =
-    let a = c.args.accumulator.now in
-    let n = c.args.n in
-    let first : HasRoom (formula_view c.value.result.now) n c.in_ok-value.value = search rules in
-    let second : HasRoom (formula_view c.bin.result.now) n c.in_ok-bin.bin = search rules in
-    let same : n ≤ n = omega arith in
-    let more : c.in_ok-value.value ≤ c.max.result = omega (arith, c.max.ensures) in
-    let enough : c.in_ok-bin.bin ≤ c.max.result = omega (arith, c.max.ensures) in
-    record {
-      value = room_less (formula_view a.value) n n c.in_ok-value.value c.max.result same more
-          (subst (λ (f : KeptFormula). HasRoom (formula_view f) n c.in_ok-value.value) c.value.ensures first);
-      bin = room_less (formula_view a.bin) n n c.in_ok-bin.bin c.max.result same enough
-          (subst (λ (f : KeptFormula). HasRoom (formula_view f) n c.in_ok-bin.bin) c.bin.ensures second);
-    }
+    both_least c.args.accumulator.now c.args.n c.in_ok-value.value c.in_ok-bin.bin c.max.result (omega (arith, c.max.ensures)) (search rules)
+    (search rules)
