@@ -3,4 +3,3 @@ pub mod NarrowAddends
 pub mod NarrowSums
 pub mod NarrowReady
 pub mod NarrowGroups
-pub mod NarrowSobel

@@ -7,7 +7,7 @@ use Rattle.std.proofs.Math.IntN.{+ℤ_idr, *ℤ-zero, zero-*ℤ, *ℤ_comm, *ℤ
 use Rattle.std.proofs.lemmas.Int.{ints, int_wrap_fits, int_wrap-add_same, int_wrap-add_right, int_wrap-mul_right, int_wrap-mul_left}
 use Rattle.std.proofs.lemmas.List.{take_more_set}
 use Rattle.std.proofs.lemmas.List.Elements.{All-append, All-cons, All-nil}
-use Rattle.domains.specs.Arithmetic.{wrapped, clamped}
+use Rattle.domains.specs.Arithmetic.{wrapped, clamped, floor_div}
 use Rattle.domains.proofs.Wrapping.{wrapped_is}
 use Rattle.row_loops.specs.Rows.{EachPlace, at}
 use Rattle.narrow_kernels.specs.declared.narrow_taps.NarrowTap.{NarrowTap}
@@ -273,6 +273,21 @@ written_from_nothing rest t y e h = h ∙ ap (int_wrap w16) (omega (arith, ints)
 pub taps_taken : (f t d : ℤ) (w : Bool) (x y : ℤ) → IsRest w x (f -ℤ (t +ℤ d)) → ((rest : ℤ) → IsRest w x rest → y ≡ int_wrap w16 (rest +ℤ t))
     → y ≡ int_wrap w16 (f -ℤ (pos 0 +ℤ d))
 taps_taken f t d w x y h taken = taken _ h ∙ ap (int_wrap w16) (omega (arith, ints))
+
+-- without differences, taps and a number complete a sum that is divided
+pub divided : (f t d n : ℤ) (w : Bool) (x y : ℤ) (m : ℕ) → d ≡ pos 0 → IsRest w x (f -ℤ (t +ℤ d))
+    → ((rest : ℤ) → IsRest w x rest → y ≡ floor_div (int_wrap w16 (rest +ℤ (t +ℤ n))) (pos m))
+    → y ≡ floor_div (int_wrap w16 (f +ℤ n)) (pos m)
+divided f t d n w x y m none h made =
+    made _ h ∙ ap (λ (z : ℤ). floor_div (int_wrap w16 z) (pos m)) (omega (arith, ints, none))
+
+pub no_differences : (sum : NarrowSum) (k : ℕ) → sum.difference_count ≡ 0
+    → narrow_difference_sum (take sum.difference_count sum.differences) k ≡ pos 0
+no_differences sum k d = rw d refl
+
+-- a sum and 0, wrapped, is the sum if that fits
+pub with_nothing : (a : ℤ) → FitsSigned w16 a → int_wrap w16 (a +ℤ pos 0) ≡ a
+with_nothing a fits = ap (int_wrap w16) (+ℤ_idr a) ∙ int_wrap_fits w16 a fits
 
 pub differences_taken : (f t d : ℤ) (w : Bool) (x y : ℤ) → IsRest w x (f -ℤ (t +ℤ d))
     → ((rest : ℤ) → IsRest w x rest → y ≡ int_wrap w16 (rest +ℤ d)) → y ≡ int_wrap w16 (f -ℤ (t +ℤ pos 0))

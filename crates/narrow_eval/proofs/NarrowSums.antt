@@ -1,85 +1,95 @@
--- Sums under kernels whose numbers have a bound.
-use Rattle.std.proofs.Common.{arith, ℕ, zero, suc, ℤ, ◌≡◌, ◌+◌, ◌*◌, ◌<◌, ◌≤◌, ◌-◌, pos, ◌+ℤ◌, ◌*ℤ◌, w16, w32, FitsSigned, unsigned_abs, sym, ap, ◌∙◌}
-use Rattle.std.proofs.Common.{List, [], ◌∷◌, length, take, drop, map, sum, le_trans, le_of_eq}
+-- Sums that are divided, and sums under kernels.
+use Rattle.std.proofs.Common.{arith, ℕ, zero, suc, ℤ, neg_ℤ, ◌≡◌, ◌+◌, ◌*◌, ◌/◌, ◌<◌, ◌≤◌, ◌-◌, ◌⊎◌, inl, inr, pos, negsuc, ◌+ℤ◌, ◌-ℤ◌, ◌*ℤ◌, ◌<ℤ◌, w16, w32, FitsSigned, unsigned_abs, sym, ap, ◌∙◌, refl, subst}
+use Rattle.std.proofs.Common.{List, length, take, drop, Bool, true, false}
 use Rattle.std.specs.Int.{int_wrap}
-use Rattle.std.proofs.Math.Nat.{add-mul, mul-le-mul_left}
-use Rattle.std.proofs.lemmas.Int.{ints, int_wrap_fits, unsigned_abs-mul}
-use Rattle.std.proofs.lemmas.List.Sums.{sum_by-cons}
+use Rattle.std.specs.Prelude.{if◌then◌else◌}
+use Rattle.std.proofs.Math.IntN.{+ℤ_idr, +ℤ-suc_ℤ, suc_ℤ-*ℤ}
+use Rattle.std.proofs.Math.Nat.{suc-mul, mul-le-mul_left, div-lt_iff_lt-mul}
+use Rattle.std.proofs.lemmas.Int.{ints, int_wrap_fits}
 use Rattle.std.proofs.lemmas.Grind.{common_steps}
-use Rattle.domains.specs.Arithmetic.{wrapped}
-use Rattle.job.specs.Values.{sum_below, factors, kernel_row, kernel_column, weighted_sum}
+use Rattle.domains.specs.Arithmetic.{wrapped, floor_div, floor_rem}
+use Rattle.domains.proofs.Floors.{floor_splits, floor_only}
+use Rattle.job.specs.Formula.{Formula, number, coordinate, read, unary, binary, ternary, literal, lookup, select, stencil}
+use Rattle.job.specs.Values.{Valuation, formula_value, factors, kernel_row}
 use Rattle.job.proofs.Agreeing.{sum_below-agrees}
+use Rattle.operators.specs.declared.operator.BinaryOp.TheVariants.{Add}
 use Rattle.row_loops.specs.Rows.{at}
-use Rattle.narrow_eval.specs.NarrowStencils.{line_total}
 use Rattle.tile_eval.specs.inside.Stencil.{row_sum, IsUnder}
 use Rattle.tile_eval.proofs.Sums.{under_shifted}
-use Rattle.std.proofs.Common.{Bool, true, false, subst}
-use Rattle.std.specs.Prelude.{if◌then◌else◌}
-use Rattle.job.specs.Formula.{Formula, number, coordinate, read, unary, binary, ternary, literal, lookup, select, stencil}
-use Rattle.job.specs.Values.{Valuation, formula_value}
-use Rattle.operators.specs.declared.operator.BinaryOp.TheVariants.{Add}
-use Rattle.value_ranges.specs.Narrow.{Fits16, IsNarrowStencil, kernel_weight}
+use Rattle.value_ranges.specs.Narrow.{Fits16, steps_before_division, sum_before_division}
+use Rattle.value_ranges.proofs.NarrowSums.{few_steps}
 use Rattle.narrow_eval.specs.NarrowFormulas.{FitsWithin, NarrowWithin}
+use Rattle.narrow_eval.specs.NarrowStencils.{line_total}
+use Rattle.narrow_eval.proofs.NarrowAddends.{same_add, same_wrapped}
 use Rattle.narrow_eval.proofs.NarrowRows.{quotient_fits}
 
-triangle : (a b : ℤ) → unsigned_abs (a +ℤ b) ≤ unsigned_abs a + unsigned_abs b
-triangle a b = omega (arith, ints)
+-- ---- sums that are divided
 
--- f 0 + .. + f (n - 1)
-abbrev nat_sum_below : ℕ → (ℕ → ℕ) → ℕ
-nat_sum_below zero f = 0
-nat_sum_below (suc n) f = nat_sum_below n f + f n
+-- the sum at 16 bits is that at 32, with a number that makes it fit
+pub sum_with_number : (z n s : ℤ) → wrapped z +ℤ n ≡ s → Fits16 s → int_wrap w16 (z +ℤ n) ≡ s
+sum_with_number z n s e fits =
+    sym (same_add (wrapped z) z n n (same_wrapped z) refl) ∙ ap (int_wrap w16) e ∙ int_wrap_fits w16 s fits
 
--- a sum lies no further from 0 than the bounds of its parts, added up
-sum_bounded : (n : ℕ) (f : ℕ → ℤ) (g : ℕ → ℕ) → ((k : ℕ) → k < n → unsigned_abs (f k) ≤ g k) → unsigned_abs (sum_below n f) ≤ nat_sum_below n g
-sum_bounded zero f g h = omega arith
-sum_bounded (suc n) f g h =
-    let before = sum_bounded n f g (λ k l. h k (omega arith)) in
-    let last = h n (omega arith) in
-    let both = triangle (sum_below n f) (f n) in
-    omega (arith, before, last, both)
+times_sum : (q : ℤ) (m d : ℕ) → (q +ℤ pos m) *ℤ pos d ≡ q *ℤ pos d +ℤ pos (m * d)
+times_sum q zero d = let none : 0 * d ≡ 0 = omega arith in ap (λ (z : ℤ). z *ℤ pos d) (+ℤ_idr q) ∙ omega (arith, ints, none)
+times_sum q (suc m) d =
+    let product : suc m * d ≡ m * d + d = suc-mul m d in
+    ap (λ (z : ℤ). z *ℤ pos d) (+ℤ-suc_ℤ q (pos m)) ∙ suc_ℤ-*ℤ (q +ℤ pos m) (pos d) ∙ ap (λ (z : ℤ). z +ℤ pos d) (times_sum q m d)
+    ∙ omega (arith, ints, product)
 
--- the first number of a sum, and the others
-first_apart : (n : ℕ) (f : ℕ → ℕ) → nat_sum_below (suc n) f ≡ f 0 + nat_sum_below n (λ k. f (suc k))
-first_apart zero f = omega arith
-first_apart (suc n) f = let e = first_apart n f in omega (arith, e)
+-- a quotient is as much more as divisors are added to what is divided
+pub quotient_in_steps : (s x : ℤ) (m d : ℕ) → 0 < d → x ≡ s -ℤ pos (m * d) → floor_div x (pos d) +ℤ pos m ≡ floor_div s (pos d)
+quotient_in_steps s x m d some is =
+    let above : pos 0 <ℤ pos d = omega (arith, ints) in
+    let f = floor_splits x (pos d) above in
+    let split = f.split in
+    let times = times_sum (floor_div x (pos d)) m d in
+    (floor_only s (pos d) (floor_div x (pos d) +ℤ pos m) (floor_rem x (pos d)) above record {
+      split = omega (arith, ints, split, times, is);
+      least = f.least;
+      below = f.below;
+    }).0
 
--- the factors of a row without their signs, each times the bound
-row_bound : (xs : List ℤ) (bound : ℕ) → nat_sum_below (length xs) (λ b. unsigned_abs (at xs b) * bound) ≡ sum (map unsigned_abs xs) * bound
-row_bound [] bound = omega arith
-row_bound (x ∷ xs) bound =
-    first_apart (length xs) (λ b. unsigned_abs (at (x ∷ xs) b) * bound)
-    ∙ ap (λ (m : ℕ). unsigned_abs x * bound + m) (row_bound xs bound)
-    ∙ sym (add-mul (unsigned_abs x) (sum (map unsigned_abs xs)) bound)
-    ∙ ap (λ (m : ℕ). m * bound) (sym (sum_by-cons (λ (y : ℕ). y) (unsigned_abs x) (map unsigned_abs xs)))
+small_quotient : (n d : ℕ) → n ≤ 65535 → 2 ≤ d → n / d < 32768
+small_quotient n d few two =
+    let twice : 32768 * 2 ≤ 32768 * d = mul-le-mul_left 32768 two in
+    (div-lt_iff_lt-mul (omega (arith, two))).1 (omega (arith, twice, few))
 
-rows_bound : (kernel : List (List ℤ)) (bound : ℕ)
-    → nat_sum_below (length kernel) (λ a. sum (map unsigned_abs (factors kernel a)) * bound) ≡ kernel_weight kernel * bound
-rows_bound [] bound = omega arith
-rows_bound (x ∷ xs) bound =
-    first_apart (length xs) (λ a. sum (map unsigned_abs (factors (x ∷ xs) a)) * bound)
-    ∙ ap (λ (m : ℕ). sum (map unsigned_abs x) * bound + m) (rows_bound xs bound)
-    ∙ sym (add-mul (sum (map unsigned_abs x)) (kernel_weight xs) bound)
-    ∙ ap (λ (m : ℕ). m * bound) (sym (sum_by-cons (λ (y : ℕ). y) (sum (map unsigned_abs x)) (map (λ row. sum (map unsigned_abs row)) xs)))
+-- the quotient of twice as many numbers as 16 bits have fits in them
+great_quotient_fits : (s : ℤ) (d : ℕ) → unsigned_abs s ≤ 65535 → 2 ≤ d → Fits16 (floor_div s (pos d))
+great_quotient_fits (pos n) d few two = let small = small_quotient n d (omega (arith, ints, few)) two in omega (arith, ints, small)
+great_quotient_fits (negsuc n) d few two = let small = small_quotient n d (omega (arith, ints, few)) two in omega (arith, ints, small)
 
-pub sum_fits : (kernel : List (List ℤ)) (f : ℤ → ℤ → ℤ) (r c : ℤ) → IsNarrowStencil f kernel r c → unsigned_abs (weighted_sum kernel f r c) ≤ 32767
-sum_fits kernel f r c h =
-    le_trans
-    (sum_bounded (length kernel) (row_sum kernel f r c) (λ a. sum (map unsigned_abs (factors kernel a)) * h.bound) (λ a l.
-    le_trans
-    (sum_bounded (length (factors kernel a)) _ (λ b. unsigned_abs (at (factors kernel a) b) * h.bound) (λ b m.
-    le_trans
-    (le_of_eq (unsigned_abs-mul (at (factors kernel a) b) (f (kernel_row kernel r a) (kernel_column kernel c b))))
-    (mul-le-mul_left (unsigned_abs (at (factors kernel a) b)) (h.each a b l m))))
-    (le_of_eq (row_bound (factors kernel a) h.bound))))
-    (le_trans (le_of_eq (rows_bound kernel h.bound)) h.weight)
+-- the quotient of a sum that fits without some divisors fits too
+pub stepped_quotient_fits : (s : ℤ) (d : ℕ) → Fits16 (sum_before_division d s) → Fits16 (floor_div s (pos d))
+stepped_quotient_fits s d h = by (few_steps d)
+  where
+    by : (steps_before_division d ≡ 0) ⊎ ((129 ≤ d) × (steps_before_division d * d ≤ 32768)) → Fits16 (floor_div s (pos d))
+    by (inl none) =
+        let nothing : steps_before_division d * d ≡ 0 = rw none (omega arith) in
+        let same : sum_before_division d s ≡ s = omega (arith, ints, nothing) in
+        quotient_fits s d (subst (λ (z : ℤ). Fits16 z) same h)
+    by (inr (great, few)) =
+        great_quotient_fits s d (omega (arith, ints, h, few)) (omega (arith, great))
 
--- the sum is the same at 16 and at 32 bits
-pub same_at_both : (z x : ℤ) → unsigned_abs z ≤ 32767 → x ≡ int_wrap w16 z → x ≡ wrapped z
-same_at_both z x h e =
-    let short : FitsSigned w16 z = omega (arith, ints) in
-    let long : FitsSigned w32 z = omega (arith, ints) in
-    e ∙ int_wrap_fits w16 z short ∙ sym (int_wrap_fits w32 z long)
+-- the quotient of a sum from the one without some divisors
+pub value_in_steps : (z n : ℤ) (m d : ℕ) → 0 < d → n ≡ neg_ℤ (pos (m * d)) → Fits16 (wrapped z -ℤ pos (m * d))
+    → floor_div (int_wrap w16 (z +ℤ n)) (pos d) +ℤ pos m ≡ floor_div (wrapped z) (pos d)
+value_in_steps z n m d some is fits =
+    ap (λ (y : ℤ). floor_div y (pos d) +ℤ pos m) (sum_with_number z n (wrapped z -ℤ pos (m * d)) (omega (arith, ints, is)) fits)
+    ∙ quotient_in_steps (wrapped z) (wrapped z -ℤ pos (m * d)) m d some refl
+
+-- without any the quotient is of the sum itself
+pub value_without_steps : (z n : ℤ) (m d : ℕ) → 0 < d → m ≡ 0 → n ≡ neg_ℤ (pos (m * d)) → Fits16 (wrapped z -ℤ pos (m * d))
+    → floor_div (int_wrap w16 (z +ℤ n)) (pos d) ≡ floor_div (wrapped z) (pos d)
+value_without_steps z n m d some none is fits =
+    let quotient = floor_div (int_wrap w16 (z +ℤ n)) (pos d) in
+    sym (ap (λ (i : ℕ). quotient +ℤ pos i) none ∙ +ℤ_idr quotient) ∙ value_in_steps z n m d some is fits
+
+pub wrapped_value : (v : ℤ) → Fits16 v → wrapped v ≡ v
+wrapped_value v fits = let long : FitsSigned w32 v = omega (arith, ints, fits) in int_wrap_fits w32 v long
+
+-- ---- stencils
 
 -- a line under row a of a kernel gives what the row adds
 pub row_total_is : (kernel : List (List ℤ)) (f : ℤ → ℤ → ℤ) (r c : ℤ) (a k : ℕ) (line : List ℤ) → IsUnder kernel f r c a line
@@ -128,11 +138,7 @@ narrow_fits env r c n (literal op a m) h = h.1
 narrow_fits env r c n (lookup t a) h = λ k l. absurd (h k l)
 narrow_fits env r c n (select a relation b x y) h = λ k l.
     one_of_both _ _ _ (narrow_fits env r c n x h.2 k l) (narrow_fits env r c n y h.3 k l)
-narrow_fits env r c n (stencil g divisor kernel) h = λ k l.
-    let small = sum_fits kernel (env g) r (c +ℤ pos k) (h k l) in
-    let short : FitsSigned w16 (weighted_sum kernel (env g) r (c +ℤ pos k)) = omega (arith, ints, small) in
-    let long : FitsSigned w32 (weighted_sum kernel (env g) r (c +ℤ pos k)) = omega (arith, ints, small) in
-    quotient_fits _ divisor (subst (λ (z : ℤ). FitsSigned w16 z) (sym (int_wrap_fits w32 _ long)) short)
+narrow_fits env r c n (stencil g divisor kernel) h = λ k l. stepped_quotient_fits _ divisor (h k l)
 
 -- a sum of narrow numbers, exactly
 pub sum_is : (x m a b : ℤ) → x ≡ a → m ≡ b → Fits16 a → Fits16 b → x +ℤ m ≡ wrapped (a +ℤ b)

@@ -22,4 +22,4 @@ NarrowWithin env (literal op a m) r c n = NarrowWithin env a r c n × FitsWithin
 NarrowWithin env (lookup t a) r c n = EachPlace n (λ k. ⊥)
 NarrowWithin env (select a relation b first second) r c n =
     NarrowWithin env a r c n × NarrowWithin env b r c n × NarrowWithin env first r c n × NarrowWithin env second r c n
-NarrowWithin env (stencil g divisor kernel) r c n = EachPlace n (λ k. IsNarrowStencil (env g) kernel r (c +ℤ pos k))
+NarrowWithin env (stencil g divisor kernel) r c n = EachPlace n (λ k. IsNarrowStencil (env g) divisor kernel r (c +ℤ pos k))

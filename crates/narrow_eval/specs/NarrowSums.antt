@@ -2,8 +2,8 @@
 use Rattle.std.specs.Prelude.{ℕ, ◌≡◌, ◌≤◌, ℤ, pos, ◌+ℤ◌, ◌-ℤ◌, neg_ℤ, Bool, true, false, if◌then◌else◌, List, length, take}
 use Rattle.std.specs.Int.{w16, int_wrap}
 use Rattle.row_loops.specs.Rows.{EachPlace, at}
-use Rattle.narrow_kernels.specs.NarrowTaps.{tap_at, tap_sum, HaveTapLines}
-use Rattle.narrow_kernels.specs.NarrowDifferences.{narrow_difference_at, narrow_difference_sum, HaveDifferenceLines}
+use Rattle.narrow_kernels.specs.NarrowTaps.{tap_sum, HaveTapLines}
+use Rattle.narrow_kernels.specs.NarrowDifferences.{narrow_difference_sum, HaveDifferenceLines}
 use Rattle.job.specs.Formula.{Formula, number, coordinate, read, unary, binary, ternary, literal, lookup, select, stencil}
 use Rattle.operators.specs.declared.operator.BinaryOp.{BinaryOp}
 use Rattle.operators.specs.declared.operator.BinaryOp.TheVariants.{Add, Sub, Mul, Min, Max}
@@ -46,15 +46,15 @@ first_addend (stencil g divisor kernel) = stencil g divisor kernel
 abbrev pub waiting_at : NarrowSum → ℕ → ℤ
 waiting_at sum k = tap_sum (take sum.tap_count sum.taps) k +ℤ narrow_difference_sum (take sum.difference_count sum.differences) k
 
--- there is space for five taps and four clamped differences
+-- there is space for nine taps and four clamped differences
 pub record HasSpace (sum : NarrowSum) : Type 0 where
-  pub taps : length sum.taps ≡ 5
+  pub taps : length sum.taps ≡ 9
   pub differences : length sum.differences ≡ 4
 
 -- the addends are no more than there is space for, and each of their lines has n numbers
 pub record HasAddends (n : ℕ) (sum : NarrowSum) : Type 0 where
   pub space : HasSpace sum
-  pub tap_count : sum.tap_count ≤ 5
+  pub tap_count : sum.tap_count ≤ 9
   pub taps : HaveTapLines n (take sum.tap_count sum.taps)
   pub difference_count : sum.difference_count ≤ 4
   pub differences : HaveDifferenceLines n (take sum.difference_count sum.differences)

@@ -15,6 +15,7 @@ mod narrow_source;
 mod narrow_stencils;
 mod narrow_sum;
 mod narrow_sum_formulas;
+mod narrow_sum_quotients;
 
 pub use narrow_cases::evaluate_narrow_function;
 pub use narrow_formulas::evaluate_narrow_formula;

@@ -3,8 +3,6 @@
 
 ghost use Rattle.std.specs.Prelude.{◌≡◌, ◌≤◌, ◌-◌, ℕ, ◌+◌, ◌+ℤ◌, ℤ, pos, length, List, IsTrue};
 ghost use Rattle.job.specs.Values.{Valuation, formula_value, unary_value};
-ghost use Rattle.operators.specs.Limits.{IsLiteral};
-ghost use Rattle.operators.specs.Values.{literal_value};
 ghost use Rattle.job.specs.WellFormed.{IsFormula};
 ghost use Rattle.job.specs.Views.{formula_view};
 ghost use Rattle.narrow_kernels.specs.NarrowOperands.{narrow_operand_at, ServesNarrow, IsGivenNarrow};
@@ -15,17 +13,15 @@ ghost use Rattle.narrow_eval.specs.NarrowFormulas.{NarrowWithin};
 ghost use Rattle.narrow_eval.specs.NarrowOperators.{JoinsTwo};
 
 use crate::narrow_points::NarrowPoints;
-use crate::narrow_reads::{
-    find_narrow_formula_constant, find_narrow_formula_number, is_borrowable_narrow_read,
-};
+use crate::narrow_reads::{find_narrow_formula_number, is_borrowable_narrow_read};
 use crate::narrow_source::NarrowSource;
 use job::Formula;
 use narrow_kernels::{
     NarrowOperand, fill_narrow_row, write_narrow_absolute_differences, write_narrow_binary_results,
-    write_narrow_literal_op_results, write_narrow_literal_op_results_of_sums,
-    write_narrow_selection, write_narrow_ternary_results, write_narrow_unary_results,
+    write_narrow_literal_op_results, write_narrow_selection, write_narrow_ternary_results,
+    write_narrow_unary_results,
 };
-use operators::{BinaryOp, LiteralOp, UnaryOp};
+use operators::{BinaryOp, UnaryOp};
 use row_kernels::RowSpan;
 
 // A formula as an operand along a row of points: what is available, or values computed into `own`.
@@ -233,42 +229,6 @@ impl<'a, S: NarrowSource> NarrowPoints<'a, S> {
         write_narrow_binary_results(*op, out, left, right);
     }
 
-    // The results of an operator on a formula and a literal, if the formula adds a number of the text at last. Returns whether it does.
-    #[cycle(evaluate_narrow)]
-    fn try_narrow_sum_under_literal_op(
-        &self,
-        op: LiteralOp,
-        formula: &Formula,
-        literal: u32,
-        out: &mut [i16],
-        temps: &mut [i16],
-    ) -> bool
-        requires literal { IsLiteral op literal }
-        requires fits { length out.old ≡ self.now.points.len }
-        requires formula { IsFormula (formula_view formula.now) }
-        requires narrow { NarrowWithin (S.samples self.now.source.now) (formula_view formula.now)
-            self.now.points.row self.now.points.col (length out.old) }
-        requires reads { ReadsWithin (S.has self.now.source.now) (formula_view formula.now)
-            self.now.points.row self.now.points.col (length out.old) }
-        requires room { HasRoom (formula_view formula.now) (length out.old) (length temps.old) }
-        requires results { EachPlace (length out.old) (λ k. Fits16 (literal_value op
-            (formula_value (S.samples self.now.source.now)
-            (formula_view formula.now) self.now.points.row (self.now.points.col +ℤ pos k)) literal)) }
-        ensures { IsTrue result → EachPlace (length out.old) (λ k. at out.new k
-            ≡ literal_value op (formula_value (S.samples self.now.source.now)
-            (formula_view formula.now) self.now.points.row (self.now.points.col +ℤ pos k)) literal) }
-    {
-        let Formula::Binary(BinaryOp::Add, front, last) = formula else {
-            return false;
-        };
-        let Some(number) = find_narrow_formula_constant(last) else {
-            return false;
-        };
-        let left = self.borrow_or_write_narrow_formula(front, out, temps);
-        write_narrow_literal_op_results_of_sums(op, out, left, number, literal);
-        true
-    }
-
     // The values of a formula, whose reads take what the source has.
     #[cycle(evaluate_narrow)]
     pub(crate) fn evaluate_narrow(&self, formula: &Formula, out: &mut [i16], temps: &mut [i16])
@@ -321,7 +281,7 @@ impl<'a, S: NarrowSource> NarrowPoints<'a, S> {
                 write_narrow_ternary_results(*op, out, first, second, third);
             }
             Formula::Literal(op, a, number) => {
-                if self.try_narrow_sum_under_literal_op(*op, a, *number, out, temps) {
+                if self.try_divided_narrow_sum(*op, a, *number, out, temps) {
                     return;
                 }
                 let left = self.borrow_or_write_narrow_formula(a, out, temps);

@@ -1,16 +1,15 @@
 #![tactic(auto)]
 //! Stencils along rows of points, in 16 bits.
 
-ghost use Rattle.std.specs.Prelude.{◌≡◌, ◌<◌, ◌≤◌, ◌+◌, ◌^◌, ◌+ℤ◌, pos, suc, ℕ, ℤ, true, length, IfSome};
+ghost use Rattle.std.specs.Prelude.{◌≡◌, ◌<◌, ◌≤◌, ◌+◌, ◌*◌, ◌^◌, ◌+ℤ◌, pos, suc, neg_ℤ, ℕ, ℤ, true, length, IfSome};
 ghost use Rattle.std.specs.Int.{w16, int_wrap};
 ghost use Rattle.domains.specs.Arithmetic.{wrapped, floor_div};
 ghost use Rattle.job.specs.Values.{kernel_row, kernel_column, weighted_sum};
 ghost use Rattle.job.specs.WellFormed.{IsDivisor, IsKernel};
 ghost use Rattle.row_loops.specs.Rows.{EachPlace, at};
 ghost use Rattle.tile_eval.specs.Reading.{KernelWithin};
-ghost use Rattle.value_ranges.specs.Narrow.{IsNarrowStencil};
+ghost use Rattle.value_ranges.specs.Narrow.{IsNarrowStencil, steps_before_division};
 ghost use Rattle.tile_eval.specs.inside.Stencil.{IsUnder};
-ghost use Rattle.narrow_sobel.specs.Sobel.{is_sobel};
 ghost use Rattle.narrow_eval.specs.NarrowStencils.{rows_below, line_total};
 ghost use Rattle.narrow_eval.specs.NarrowSums.{HasAddends, GivesSum};
 
@@ -18,10 +17,10 @@ use crate::narrow_points::NarrowPoints;
 use crate::narrow_source::NarrowSource;
 use crate::narrow_sum::NarrowSum;
 use job::Kernel;
-use narrow_kernels::{NarrowOperand, write_narrow_literal_op_results};
-use narrow_sobel::{NarrowSobel, find_narrow_sobel, write_narrow_sobel_sums};
-use operators::LiteralOp;
+use narrow_kernels::{NarrowOperand, write_narrow_binary_results};
+use operators::BinaryOp;
 use row_kernels::RowSpan;
+use value_ranges::count_narrow_steps_before_division;
 
 // Adds the products of factors and the numbers of a line, which begins with those of the first factor.
 fn add_narrow_stencil_products<'a>(
@@ -66,18 +65,13 @@ pub fn borrow_narrow_stencil_line<'a, S: NarrowSource>(
     source.borrow_narrow_row(stage, row, col, count)
 }
 
-// By how many bits a division shifts to the right, if it does, and by fewer than 16.
-fn find_narrow_stencil_shift(divisor: u32) -> Option<u32>
-    requires { IsDivisor divisor }
-    ensures few { IfSome result (λ bits. bits < 16) }
-    ensures shift { IfSome result (λ bits. 2 ^ bits ≡ divisor) }
+// 0 less a number up to 2^15.
+#[tactic(auto, using(std::proofs::lemmas::Int::ints))]
+fn negate_narrow_stencil_number(number: u32) -> i16
+    requires { number ≤ 32768 }
+    ensures { result ≡ neg_ℤ (pos number) }
 {
-    let bits = divisor.ilog2();
-    if bits < 16 && divisor == 1 << bits {
-        Some(bits)
-    } else {
-        None
-    }
+    (-(number as i32)) as i16
 }
 
 impl<'a, S: NarrowSource> NarrowPoints<'a, S> {
@@ -111,63 +105,48 @@ impl<'a, S: NarrowSource> NarrowPoints<'a, S> {
         add_narrow_stencil_products(line, factors, sum, out);
     }
 
-    // The values of a stencil whose kernel is one of Sobel and whose divisor is a power of two. The sums are wrapped at 16 bits.
-    fn write_narrow_stencil_by_sobel(
-        &self,
-        stage: usize,
-        kernel: &Kernel,
-        sobel: NarrowSobel,
-        bits: u32,
-        out: &mut [i16],
-    )
-        requires bits { bits < 16 }
-        requires fits { length out.old ≡ self.now.points.len }
-        requires kernel { IsKernel kernel.now }
-        requires sobel { is_sobel sobel kernel.now ≡ true }
-        requires reads { KernelWithin (S.has self.now.source.now stage) kernel.now
-            self.now.points.row self.now.points.col (length out.old) }
-        ensures { EachPlace (length out.old) (λ k. at out.new k
-            ≡ floor_div (int_wrap w16 (weighted_sum kernel.now (S.samples self.now.source.now stage)
-            self.now.points.row (self.now.points.col +ℤ pos k))) (pos (2 ^ bits))) }
-    {
-        let count = out.len() + 2;
-        let points = &self.points;
-        let above = borrow_narrow_stencil_line(self.source, stage, kernel, 0, points, count);
-        let own = borrow_narrow_stencil_line(self.source, stage, kernel, 1, points, count);
-        let below = borrow_narrow_stencil_line(self.source, stage, kernel, 2, points, count);
-        write_narrow_sobel_sums(out, sobel, above, own, below, bits);
-    }
-
-    // The sums of a stencil, wrapped at 16 bits.
-    fn write_narrow_stencil_sums(&self, stage: usize, kernel: &Kernel, out: &mut [i16])
-        requires fits { length out.old ≡ self.now.points.len }
-        requires kernel { IsKernel kernel.now }
-        requires reads { KernelWithin (S.has self.now.source.now stage) kernel.now
-            self.now.points.row self.now.points.col (length out.old) }
-        ensures { EachPlace (length out.old) (λ k. at out.new k
-            ≡ int_wrap w16 (weighted_sum kernel.now (S.samples self.now.source.now stage)
-            self.now.points.row (self.now.points.col +ℤ pos k))) }
-    {
-        let mut sum = NarrowSum::of_no_narrow_addends();
-        for a in 0..kernel.as_slice().len() {
-            self.add_narrow_stencil_row(stage, kernel, a, &mut sum, out);
-        }
-        sum.write_narrow_sum(out);
-    }
-
-    // The values of a stencil, from the products of its factors.
-    fn evaluate_narrow_stencil_by_factors(
+    // The sums of a stencil and a number, wrapped at 16 bits and divided.
+    fn write_narrow_stencil_quotients(
         &self,
         stage: usize,
         divisor: u32,
         kernel: &Kernel,
+        number: i16,
         out: &mut [i16],
     )
         requires fits { length out.old ≡ self.now.points.len }
         requires divisor { IsDivisor divisor }
         requires kernel { IsKernel kernel.now }
+        requires reads { KernelWithin (S.has self.now.source.now stage) kernel.now
+            self.now.points.row self.now.points.col (length out.old) }
+        ensures { EachPlace (length out.old) (λ k. at out.new k
+            ≡ floor_div (int_wrap w16 (weighted_sum kernel.now (S.samples self.now.source.now stage)
+            self.now.points.row (self.now.points.col +ℤ pos k) +ℤ number)) (pos divisor)) }
+    {
+        let mut sum = NarrowSum::of_no_narrow_addends();
+        for a in 0..kernel.as_slice().len() {
+            self.add_narrow_stencil_row(stage, kernel, a, &mut sum, out);
+        }
+        sum.divide_narrow_sum(number, divisor, out);
+    }
+
+    // The values of a stencil, from its sums without whole divisors, of which there are `steps`.
+    fn write_narrow_stencil_in_steps(
+        &self,
+        stage: usize,
+        divisor: u32,
+        kernel: &Kernel,
+        steps: u32,
+        out: &mut [i16],
+    )
+        requires fits { length out.old ≡ self.now.points.len }
+        requires divisor { IsDivisor divisor }
+        requires kernel { IsKernel kernel.now }
+        requires steps { steps ≡ steps_before_division divisor }
+        requires few { steps ≤ 254 }
+        requires sum { steps * divisor ≤ 32768 }
         requires narrow { EachPlace (length out.old)
-            (λ k. IsNarrowStencil (S.samples self.now.source.now stage) kernel.now
+            (λ k. IsNarrowStencil (S.samples self.now.source.now stage) divisor kernel.now
             self.now.points.row (self.now.points.col +ℤ pos k)) }
         requires reads { KernelWithin (S.has self.now.source.now stage) kernel.now
             self.now.points.row self.now.points.col (length out.old) }
@@ -175,9 +154,11 @@ impl<'a, S: NarrowSource> NarrowPoints<'a, S> {
             ≡ floor_div (wrapped (weighted_sum kernel.now (S.samples self.now.source.now stage)
             self.now.points.row (self.now.points.col +ℤ pos k))) (pos divisor)) }
     {
-        self.write_narrow_stencil_sums(stage, kernel, out);
-        if divisor != 1 {
-            write_narrow_literal_op_results(LiteralOp::Div, out, NarrowOperand::Written, divisor);
+        let number = negate_narrow_stencil_number(steps * divisor);
+        self.write_narrow_stencil_quotients(stage, divisor, kernel, number, out);
+        if steps > 0 {
+            let steps = NarrowOperand::Number(steps as i16);
+            write_narrow_binary_results(BinaryOp::Add, out, NarrowOperand::Written, steps);
         }
     }
 
@@ -193,7 +174,7 @@ impl<'a, S: NarrowSource> NarrowPoints<'a, S> {
         requires divisor { IsDivisor divisor }
         requires kernel { IsKernel kernel.now }
         requires narrow { EachPlace (length out.old)
-            (λ k. IsNarrowStencil (S.samples self.now.source.now stage) kernel.now
+            (λ k. IsNarrowStencil (S.samples self.now.source.now stage) divisor kernel.now
             self.now.points.row (self.now.points.col +ℤ pos k)) }
         requires reads { KernelWithin (S.has self.now.source.now stage) kernel.now
             self.now.points.row self.now.points.col (length out.old) }
@@ -201,14 +182,7 @@ impl<'a, S: NarrowSource> NarrowPoints<'a, S> {
             ≡ floor_div (wrapped (weighted_sum kernel.now (S.samples self.now.source.now stage)
             self.now.points.row (self.now.points.col +ℤ pos k))) (pos divisor)) }
     {
-        match (
-            find_narrow_sobel(kernel),
-            find_narrow_stencil_shift(divisor),
-        ) {
-            (Some(sobel), Some(bits)) => {
-                self.write_narrow_stencil_by_sobel(stage, kernel, sobel, bits, out)
-            }
-            _ => self.evaluate_narrow_stencil_by_factors(stage, divisor, kernel, out),
-        }
+        let steps = count_narrow_steps_before_division(divisor);
+        self.write_narrow_stencil_in_steps(stage, divisor, kernel, steps, out);
     }
 }

@@ -3,6 +3,8 @@
 
 ghost use Rattle.std.specs.Prelude.{◌≡◌, ◌≤◌, ◌<◌, ◌+ℤ◌, ◌*ℤ◌, ℕ, ℤ, pos, length, true, false};
 ghost use Rattle.std.specs.Int.{w16, int_wrap};
+ghost use Rattle.domains.specs.Arithmetic.{floor_div};
+ghost use Rattle.operators.specs.Limits.{IsDivisor};
 ghost use Rattle.narrow_kernels.specs.NarrowTaps.{tap_at, tap_sum, HaveTapLines};
 ghost use Rattle.narrow_kernels.specs.NarrowDifferences.{narrow_difference_at, narrow_difference_sum, HaveDifferenceLines};
 ghost use Rattle.narrow_kernels.specs.NarrowCenters.{centered_tap_sum, IsCenter};
@@ -11,14 +13,15 @@ ghost use Rattle.job.specs.Values.{binary_value};
 ghost use Rattle.narrow_eval.specs.NarrowSums.{HasSpace, HasAddends, IsRest, Same16, GivesSum, adds, signed};
 
 use narrow_kernels::{
-    NarrowCenter, NarrowClampedDifference, NarrowTap, add_centered_narrow_tap_sums,
-    add_narrow_difference_sums, add_narrow_tap_sums, wrap_factor_to_narrow_number,
-    write_centered_narrow_tap_sums, write_narrow_difference_sums, write_narrow_tap_sums,
+    NarrowCenter, NarrowClampedDifference, NarrowTap, add_and_divide_narrow_tap_sums,
+    add_centered_narrow_tap_sums, add_narrow_difference_sums, add_narrow_tap_sums,
+    wrap_factor_to_narrow_number, write_centered_narrow_tap_sums, write_divided_narrow_tap_sums,
+    write_narrow_difference_sums, write_narrow_tap_sums,
 };
 use operators::BinaryOp;
 
 // How many addends of each kind are added in one pass.
-const TAPS: usize = 5;
+const TAPS: usize = 9;
 
 const DIFFERENCES: usize = 4;
 
@@ -105,6 +108,28 @@ fn add_centered_narrow_sum_taps_to_row(
     }
 }
 
+// Adds taps and a number to what a row has of a sum, and divides it, rounded down.
+fn divide_narrow_sum_of_row(
+    is_written: bool,
+    taps: &[NarrowTap<'_>],
+    number: i16,
+    divisor: u32,
+    out: &mut [i16],
+)
+    requires few { length taps.now ≤ 9 }
+    requires lines { HaveTapLines (length out.old) taps.now }
+    requires divisor { IsDivisor divisor }
+    ensures { EachPlace (length out.old) (λ k. (rest : ℤ) → IsRest is_written (at out.old k) rest
+        → at out.new k
+        ≡ floor_div (int_wrap w16 (rest +ℤ (tap_sum taps.now k +ℤ number))) (pos divisor)) }
+{
+    if is_written {
+        add_and_divide_narrow_tap_sums(out, taps, number, divisor);
+    } else {
+        write_divided_narrow_tap_sums(out, taps, number, divisor);
+    }
+}
+
 impl<'a> NarrowSum<'a> {
     /// A sum of nothing.
     pub(crate) fn of_no_narrow_addends() -> NarrowSum<'a>
@@ -182,7 +207,7 @@ impl<'a> NarrowSum<'a> {
     fn add_narrow_sum_taps_if_many(&mut self, out: &mut [i16])
         requires addends { HasAddends (length out.old) self.old }
         ensures addends { HasAddends (length out.old) self.new }
-        ensures space { self.new.tap_count < 5 }
+        ensures space { self.new.tap_count < 9 }
         ensures sum { (f : ℕ → ℤ) → GivesSum (length out.old) f self.old out.old
             → GivesSum (length out.old) f self.new out.new }
     {
@@ -309,6 +334,32 @@ impl<'a> NarrowSum<'a> {
     {
         self.add_last_narrow_sum_taps(out);
         self.add_last_narrow_sum_differences(out);
+    }
+
+    // Adds the clamped differences, if there are any.
+    fn add_narrow_sum_differences_if_any(&mut self, out: &mut [i16])
+        requires addends { HasAddends (length out.old) self.old }
+        ensures addends { HasAddends (length out.old) self.new }
+        ensures differences { self.new.difference_count ≡ 0 }
+        ensures sum { (f : ℕ → ℤ) → GivesSum (length out.old) f self.old out.old
+            → GivesSum (length out.old) f self.new out.new }
+    {
+        if self.difference_count > 0 {
+            self.add_narrow_sum_differences(out);
+        }
+    }
+
+    /// Writes the sum with a number, wrapped at 16 bits and divided, rounded down.
+    pub(crate) fn divide_narrow_sum(&mut self, number: i16, divisor: u32, out: &mut [i16])
+        requires addends { HasAddends (length out.old) self.old }
+        requires divisor { IsDivisor divisor }
+        ensures { (f : ℕ → ℤ) → GivesSum (length out.old) f self.old out.old
+            → EachPlace (length out.old) (λ k. at out.new k
+            ≡ floor_div (int_wrap w16 (f k +ℤ number)) (pos divisor)) }
+    {
+        self.add_narrow_sum_differences_if_any(out);
+        let taps = &self.taps[..self.tap_count];
+        divide_narrow_sum_of_row(self.is_written, taps, number, divisor, out);
     }
 
     /// Writes the sum, and adds a line to it or subtracts it.

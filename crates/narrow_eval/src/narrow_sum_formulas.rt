@@ -205,6 +205,31 @@ impl<'a, S: NarrowSource> NarrowPoints<'a, S> {
         }
     }
 
+    /// Makes a sum of all addends of a formula. One that has to be computed goes to the row, if it is the first, or is added to it.
+    #[cycle(evaluate_narrow)]
+    pub(crate) fn add_up_narrow_sum(
+        &self,
+        formula: &Formula,
+        sum: &mut NarrowSum<'a>,
+        out: &mut [i16],
+        temps: &mut [i16],
+    )
+        requires fits { length out.old ≡ self.now.points.len }
+        requires formula { IsFormula (formula_view formula.now) }
+        requires narrow { NarrowWithin (S.samples self.now.source.now) (formula_view formula.now)
+            self.now.points.row self.now.points.col (length out.old) }
+        requires reads { ReadsWithin (S.has self.now.source.now) (formula_view formula.now)
+            self.now.points.row self.now.points.col (length out.old) }
+        requires room { HasRoom (formula_view formula.now) (length out.old) (length temps.old) }
+        requires space { HasSpace sum.old }
+        ensures addends { HasAddends (length out.old) sum.new }
+        ensures sum { GivesSum (length out.old) (λ k. formula_value (S.samples self.now.source.now)
+            (formula_view formula.now) self.now.points.row (self.now.points.col +ℤ pos k)) sum.new out.new }
+    {
+        self.begin_narrow_sum(formula, sum, out, temps);
+        self.gather_narrow_sum(formula, sum, out, temps);
+    }
+
     /// Writes the values of a formula, if it is a sum whose last two addends or more need no computing. Returns whether it is.
     #[cycle(evaluate_narrow)]
     pub(crate) fn try_narrow_sum(

@@ -1,4 +1,5 @@
 pub mod NarrowReciprocals
+pub mod NarrowQuotients
 pub mod NarrowWraps
 pub mod NarrowSums
 pub mod NarrowColumns

@@ -1,5 +1,5 @@
 -- Affine maps of sums and of products.
-use Rattle.std.proofs.Common.{arith, ℕ, ◌/◌, ◌^◌, ℤ, ◌≡◌, pos, negsuc, ◌+ℤ◌, ◌*ℤ◌, subst, sym, refl, FitsSigned}
+use Rattle.std.proofs.Common.{arith, ℕ, ◌^◌, ℤ, ◌≡◌, pos, ◌+ℤ◌, ◌*ℤ◌, subst, sym, refl, FitsSigned}
 use Rattle.std.specs.Int.{w16}
 use Rattle.std.proofs.lemmas.Int.{ints}
 use Rattle.domains.specs.Arithmetic.{floor_div}

@@ -1,7 +1,7 @@
 -- Sums over lists whose first elements are taken by their places.
-use Rattle.std.proofs.Common.{arith, ℕ, ℤ, pos, ◌≡◌, ◌≤◌, ◌<◌, ◌-◌, ◌+ℤ◌, List, [], ◌∷◌, All, length, take, drop, ap, sym, subst, ◌∙◌}
+use Rattle.std.proofs.Common.{arith, ℕ, ℤ, pos, ◌≡◌, ◌≤◌, ◌<◌, ◌-◌, ◌+ℤ◌, List, [], ◌∷◌, All, length, take, drop, take-append-drop, ◌++◌, ap, sym, subst, ◌∙◌}
 use Rattle.std.specs.Prelude.{slice_index_or}
-use Rattle.std.proofs.Math.IntN.{+ℤ_assoc, +ℤ_idr}
+use Rattle.std.proofs.Math.IntN.{+ℤ_assoc, +ℤ_idl, +ℤ_idr}
 use Rattle.std.proofs.lemmas.List.{take_all, length-drop}
 use Rattle.std.proofs.lemmas.List.Elements.{All-take, All-drop}
 
@@ -21,7 +21,11 @@ module _ {A : Type 0} (f : A → ℤ) (sum : List A → ℤ) (none : sum [] ≡ 
     before : (x : A) (xs : List A) (y z : ℤ) → sum xs ≡ y +ℤ z → sum (x ∷ xs) ≡ (f x +ℤ y) +ℤ z
     before x xs y z e = one_more x xs (y +ℤ z) e ∙ sym (+ℤ_assoc (f x) y z)
 
-    -- one element, and up to four
+    -- none, one element, and up to four
+    pub sum_of_none : (xs : List A) → length xs < 1 → sum xs ≡ pos 0
+    sum_of_none [] few = none
+    sum_of_none (a ∷ xs) few = absurd (omega arith)
+
     pub sum_of_one : (xs : List A) (d : A) → 1 ≤ length xs → length xs < 2 → sum xs ≡ f (slice_index_or xs 0 d)
     sum_of_one [] d some few = absurd (omega arith)
     sum_of_one (a ∷ []) d some few = last a
@@ -82,3 +86,15 @@ module _ {A : Type 0} (f : A → ℤ) (sum : List A → ℤ) (none : sum [] ≡ 
         +ℤ (f (slice_index_or xs 1 d) +ℤ (f (slice_index_or xs 2 d) +ℤ (f (slice_index_or xs 3 d) +ℤ f (slice_index_or xs 4 d))))
         +ℤ sum (take (length xs - 5) (drop 5 xs))
     sum_with_five xs d some = taken _ xs 5 (all_of_five xs d some)
+
+    -- one list, and another
+    sum_joined : (xs ys : List A) → sum (xs ++ ys) ≡ sum xs +ℤ sum ys
+    sum_joined [] ys = sym (ap (λ (z : ℤ). z +ℤ sum ys) none ∙ +ℤ_idl (sum ys))
+    sum_joined (x ∷ xs) ys =
+        more x (xs ++ ys) ∙ ap (λ (z : ℤ). f x +ℤ z) (sum_joined xs ys) ∙ sym (+ℤ_assoc (f x) (sum xs) (sum ys))
+        ∙ ap (λ (z : ℤ). z +ℤ sum ys) (sym (more x xs))
+
+    -- the first elements, and the others
+    pub sum_split : (n : ℕ) (xs front back : List A) → front ≡ take n xs → back ≡ drop n xs → sum front +ℤ sum back ≡ sum xs
+    sum_split n xs front back e h =
+        (λ i. sum (e i) +ℤ sum (h i)) ∙ sym (sum_joined (take n xs) (drop n xs)) ∙ ap sum (take-append-drop n xs)

@@ -1,6 +1,5 @@
 pub mod NarrowOperands
 pub mod NarrowTaps
-pub mod NarrowClampedSums
 pub mod NarrowDifferences
 pub mod NarrowSources
 pub mod NarrowReciprocals

@@ -4,7 +4,7 @@
 //! operand, narrow unary, narrow binary, narrow ternary, narrow literal op, narrow quotient, narrow tap, narrow line, narrow term,
 //! narrow triple, narrow least, narrow greatest, narrow median, narrow difference, narrow clamped difference, narrow absolute, narrow
 //! selection, narrow index column, narrow place, narrow column, narrow affine, narrow extreme, narrow offset, prepend narrow addition,
-//! prepend narrow multiplication, prepend narrow right shift, narrow clamped sums, shifted narrow sum, narrow means, narrow column sums,
+//! prepend narrow multiplication, prepend narrow right shift, narrow means, narrow column sums,
 //! narrow block, narrow ninth, narrow ninths, narrow rests, narrow mean.
 #![tactic(auto)]
 
@@ -13,9 +13,9 @@ mod narrow_affine_extremes;
 mod narrow_affine_map;
 mod narrow_affine_steps;
 mod narrow_centers;
-mod narrow_clamped_sums;
 mod narrow_conversions;
 mod narrow_differences;
+mod narrow_divided_sums;
 mod narrow_gathering;
 mod narrow_loops;
 mod narrow_maps;
@@ -39,16 +39,13 @@ pub use narrow_affine_map::NarrowAffineMap;
 pub use narrow_centers::{
     NarrowCenter, add_centered_narrow_tap_sums, write_centered_narrow_tap_sums,
 };
-pub use narrow_clamped_sums::{
-    NarrowClampedShift, write_narrow_clamped_sums_of_three_taps,
-    write_narrow_clamped_sums_of_two_taps,
-};
 pub use narrow_conversions::{
     convert_samples_to_narrow_row, narrow_row_of_wide_numbers, widen_narrow_row,
 };
 pub use narrow_differences::{
     NarrowClampedDifference, add_narrow_difference_sums, write_narrow_difference_sums,
 };
+pub use narrow_divided_sums::{add_and_divide_narrow_tap_sums, write_divided_narrow_tap_sums};
 pub use narrow_gathering::gather_narrow_index_columns;
 pub use narrow_loops::fill_narrow_row;
 pub use narrow_masks::copy_narrow_row_where_mask_holds;
@@ -58,7 +55,6 @@ pub use narrow_operators::{
     write_narrow_absolute_differences, write_narrow_binary_results,
     write_narrow_literal_op_results, write_narrow_ternary_results, write_narrow_unary_results,
 };
-pub use narrow_reciprocal::{divide_narrow_number_by_five, divide_narrow_number_by_three};
 pub use narrow_selection::write_narrow_selection;
 pub use narrow_sums::write_narrow_literal_op_results_of_sums;
 pub use narrow_taps::{

@@ -9,7 +9,6 @@ ghost use Rattle.narrow_kernels.specs.NarrowCenters.{centered_tap_sum, IsCenter}
 ghost use Rattle.narrow_kernels.specs.NarrowNearTaps.{near_tap_at, near_tap_sum, factor_sum, near_quad_at, HasNearQuad};
 ghost use Rattle.row_loops.specs.Rows.{EachPlace, at};
 
-use crate::narrow_clamped_sums::saturate_to_narrow_number;
 use crate::narrow_loops::fill_narrow_row;
 use crate::narrow_taps::NarrowTap;
 use crate::narrow_terms::{
@@ -23,6 +22,14 @@ pub struct NarrowCenter<'a> {
     pub line: &'a [i16],
     pub low: i16,
     pub high: i16,
+}
+
+// The nearest number of 16 bits. (Vector code has one operation for it.)
+#[inline]
+fn saturate_to_narrow_number(number: i32) -> i16
+    ensures { result ≡ clamped number (negsuc 32767) (pos 32767) }
+{
+    number.max(-32768).min(32767) as i16
 }
 
 // The number of 16 bits that is nearest to `a + b`.

@@ -1,7 +1,7 @@
 #![tactic(auto)]
 //! Numbers of 16 bits that are gathered at the columns that an index takes along a row.
 
-ghost use Rattle.std.specs.Prelude.{◌≡◌, ◌<◌, ◌+◌, ◌*◌, ◌/◌, ◌+ℤ◌, ◌≤ℤ◌, ℕ, pos, negsuc, length};
+ghost use Rattle.std.specs.Prelude.{◌≡◌, ◌<◌, ◌≤◌, ◌+◌, ◌*◌, ◌/◌, ◌<ℤ◌, ◌+ℤ◌, ℕ, pos, length};
 ghost use Rattle.row_kernels.specs.Columns.{column_gap};
 ghost use Rattle.row_loops.specs.Rows.{EachPlace, at};
 
@@ -12,7 +12,8 @@ use row_kernels::RowSpan;
 // What an index multiplies by.
 #[tactic(auto, using(std::proofs::lemmas::Int::ints))]
 fn get_narrow_line_step(index: &Index) -> usize
-    ensures { index.now.mul ≡ pos result }
+    ensures number { index.now.mul ≡ pos result }
+    ensures most { result ≤ 16 }
 {
     index.mul() as usize
 }
@@ -73,23 +74,53 @@ fn gather_each_twice_of_narrow_line(line: &[i16], from: usize, left: usize, out:
     out[last] = line[from + (left + last) / 2];
 }
 
-// How far a column lies after another one.
+// What an index divides by.
 #[tactic(auto, using(std::proofs::lemmas::Int::ints))]
-fn count_narrow_line_places(first: i32, col: i32) -> usize
-    requires least { negsuc 1048575 ≤ℤ first }
-    requires order { first ≤ℤ col }
-    requires most { col ≤ℤ pos 1048576 }
-    ensures { first +ℤ pos result ≡ col }
+fn get_narrow_line_divisor(index: &Index) -> usize
+    ensures number { index.now.div ≡ pos result }
+    ensures most { result ≤ 16 }
 {
-    (col - first) as usize
+    index.div() as usize
 }
 
-// How far the column of an index at a point lies after the one at the first point.
-fn compute_narrow_line_gap(col: &Index, points: &RowSpan, k: usize) -> usize
-    requires { k < points.now.len }
-    ensures { result ≡ column_gap col.now points.now.col k }
+// What the division of an index leaves at the first of some points. From there it goes on by whole places.
+#[tactic(auto, using(std::proofs::lemmas::Int::ints))]
+fn compute_narrow_line_rest(col: &Index, points: &RowSpan) -> usize
+    ensures below { pos result <ℤ col.now.div }
+    ensures goes { (m d k : ℕ) → col.now.mul ≡ pos m → col.now.div ≡ pos d
+        → column_gap col.now points.now.col k ≡ (result + k * m) / d }
 {
-    count_narrow_line_places(col.at(points.col), col.at(points.column(k)))
+    floor_rem(col.mul() * points.col + col.add(), col.div()) as usize
+}
+
+// Takes the numbers from a place on. From each to the next it goes on by a step that is divided, without a division at each.
+fn gather_divided_of_narrow_line(
+    line: &[i16],
+    from: usize,
+    left: usize,
+    step: usize,
+    divisor: usize,
+    out: &mut [i16],
+)
+    requires left { left < divisor }
+    requires step { step ≤ 16 }
+    requires divisor { divisor ≤ 16 }
+    requires there { EachPlace (length out.old)
+        (λ k. from + (left + k * step) / divisor < length line.now) }
+    ensures { EachPlace (length out.old)
+        (λ k. at out.new k ≡ at line.now (from + (left + k * step) / divisor)) }
+{
+    let (whole, part) = (step / divisor, step % divisor);
+    let (mut gap, mut rest) = (0, left);
+    for k in 0..out.len() {
+        out[k] = line[from + gap];
+        gap += whole;
+        rest += part;
+        if rest >= divisor {
+            gap += 1;
+            rest -= divisor;
+        }
+    }
 }
 
 // Takes the numbers from a place on, at the columns of an index.
@@ -106,9 +137,9 @@ fn gather_columns_of_narrow_line(
     ensures { EachPlace (length out.old)
         (λ k. at out.new k ≡ at line.now (from + column_gap col.now points.now.col k)) }
 {
-    for k in 0..out.len() {
-        out[k] = line[from + compute_narrow_line_gap(col, points, k)];
-    }
+    let (step, divisor) = (get_narrow_line_step(col), get_narrow_line_divisor(col));
+    let left = compute_narrow_line_rest(col, points);
+    gather_divided_of_narrow_line(line, from, left, step, divisor, out);
 }
 
 // What the division of a halving index leaves at the first of some points.

@@ -21,6 +21,36 @@ pub trait NarrowNumberMap: Copy {
         ensures { result ≡ value self.now number };
 }
 
+/// The number itself.
+#[derive(Clone, Copy)]
+pub(crate) struct SameNarrowNumber;
+
+impl NarrowNumberMap for SameNarrowNumber {
+    ghost value = { λ _ a. a };
+
+    ghost fits = { λ _ _. Unit {0} };
+
+    #[inline]
+    fn apply_to_narrow_number(&self, number: i16) -> i16 {
+        number
+    }
+}
+
+/// 0, whatever the number is.
+#[derive(Clone, Copy)]
+pub(crate) struct NarrowZero;
+
+impl NarrowNumberMap for NarrowZero {
+    ghost value = { λ _ _. pos 0 };
+
+    ghost fits = { λ _ _. Unit {0} };
+
+    #[inline]
+    fn apply_to_narrow_number(&self, _number: i16) -> i16 {
+        0
+    }
+}
+
 /// Its negation.
 #[derive(Clone, Copy)]
 pub(crate) struct NarrowNegation;

@@ -84,19 +84,3 @@ fn undo_narrow_complement(a: i16, n: u16) -> i16
 {
     if a < 0 { -1 - n as i16 } else { n as i16 }
 }
-
-/// The third part of a number, rounded down. (The divisor stands in the text: vector code multiplies once for it.)
-#[inline(always)]
-pub fn divide_narrow_number_by_three(number: i16) -> i16
-    ensures { result ≡ floor_div number (pos 3) }
-{
-    undo_narrow_complement(number, complement_narrow_number(number) / 3)
-}
-
-/// The fifth part of a number, rounded down.
-#[inline(always)]
-pub fn divide_narrow_number_by_five(number: i16) -> i16
-    ensures { result ≡ floor_div number (pos 5) }
-{
-    undo_narrow_complement(number, complement_narrow_number(number) / 5)
-}

@@ -116,46 +116,54 @@ fn select_narrow_numbers<
     }
 }
 
-// The same where two are any operands: the kinds of the common ones are found once.
-fn select_narrow_numbers_by_operands<F: NarrowSource, G: NarrowSource, R: NarrowPairRelation>(
+// The same where the results are any operands: the kinds of the common ones are found once.
+fn select_narrow_operands_by_numbers<L: NarrowSource, P: NarrowSource, R: NarrowPairRelation>(
     out: &mut [i16],
-    left: NarrowOperand,
-    right: NarrowOperand,
-    first: F,
-    other: G,
+    left: L,
+    right: P,
+    first: NarrowOperand,
+    other: NarrowOperand,
     relate: R,
 )
-    requires left { ServesNarrow (length out.old) left }
-    requires right { ServesNarrow (length out.old) right }
-    requires first { EachPlace (length out.old) (F.has first) }
-    requires other { EachPlace (length out.old) (G.has other) }
+    requires left { EachPlace (length out.old) (L.has left) }
+    requires right { EachPlace (length out.old) (P.has right) }
+    requires first { ServesNarrow (length out.old) first }
+    requires other { ServesNarrow (length out.old) other }
     ensures { EachPlace (length out.old) (λ k. at out.new k
-        ≡ (if R.holds relate (narrow_operand_at left.entry out.old k)
-        (narrow_operand_at right.entry out.old k)
-        then F.number first (at out.old k) k else G.number other (at out.old k) k)) }
+        ≡ (if R.holds relate (L.number left (at out.old k) k) (P.number right (at out.old k) k)
+        then narrow_operand_at first.entry out.old k
+        else narrow_operand_at other.entry out.old k)) }
 {
-    match (left, right) {
-        (NarrowOperand::Line(left), NarrowOperand::Line(right)) => {
-            let (left, right) = (NarrowLineSource(left), NarrowLineSource(right));
+    match (first, other) {
+        (NarrowOperand::Line(first), NarrowOperand::Line(other)) => {
+            let (first, other) = (NarrowLineSource(first), NarrowLineSource(other));
             select_narrow_numbers(out, left, right, first, other, relate)
         }
-        (NarrowOperand::Line(left), NarrowOperand::Number(right)) => {
-            let (left, right) = (NarrowLineSource(left), NarrowNumberSource(right));
+        (NarrowOperand::Line(first), NarrowOperand::Number(other)) => {
+            let (first, other) = (NarrowLineSource(first), NarrowNumberSource(other));
             select_narrow_numbers(out, left, right, first, other, relate)
         }
-        (NarrowOperand::Written, NarrowOperand::Line(right)) => {
-            let (left, right) = (WrittenNarrowSource, NarrowLineSource(right));
+        (NarrowOperand::Number(first), NarrowOperand::Line(other)) => {
+            let (first, other) = (NarrowNumberSource(first), NarrowLineSource(other));
             select_narrow_numbers(out, left, right, first, other, relate)
         }
-        (NarrowOperand::Written, NarrowOperand::Number(right)) => {
-            let (left, right) = (WrittenNarrowSource, NarrowNumberSource(right));
+        (NarrowOperand::Number(first), NarrowOperand::Number(other)) => {
+            let (first, other) = (NarrowNumberSource(first), NarrowNumberSource(other));
+            select_narrow_numbers(out, left, right, first, other, relate)
+        }
+        (NarrowOperand::Written, NarrowOperand::Line(other)) => {
+            let (first, other) = (WrittenNarrowSource, NarrowLineSource(other));
+            select_narrow_numbers(out, left, right, first, other, relate)
+        }
+        (NarrowOperand::Written, NarrowOperand::Number(other)) => {
+            let (first, other) = (WrittenNarrowSource, NarrowNumberSource(other));
             select_narrow_numbers(out, left, right, first, other, relate)
         }
         _ => select_narrow_numbers(out, left, right, first, other, relate),
     }
 }
 
-// Writes one of two operands at each place, as two others are related there.
+// Writes one of two operands at each place, as two others are related there. (The common ones of these are lines and numbers.)
 fn select_narrow_operands<R: NarrowPairRelation>(
     out: &mut [i16],
     left: NarrowOperand,
@@ -174,24 +182,27 @@ fn select_narrow_operands<R: NarrowPairRelation>(
         then narrow_operand_at first.entry out.old k
         else narrow_operand_at other.entry out.old k)) }
 {
-    match (first, other) {
-        (NarrowOperand::Line(first), NarrowOperand::Line(other)) => {
-            let (first, other) = (NarrowLineSource(first), NarrowLineSource(other));
-            select_narrow_numbers_by_operands(out, left, right, first, other, relate)
+    match (left, right) {
+        (NarrowOperand::Line(left), NarrowOperand::Line(right)) => {
+            let (left, right) = (NarrowLineSource(left), NarrowLineSource(right));
+            select_narrow_operands_by_numbers(out, left, right, first, other, relate)
         }
-        (NarrowOperand::Written, NarrowOperand::Line(other)) => {
-            let (first, other) = (WrittenNarrowSource, NarrowLineSource(other));
-            select_narrow_numbers_by_operands(out, left, right, first, other, relate)
+        (NarrowOperand::Line(left), NarrowOperand::Number(right)) => {
+            let (left, right) = (NarrowLineSource(left), NarrowNumberSource(right));
+            select_narrow_operands_by_numbers(out, left, right, first, other, relate)
         }
-        (NarrowOperand::Line(first), NarrowOperand::Written) => {
-            let (first, other) = (NarrowLineSource(first), WrittenNarrowSource);
-            select_narrow_numbers_by_operands(out, left, right, first, other, relate)
-        }
-        (NarrowOperand::Number(first), NarrowOperand::Number(other)) => {
-            let (first, other) = (NarrowNumberSource(first), NarrowNumberSource(other));
-            select_narrow_numbers_by_operands(out, left, right, first, other, relate)
-        }
-        _ => select_narrow_numbers_by_operands(out, left, right, first, other, relate),
+        _ => select_narrow_numbers(out, left, right, first, other, relate),
+    }
+}
+
+// The relation of two numbers that are exchanged.
+fn turn_narrow_selection_relation(relation: Relation) -> Relation
+    ensures { (a b : ℤ) → is_related result a b ≡ is_related relation b a }
+{
+    match relation {
+        Relation::AtMost => Relation::AtLeast,
+        Relation::AtLeast => Relation::AtMost,
+        Relation::Equals => Relation::Equals,
     }
 }
 
@@ -214,6 +225,12 @@ pub fn write_narrow_selection(
         then narrow_operand_at first.entry out.old k
         else narrow_operand_at other.entry out.old k)) }
 {
+    let (left, relation, right) = match (left, right) {
+        (NarrowOperand::Number(_), NarrowOperand::Line(_)) => {
+            (right, turn_narrow_selection_relation(relation), left)
+        }
+        _ => (left, relation, right),
+    };
     match relation {
         Relation::AtMost => select_narrow_operands(out, left, right, first, other, NarrowAtMost),
         Relation::AtLeast => select_narrow_operands(out, left, right, first, other, NarrowAtLeast),

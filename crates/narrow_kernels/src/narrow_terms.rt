@@ -5,6 +5,8 @@ ghost use Rattle.std.specs.Prelude.{◌≡◌, ◌+ℤ◌, ◌-ℤ◌, ◌*ℤ�
 ghost use Rattle.std.specs.Int.{w16, int_wrap};
 ghost use Rattle.row_loops.specs.Rows.{EachPlace, at};
 
+use crate::narrow_maps::NarrowNumberMap;
+
 /// `a + b`, wrapped at 16 bits.
 #[inline]
 #[tactic(auto, using(std::proofs::lemmas::Int::wraps))]
@@ -43,6 +45,21 @@ pub(crate) trait NarrowTerm: Copy {
     fn compute_narrow_term_at_place(&self, k: usize) -> i16
         requires { has self.now k }
         ensures { result ≡ int_wrap w16 (exact self.now k) };
+}
+
+/// A number, the same at each place.
+#[derive(Clone, Copy)]
+pub(crate) struct NarrowTermNumber(pub(crate) i16);
+
+impl NarrowTerm for NarrowTermNumber {
+    ghost has = { λ _ _. Unit {0} };
+
+    ghost exact = { λ s _. s.0 };
+
+    #[inline]
+    fn compute_narrow_term_at_place(&self, _k: usize) -> i16 {
+        self.0
+    }
 }
 
 /// The sum of two terms.
@@ -90,5 +107,25 @@ pub(crate) fn add_narrow_term<T: NarrowTerm>(out: &mut [i16], term: T)
 {
     for k in 0..out.len() {
         out[k] = add_narrow_term_to_number(out[k], term, k);
+    }
+}
+
+/// Adds a term to what each place begins with, and writes what an operation makes of the sum, once it is wrapped at 16 bits.
+pub(crate) fn map_narrow_term<S: NarrowNumberMap, T: NarrowTerm, C: NarrowNumberMap>(
+    out: &mut [i16],
+    start: S,
+    term: T,
+    make: C,
+)
+    requires starts { EachPlace (length out.old) (λ k. S.fits start (at out.old k)) }
+    requires has { EachPlace (length out.old) (T.has term) }
+    requires fits { EachPlace (length out.old)
+        (λ k. C.fits make (int_wrap w16 (S.value start (at out.old k) +ℤ T.exact term k))) }
+    ensures { EachPlace (length out.old) (λ k. at out.new k
+        ≡ C.value make (int_wrap w16 (S.value start (at out.old k) +ℤ T.exact term k))) }
+{
+    for k in 0..out.len() {
+        let first = start.apply_to_narrow_number(out[k]);
+        out[k] = make.apply_to_narrow_number(add_narrow_term_to_number(first, term, k));
     }
 }

@@ -15,7 +15,7 @@ use job::Formula;
 use row_kernels::RowSpan;
 
 /// Writes formulas along rows of points.
-pub trait HalfWriter {
+pub(crate) trait HalfWriter {
     /// What a row has at each place.
     type Number: Copy;
 
@@ -28,7 +28,7 @@ pub trait HalfWriter {
 
     /// Writes the values of a half at every second one of the points, from the first on. Whether it has: it may be that its
     /// samples cannot be borrowed.
-    fn write_half(&self, half: &RowHalf<'_>, points: &RowSpan, out: &mut [Self::Number]) -> bool
+    fn write_row_half(&self, half: &RowHalf<'_>, points: &RowSpan, out: &mut [Self::Number]) -> bool
         requires count { 2 * length out.old ≤ points.now.len + 1 }
         requires halving { IsHalvingHalf half.now }
         requires formula { IsFormula (half_formula half.now) }
@@ -39,7 +39,7 @@ pub trait HalfWriter {
             points.now.row (points.now.col +ℤ pos (2 * k))) };
 
     /// Writes the values of a formula at the points.
-    fn write_otherwise(
+    fn write_row_halves_otherwise(
         &self,
         otherwise: &Option<Formula>,
         points: &RowSpan,

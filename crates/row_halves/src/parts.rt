@@ -12,10 +12,10 @@ ghost use Rattle.row_loops.specs.Rows.{EachPlace};
 ghost use Rattle.tile_eval.specs.Cases.{InBox};
 ghost use Rattle.row_halves.specs.inside.Alternating.{has_place, BoxBounds, CasesAlternate};
 
+use crate::places::find_places_in_area;
 use domains::arithmetic::floor_rem;
 use job::JobCase;
 use row_kernels::{RowMask, RowSpan, find_row_mask};
-use row_parts::find_places_in_area;
 
 /// A part of a row of points at which two cases alternate, and whether the first of them has the part's first point.
 #[derive(Clone, Copy, Debug)]

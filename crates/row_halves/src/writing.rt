@@ -44,10 +44,10 @@ fn write_alternating_row_halves<W: HalfWriter>(
     let count = out.len() / 2;
     let (front, rest) = temps.split_at_mut(out.len() - count);
     let (back, _) = rest.split_at_mut(count);
-    if !writer.write_half(lead, points, front) {
+    if !writer.write_row_half(lead, points, front) {
         return false;
     }
-    if !writer.write_half(follow, &points.slice_points(1, out.len()), back) {
+    if !writer.write_row_half(follow, &points.slice_points(1, out.len()), back) {
         return false;
     }
     interleave_row_halves(out, front, back);
@@ -138,13 +138,13 @@ fn write_part_beside_row_halves<W: HalfWriter>(
 {
     if from < to {
         let part = points.slice_points(from, to);
-        writer.write_otherwise(otherwise, &part, &mut out[from..to], temps);
+        writer.write_row_halves_otherwise(otherwise, &part, &mut out[from..to], temps);
     }
 }
 
 /// Writes the values of a function at a row of points, if its two cases alternate there and each half can be written. The contents
 /// of `temps` have no meaning, and those of `out` have none unless it is written.
-pub fn write_row_halves<W: HalfWriter>(
+pub(crate) fn write_row_halves<W: HalfWriter>(
     writer: &W,
     function: &Function,
     halves: &RowHalves<'_>,

@@ -1,7 +1,7 @@
 -- Which rows of stages are kept.
-use Rattle.std.specs.Prelude.{ℕ, ◌+◌, ◌<◌, ◌≤◌, ◌≡◌, ℤ, pos, negsuc, ◌+ℤ◌, ◌≤ℤ◌, Some, List, slice_get}
+use Rattle.std.specs.Prelude.{ℕ, ◌+◌, ◌*◌, ◌<◌, ◌≤◌, ◌≡◌, ℤ, pos, negsuc, ◌+ℤ◌, ◌≤ℤ◌, Some, List, fold, slice_get}
 use Rattle.std.specs.Int.{int_gap}
-use Rattle.domains.specs.Span.{Holds}
+use Rattle.domains.specs.Span.{Holds, len_of}
 use Rattle.row_plans.specs.declared.row_state.RowState.{RowState}
 
 -- the number of the row that is made next
@@ -26,3 +26,11 @@ IsKeptAt states g r = (s : RowState) × (slice_get states g ≡ Some s) × IsKep
 -- the state once one row more is made
 abbrev pub one_row_more : RowState → RowState
 one_row_more s = record { area = s.area; kept = s.kept; first = s.first; next = s.next + 1 }
+
+-- the most numbers that a plan keeps of all stages together
+abbrev pub most_numbers : ℕ
+most_numbers = 33554432
+
+-- how many numbers are kept in all, if each row that may be kept is
+abbrev pub numbers_kept : List RowState → ℕ
+numbers_kept states = fold (λ n s. n + s.kept * len_of s.area.cols) 0 states

@@ -4,6 +4,7 @@
 ghost use Rattle.std.specs.Prelude.{◌≡◌, ◌≤◌, All, IfOk, IfSome};
 ghost use Rattle.job.specs.Kept.{pipeline_in};
 ghost use Rattle.row_plans.specs.Plans.{IsRunnable};
+ghost use Rattle.row_plans.specs.Rows.{most_numbers, numbers_kept};
 
 use crate::row_plan_check::is_row_plan_runnable;
 use crate::row_planner::RowPlanner;
@@ -49,12 +50,17 @@ pub fn make_row_plan(
     ensures runnable { IfOk result (λ found. IfSome found
         (λ plan. IsRunnable (pipeline_in job.now) outputs.now end first plan.states.items
         plan.steps.items)) }
+    ensures few { IfOk result
+        (λ found. IfSome found (λ plan. numbers_kept plan.states.items ≤ most_numbers)) }
 {
     let Some(rows) = list_rows_read_of_stages(alloc, job)? else {
         return Ok(None);
     };
     let (plan, repeated) = RowPlanner::new(alloc, &rows, outputs)?.plan_rows(alloc, first, end)?;
-    if count_numbers_kept_in_row_states(&plan.states) > MOST_NUMBERS
+    let Some(numbers) = count_numbers_kept_in_row_states(&plan.states) else {
+        return Ok(None);
+    };
+    if numbers > MOST_NUMBERS
         || !are_row_states_at_start(&plan.states)
         || !is_row_plan_runnable(alloc, job, &rows, &plan, repeated, outputs, first, end)?
     {

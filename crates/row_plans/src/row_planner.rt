@@ -92,6 +92,20 @@ impl PlannedRows {
     }
 }
 
+// How many steps a search for all rows of stages takes at most: one to make a row, and two to demand it and each of the rows that it
+// reads.
+fn count_steps_of_planned_rows(rows: &[StageRowsRead]) -> u64 {
+    let mut steps = 0u64;
+    for read in rows {
+        let each = (read.reads().len() as u64)
+            .saturating_mul(2)
+            .saturating_add(3);
+        let made = u64::from(read.area().rows.len());
+        steps = steps.saturating_add(made.saturating_mul(each));
+    }
+    steps
+}
+
 /// A plan that grows, row by row of the picture.
 #[derive(Drop)]
 pub(crate) struct RowPlanner<'a> {
@@ -102,6 +116,8 @@ pub(crate) struct RowPlanner<'a> {
     planned: Vec<PlannedRows>,
     // The rows to be made before which others wait: of a stage all rows before a row.
     demands: Vec<(usize, i32)>,
+    // How many steps the search for rows that are demanded may still take.
+    left: u64,
     steps: Vec<PlanStep>,
     // The period whose copies have the most steps, and how many these are.
     repeated: RepeatedPlanSteps,
@@ -132,6 +148,7 @@ impl<'a> RowPlanner<'a> {
             order,
             planned,
             demands: Vec::new(alloc),
+            left: count_steps_of_planned_rows(rows),
             steps: Vec::new(alloc),
             repeated: RepeatedPlanSteps {
                 before: 0,
@@ -317,12 +334,14 @@ impl<'a> RowPlanner<'a> {
         Ok(())
     }
 
-    // Makes the rows that are demanded, each as soon as all is made that it reads.
+    // Makes the rows that are demanded, each as soon as all is made that it reads. A plan lacks rows if the search for them takes more
+    // steps than any plan needs, and is refused.
     fn make_demanded_planned_rows(&mut self) -> Result<(), AllocError> {
-        for _ in 0..u64::MAX {
+        for _ in 0..self.left {
             let Some((stage, end)) = self.find_last_demand_of_planned_rows() else {
                 return Ok(());
             };
+            self.left = self.left.saturating_sub(1);
             let row = self.find_planned_rows(stage).next;
             if row >= end {
                 let _ = self.demands.pop();

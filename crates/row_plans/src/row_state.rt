@@ -1,10 +1,10 @@
 #![tactic(auto)]
 //! Which rows of a stage are kept.
 
-ghost use Rattle.std.specs.Prelude.{◌≡◌, ◌<◌, ◌≤◌, ◌↔◌, ◌+◌, true, All, IsTrue};
+ghost use Rattle.std.specs.Prelude.{◌≡◌, ◌<◌, ◌≤◌, ◌↔◌, ◌+◌, true, All, IfSome, IsTrue};
 ghost use Rattle.std.specs.Int.{int_gap};
 ghost use Rattle.domains.specs.Span.{Holds};
-ghost use Rattle.row_plans.specs.Rows.{IsKeptRow};
+ghost use Rattle.row_plans.specs.Rows.{IsKeptRow, numbers_kept};
 
 use domains::Area;
 
@@ -69,12 +69,14 @@ pub(crate) fn are_row_states_at_start(states: &[RowState]) -> bool
     true
 }
 
-/// How many numbers are kept in all.
-pub(crate) fn count_numbers_kept_in_row_states(states: &[RowState]) -> u64 {
+/// How many numbers are kept in all. None if there is no such number.
+pub(crate) fn count_numbers_kept_in_row_states(states: &[RowState]) -> Option<u64>
+    ensures { IfSome result (λ count. count ≡ numbers_kept states.now) }
+{
     let mut count = 0u64;
     for state in states {
         let columns = u64::from(state.area.cols.len());
-        count = count.saturating_add((state.kept as u64).saturating_mul(columns));
+        count = count.checked_add((state.kept as u64).checked_mul(columns)?)?;
     }
-    count
+    Some(count)
 }

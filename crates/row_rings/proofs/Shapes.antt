@@ -13,16 +13,12 @@ use Rattle.job.specs.ReadViews.{same_reads-prop}
 use Rattle.job.specs.Values.{Valuation, formula_value}
 use Rattle.job.specs.Views.{stage_view}
 use Rattle.job.specs.declared.stage.Stage.{Stage as KeptStage}
-use Rattle.narrow_averages.specs.NarrowAverages.{sum_formula, average_formula}
-use Rattle.narrow_averages.specs.declared.narrow_averages.NarrowAverage.{NarrowAverage}
-use Rattle.narrow_averages.specs.declared.narrow_averages.NarrowAverageSum.{NarrowAverageSum}
-use Rattle.narrow_averages.specs.declared.narrow_averages.NarrowAverageSum.TheVariants.{Two, Four}
 use Rattle.narrow_filters.specs.Filters.{taps_formula, filter_formula}
 use Rattle.narrow_filters.specs.declared.filter.NarrowFilter.{NarrowFilter}
 use Rattle.narrow_filters.specs.declared.filter.NarrowFilterCenter.{NarrowFilterCenter}
 use Rattle.narrow_filters.specs.declared.filter.NarrowFilterTap.{NarrowFilterTap}
 use Rattle.tile_eval.specs.Cases.{function_value}
-use Rattle.value_ranges.specs.Narrow.{IsNarrow, IsNarrowStencil, IsNarrowFunction}
+use Rattle.value_ranges.specs.Narrow.{IsNarrow, IsNarrowFunction}
 use Rattle.row_rings.specs.RingShapes.{IsFormulaBody, IsShapeOf, AreShapesOf}
 use Rattle.row_rings.specs.declared.ring_shapes.RingShape.{RingShape}
 
@@ -43,60 +39,11 @@ formula_narrow env f cases None r c once is h = absurd (∥∥₁_elim is (λ x 
 formula_narrow env f cases (Some g) r c once is h =
     ∥∥₁_elim is once (λ e. subst (λ (x : Formula). IsNarrow env x r c) (same_Some g f e.1) (h.other g refl))
 
--- the parts of a stencil, of which each is known in one way
-abbrev is_stencil : Formula → Bool
-is_stencil (stencil g divisor kernel) = true
-is_stencil f = false
-
-abbrev stage_under : Formula → ℕ
-stage_under (stencil g divisor kernel) = g
-stage_under f = 0
-
-abbrev kernel_in : Formula → List (List ℤ)
-kernel_in (stencil g divisor kernel) = kernel
-kernel_in f = []
-
-narrow_under : (env : Valuation) (g : ℕ) (kernel : List (List ℤ)) (r c : ℤ) (f : Formula) → is_stencil f ≡ true → stage_under f ≡ g
-    → kernel_in f ≡ kernel → IsNarrow env f r c → IsNarrowStencil (env g) kernel r c
-narrow_under env g kernel r c (stencil h divisor ks) is e k narrow =
-    subst (λ (n : ℕ). IsNarrowStencil (env n) kernel r c) e (subst (λ (xs : List (List ℤ)). IsNarrowStencil (env h) xs r c) k narrow)
-narrow_under env g kernel r c (number n) is e k narrow = absurd (true≢false (sym is))
-narrow_under env g kernel r c (coordinate x) is e k narrow = absurd (true≢false (sym is))
-narrow_under env g kernel r c (read s i j) is e k narrow = absurd (true≢false (sym is))
-narrow_under env g kernel r c (unary op a) is e k narrow = absurd (true≢false (sym is))
-narrow_under env g kernel r c (binary op a b) is e k narrow = absurd (true≢false (sym is))
-narrow_under env g kernel r c (ternary op a b d) is e k narrow = absurd (true≢false (sym is))
-narrow_under env g kernel r c (literal op a n) is e k narrow = absurd (true≢false (sym is))
-narrow_under env g kernel r c (lookup t a) is e k narrow = absurd (true≢false (sym is))
-narrow_under env g kernel r c (select a relation b x y) is e k narrow = absurd (true≢false (sym is))
-
--- where the function is narrow, so is the stencil that it is
-pub stencil_narrow : (env : Valuation) (g divisor : ℕ) (kernel : List (List ℤ)) (cases : List JobCase) (otherwise : Option Formula) (r c : ℤ)
-    → IsFormulaBody (stencil g divisor kernel) (function cases otherwise) → IsNarrowFunction env cases otherwise r c
-    → IsNarrow env (stencil g divisor kernel) r c
-stencil_narrow env g divisor kernel cases None r c is h = absurd (∥∥₁_elim is (λ x y. absurd x) (λ e. none-some (stencil g divisor kernel) e.1))
-stencil_narrow env g divisor kernel cases (Some f) r c is h =
-    narrow_under env g kernel r c f
-    (∥∥₁_elim is (hlevel props) (λ e. ap is_stencil (same_Some f (stencil g divisor kernel) e.1)))
-    (∥∥₁_elim is (hlevel props) (λ e. ap stage_under (same_Some f (stencil g divisor kernel) e.1)))
-    (∥∥₁_elim is (hlevel props) (λ e. ap kernel_in (same_Some f (stencil g divisor kernel) e.1)))
-    (h.other f refl)
-
 -- they have one value
 pub formula_everywhere : (env : Valuation) (f : Formula) (cases : List JobCase) (otherwise : Option Formula) (r c : ℤ)
     → IsFormulaBody f (function cases otherwise) → formula_value env f r c ≡ function_value env cases otherwise r c
 formula_everywhere env f cases otherwise r c is =
     ∥∥₁_elim is (hlevel props) (λ e i. function_value env (sym e.0 i) (sym e.1 i) r c)
-
--- ---- averages
-
--- an average is narrow at a point in one way
-sum_narrow-prop : (env : Valuation) (s : NarrowAverageSum) (r c : ℤ) → IsProp (IsNarrow env (sum_formula s) r c)
-sum_narrow-prop env (Two a b) r c = hlevel props
-sum_narrow-prop env (Four a b d e) r c = hlevel props
-
-pub average_narrow-prop : (env : Valuation) (average : NarrowAverage) (r c : ℤ) → IsProp (IsNarrow env (average_formula average) r c)
-average_narrow-prop env average r c = hlevel (sum_narrow-prop env average.sum r c, props)
 
 -- ---- filters
 

@@ -2,19 +2,15 @@
 use Rattle.std.specs.Prelude.{ℕ, ◌≡◌, false, Some, List, [], ◌∷◌, slice_get}
 use Rattle.job.specs.Formula.{Formula}
 use Rattle.job.specs.Pipeline.{Body, plane, function, accumulator, Stage, Pipeline}
-use Rattle.narrow_bars.specs.NarrowBars.{bar_formula, IsRightBar}
-use Rattle.narrow_choices.specs.NarrowChoices.{choice_formula, IsRightChoice}
+use Rattle.linear_rows.specs.RowFormulas.{linear_formula, IsRightLinear}
 use Rattle.narrow_filters.specs.Filters.{filter_formula, IsRightFilter}
-use Rattle.narrow_limits.specs.NarrowLimits.{limit_formula, IsRightLimit}
-use Rattle.narrow_mixes.specs.NarrowMixes.{mix_formula, IsRightMix}
-use Rattle.narrow_averages.specs.NarrowAverages.{average_formula, IsRightAverage}
 use Rattle.narrow_pieces.specs.Pieces.{AreFunctionPieces}
 use Rattle.narrow_pieces.specs.declared.piece.NarrowPieces.{NarrowPieces}
 use Rattle.wide_divisions.specs.DivisionSteps.{step_formula, IsRightStep}
 use Rattle.wide_products.specs.WideProducts.{products_formula, IsRightProducts}
 use Rattle.row_rings.specs.declared.ring_shapes.RingShape.{RingShape}
-use Rattle.row_rings.specs.declared.ring_shapes.RingShape.TheVariants.{Mix, Pieces, Bar, Average, Limit, Choice, Filter, Division, Products, Decimation, Halves, Other}
-use Rattle.row_rings.specs.NarrowRings.{is_mix_body}
+use Rattle.row_rings.specs.declared.ring_shapes.RingShape.TheVariants.{Linear, Pieces, Filter, Division, Products, Decimation, Halves, Other}
+use Rattle.row_rings.specs.NarrowRings.{is_linear_body}
 
 -- a function that is this formula everywhere
 abbrev pub IsFormulaBody : Formula → Body → Type 0
@@ -28,20 +24,16 @@ ArePiecesOfBody pieces (plane n) = ⊥
 ArePiecesOfBody pieces (function cases otherwise) = AreFunctionPieces pieces cases otherwise
 ArePiecesOfBody pieces (accumulator fold bins value bin) = ⊥
 
--- rows that are made so are those of the body. A body of another shape than that of a mix is no mix
+-- rows that are made so are those of the body. A body of another shape than that of a linear row is none
 abbrev pub IsShapeOf : RingShape → Body → Type 0
-IsShapeOf (Mix mix) body = IsFormulaBody (mix_formula mix) body × IsRightMix mix
-IsShapeOf (Pieces pieces) body = ArePiecesOfBody pieces body × (is_mix_body body ≡ false)
-IsShapeOf (Bar bar) body = IsFormulaBody (bar_formula bar) body × IsRightBar bar × (is_mix_body body ≡ false)
-IsShapeOf (Average average) body = IsFormulaBody (average_formula average) body × IsRightAverage average × (is_mix_body body ≡ false)
-IsShapeOf (Limit limit) body = IsFormulaBody (limit_formula limit) body × IsRightLimit limit × (is_mix_body body ≡ false)
-IsShapeOf (Choice choice) body = IsFormulaBody (choice_formula choice) body × IsRightChoice choice × (is_mix_body body ≡ false)
-IsShapeOf (Filter filter) body = IsFormulaBody (filter_formula filter) body × IsRightFilter filter × (is_mix_body body ≡ false)
-IsShapeOf (Division step) body = IsFormulaBody (step_formula step) body × IsRightStep step × (is_mix_body body ≡ false)
-IsShapeOf (Products products) body = IsFormulaBody (products_formula products) body × IsRightProducts products × (is_mix_body body ≡ false)
-IsShapeOf Decimation body = is_mix_body body ≡ false
-IsShapeOf Halves body = is_mix_body body ≡ false
-IsShapeOf Other body = is_mix_body body ≡ false
+IsShapeOf (Linear row) body = IsFormulaBody (linear_formula row) body × IsRightLinear row
+IsShapeOf (Pieces pieces) body = ArePiecesOfBody pieces body × (is_linear_body body ≡ false)
+IsShapeOf (Filter filter) body = IsFormulaBody (filter_formula filter) body × IsRightFilter filter × (is_linear_body body ≡ false)
+IsShapeOf (Division step) body = IsFormulaBody (step_formula step) body × IsRightStep step × (is_linear_body body ≡ false)
+IsShapeOf (Products products) body = IsFormulaBody (products_formula products) body × IsRightProducts products × (is_linear_body body ≡ false)
+IsShapeOf Decimation body = is_linear_body body ≡ false
+IsShapeOf Halves body = is_linear_body body ≡ false
+IsShapeOf Other body = is_linear_body body ≡ false
 
 -- and so for stage g
 abbrev pub IsStageShape : Pipeline → ℕ → RingShape → Type 0

@@ -3,18 +3,14 @@ use Rattle.std.specs.Prelude.{List, [], ◌∷◌}
 use Rattle.std.proofs.Props.{props}
 use Rattle.job.specs.Formula.{Formula}
 use Rattle.job.specs.Pipeline.{Body, plane, function, accumulator, Stage}
-use Rattle.narrow_bars.specs.BarsOnce.{IsRightBar-prop}
-use Rattle.narrow_choices.specs.ChoicesOnce.{IsRightChoice-prop}
+use Rattle.linear_rows.specs.LinearOnce.{IsRightLinear-prop}
 use Rattle.narrow_filters.specs.FiltersOnce.{IsRightFilter-prop}
-use Rattle.narrow_limits.specs.LimitsOnce.{IsRightLimit-prop}
-use Rattle.narrow_mixes.specs.MixesOnce.{IsRightMix-prop}
-use Rattle.narrow_averages.specs.AveragesOnce.{IsRightAverage-prop}
 use Rattle.narrow_pieces.specs.PiecesOnce.{AreFunctionPieces-prop}
 use Rattle.narrow_pieces.specs.declared.piece.NarrowPieces.{NarrowPieces}
 use Rattle.wide_divisions.specs.StepsOnce.{IsRightStep-prop}
 use Rattle.wide_products.specs.ProductsOnce.{IsRightProducts-prop}
 use Rattle.row_rings.specs.declared.ring_shapes.RingShape.{RingShape}
-use Rattle.row_rings.specs.declared.ring_shapes.RingShape.TheVariants.{Mix, Pieces, Bar, Average, Limit, Choice, Filter, Division, Products, Decimation, Halves, Other}
+use Rattle.row_rings.specs.declared.ring_shapes.RingShape.TheVariants.{Linear, Pieces, Filter, Division, Products, Decimation, Halves, Other}
 use Rattle.row_rings.specs.RingShapes.{IsFormulaBody, ArePiecesOfBody, IsShapeOf, AreShapesOf}
 
 IsFormulaBody-prop : (f : Formula) (body : Body) → IsProp (IsFormulaBody f body)
@@ -28,12 +24,8 @@ ArePiecesOfBody-prop pieces (function cases otherwise) = AreFunctionPieces-prop 
 ArePiecesOfBody-prop pieces (accumulator fold bins value bin) = hlevel props
 
 IsShapeOf-prop : (shape : RingShape) (body : Body) → IsProp (IsShapeOf shape body)
-IsShapeOf-prop (Mix mix) body = hlevel (IsFormulaBody-prop, IsRightMix-prop, props)
+IsShapeOf-prop (Linear row) body = hlevel (IsFormulaBody-prop, IsRightLinear-prop, props)
 IsShapeOf-prop (Pieces pieces) body = hlevel (ArePiecesOfBody-prop, props)
-IsShapeOf-prop (Bar bar) body = hlevel (IsFormulaBody-prop, IsRightBar-prop, props)
-IsShapeOf-prop (Average average) body = hlevel (IsFormulaBody-prop, IsRightAverage-prop, props)
-IsShapeOf-prop (Limit limit) body = hlevel (IsFormulaBody-prop, IsRightLimit-prop, props)
-IsShapeOf-prop (Choice choice) body = hlevel (IsFormulaBody-prop, IsRightChoice-prop, props)
 IsShapeOf-prop (Filter filter) body = hlevel (IsFormulaBody-prop, IsRightFilter-prop, props)
 IsShapeOf-prop (Division step) body = hlevel (IsFormulaBody-prop, IsRightStep-prop, props)
 IsShapeOf-prop (Products products) body = hlevel (IsFormulaBody-prop, IsRightProducts-prop, props)

@@ -11,7 +11,7 @@ ghost use Rattle.value_ranges.specs.Ranges.{AreRanges};
 
 use crate::ring_forms::{RingForms, is_computed_narrow_ring};
 use job::{Body, Job, Read};
-use narrow_mixes::is_narrow_mix;
+use linear_rows::is_linear_function;
 use row_plans::RowState;
 use value_ranges::{ValueRange, is_narrow_stage, is_narrow_value_range};
 
@@ -117,7 +117,8 @@ fn is_narrowly_made_ring(job: &Job, ranges: &[ValueRange], stage: usize) -> bool
     };
     match found.body() {
         Body::Plane(_) => true,
-        Body::Function(function) => is_narrow_mix(function) || is_narrow_stage(job, ranges, stage),
+        Body::Function(function) => is_linear_function(function)
+            || is_narrow_stage(job, ranges, stage),
         Body::Accumulator(_) => false,
     }
 }

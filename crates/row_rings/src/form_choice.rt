@@ -6,7 +6,7 @@ ghost use Rattle.value_ranges.specs.Ranges.{AreRanges};
 
 use crate::ring_forms::RingForms;
 use job::{Axis, Body, Function, Job, PointTest, Stage};
-use narrow_mixes::is_narrow_mix;
+use linear_rows::is_linear_function;
 use row_plans::RowState;
 use std::alloc::{AllocError, Global};
 use value_ranges::{ValueRange, is_narrow_stage, is_narrow_value_range};
@@ -35,9 +35,9 @@ fn has_narrow_ring_range(ranges: &[ValueRange], stage: usize) -> bool {
     }
 }
 
-// Whether a function is a mix whose values fit in 16 bits, and so do those that it reads.
-fn is_mixed_narrow_ring(function: &Function, ranges: &[ValueRange], stage: usize) -> bool {
-    is_narrow_mix(function)
+// Whether a function is a linear row whose values fit in 16 bits, and so do those that it reads.
+fn is_linear_narrow_ring(function: &Function, ranges: &[ValueRange], stage: usize) -> bool {
+    is_linear_function(function)
         && has_narrow_ring_range(ranges, stage)
         && function
             .reads()
@@ -106,7 +106,7 @@ impl RingFormFlags {
             match found.body() {
                 Body::Plane(_) => {}
                 Body::Function(function) => {
-                    let narrow = is_mixed_narrow_ring(function, ranges, stage)
+                    let narrow = is_linear_narrow_ring(function, ranges, stage)
                         || (is_narrow_stage(job, ranges, stage)
                             && !has_slow_narrow_ring_test(function));
                     self.compute_stage_in_ring_form(stage, found, narrow);

@@ -24,12 +24,11 @@ use crate::ring_shapes::RingShape;
 use domains::{Area, Span};
 use job::{Body, Function, Job};
 use netpbm::Picture;
-use row_halves::find_row_halves;
+use row_halves::{find_row_halves, write_wide_halves};
 use row_kernels::convert_samples_to_row;
 use row_plans::RowState;
 use tile_eval::{RowSpan, evaluate_function_area, find_span_number_at_position};
 use wide_divisions::{DivisionStep, write_division_step};
-use wide_halves::write_wide_halves;
 use wide_products::{WideProducts, write_wide_products};
 
 // Writes a row of a plane, which is counted from the first one of the picture.

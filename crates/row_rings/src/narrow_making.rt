@@ -18,7 +18,7 @@ ghost use Rattle.row_rings.specs.RingShapes.{IsShapeOf, IsStageShape};
 ghost use Rattle.row_rings.specs.TrueRings.{AreTrueRings, HasStageRoom};
 ghost use Rattle.row_rings.specs.inside.Making.{AreFittingValues, IsFittingRow, IsMakeable, IsPictureRow, IsValueRow, HasOneRowMore};
 ghost use Rattle.narrow_eval.specs.NarrowCases.{IsNarrowComputable};
-ghost use Rattle.narrow_mixes.specs.NarrowMixes.{is_mix};
+ghost use Rattle.linear_rows.specs.LinearRows.{is_linear_function};
 ghost use Rattle.tile_eval.specs.Cases.{function_value};
 
 use crate::narrow_ring_source::NarrowRingSource;
@@ -26,19 +26,14 @@ use crate::ring::{RowRing, RowRings};
 use crate::ring_shapes::RingShape;
 use domains::Area;
 use job::{Body, Function, Job};
-use narrow_averages::write_narrow_average;
-use narrow_bars::write_narrow_bar;
-use narrow_choices::write_narrow_choice;
+use linear_rows::write_linear_row;
 use narrow_decimations::{find_narrow_decimation, write_narrow_decimation};
 use narrow_eval::{NarrowSource, evaluate_narrow_formula, evaluate_narrow_function};
 use narrow_filters::write_narrow_filter;
-use narrow_halves::write_narrow_halves;
 use narrow_kernels::convert_samples_to_narrow_row;
-use narrow_limits::write_narrow_limit;
-use narrow_mixes::write_narrow_mix;
 use narrow_pieces::write_narrow_pieces;
 use netpbm::Picture;
-use row_halves::find_row_halves;
+use row_halves::{find_row_halves, write_narrow_halves};
 use row_plans::RowState;
 use tile_eval::RowSpan;
 
@@ -142,7 +137,7 @@ fn write_shaped_row_to_narrow_ring<S: NarrowSource>(
         (option_map formula_view function.now.otherwise)) points.now.row (points.now.col +ℤ pos k)) }
     requires values { AreFittingValues (S.samples source.now) (map case_view function.now.cases.items)
         (option_map formula_view function.now.otherwise) points.now.row points.now.col (length out.old) }
-    requires function { is_mix (map case_view function.now.cases.items)
+    requires function { is_linear_function (map case_view function.now.cases.items)
         (option_map formula_view function.now.otherwise) ≡ false
         → IsNarrowComputable (S.has source.now) (S.samples source.now) points.now.row
         points.now.col (length out.old) (length temps.old) (map case_view function.now.cases.items)
@@ -153,12 +148,8 @@ fn write_shaped_row_to_narrow_ring<S: NarrowSource>(
         (points.now.col +ℤ pos k)) }
 {
     match shape {
-        RingShape::Mix(mix) => write_narrow_mix(source, mix, points, out),
+        RingShape::Linear(linear) => write_linear_row(source, linear, points, out),
         RingShape::Pieces(pieces) => write_narrow_pieces(source, function, pieces, points, out),
-        RingShape::Bar(bar) => write_narrow_bar(source, bar, points, out),
-        RingShape::Average(average) => write_narrow_average(source, average, points, out),
-        RingShape::Limit(limit) => write_narrow_limit(source, limit, points, out),
-        RingShape::Choice(choice) => write_narrow_choice(source, choice, points, out),
         RingShape::Filter(filter) => write_narrow_filter(source, filter, points, out),
         RingShape::Decimation => write_decimated_row_to_narrow_ring(
             source, function, points, out, temps,
@@ -203,7 +194,7 @@ fn write_function_row_to_narrow_ring(
         area.now.cols.lo (length out.old) }
     requires shape { IsShapeOf shape.now (function_body (map case_view function.now.cases.items)
         (option_map formula_view function.now.otherwise)) }
-    requires function { is_mix (map case_view function.now.cases.items)
+    requires function { is_linear_function (map case_view function.now.cases.items)
         (option_map formula_view function.now.otherwise) ≡ false
         → IsNarrowComputable (IsKeptPoint known.now.rings.items)
         (value (pipeline_in job.now)) (area.now.rows.lo +ℤ pos row) area.now.cols.lo (length out.old)

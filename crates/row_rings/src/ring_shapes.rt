@@ -6,17 +6,13 @@ ghost use Rattle.std.specs.Option.{option_map};
 ghost use Rattle.job.specs.Kept.{pipeline_in};
 ghost use Rattle.job.specs.Pipeline.{function as function_body};
 ghost use Rattle.job.specs.Views.{case_view, formula_view, stage_view};
-ghost use Rattle.narrow_mixes.specs.NarrowMixes.{is_mix};
+ghost use Rattle.linear_rows.specs.LinearRows.{is_linear_function};
 ghost use Rattle.row_rings.specs.RingShapes.{IsShapeOf, AreShapesOf};
 
 use job::{Body, Function, Job, Stage};
-use narrow_averages::{NarrowAverage, find_narrow_average};
-use narrow_bars::{NarrowBar, find_narrow_bar};
-use narrow_choices::{NarrowChoice, find_narrow_choice};
+use linear_rows::{LinearRow, find_linear_row};
 use narrow_decimations::find_narrow_decimation;
 use narrow_filters::{NarrowFilter, find_narrow_filter};
-use narrow_limits::{NarrowLimit, find_narrow_limit};
-use narrow_mixes::{NarrowMix, find_narrow_mix};
 use narrow_pieces::{NarrowPieces, find_narrow_pieces};
 use row_halves::find_row_halves;
 use std::alloc::{AllocError, Global};
@@ -28,12 +24,8 @@ use wide_products::{WideProducts, find_wide_products};
 /// passes. Both may be made of halves or by formulas.
 #[derive(Drop)]
 pub(crate) enum RingShape<'a> {
-    Mix(NarrowMix<'a>),
+    Linear(LinearRow<'a>),
     Pieces(NarrowPieces<'a>),
-    Bar(NarrowBar<'a>),
-    Average(NarrowAverage<'a>),
-    Limit(NarrowLimit<'a>),
-    Choice(NarrowChoice<'a>),
     Filter(NarrowFilter<'a>),
     Division(DivisionStep<'a>),
     Products(WideProducts<'a>),
@@ -42,30 +34,18 @@ pub(crate) enum RingShape<'a> {
     Other,
 }
 
-// The shape of a function that is no mix.
-fn find_ring_shape_besides_mix<'a>(
+// The shape of a function that is no linear row.
+fn find_ring_shape_besides_linear<'a>(
     alloc: Global,
     function: &'a Function,
 ) -> Result<RingShape<'a>, AllocError>
-    requires { is_mix (map case_view function.now.cases.items)
+    requires { is_linear_function (map case_view function.now.cases.items)
         (option_map formula_view function.now.otherwise) ≡ false }
     ensures { IfOk result (λ shape. IsShapeOf shape (function_body (map case_view function.now.cases.items)
         (option_map formula_view function.now.otherwise))) }
 {
     if let Some(pieces) = find_narrow_pieces(function) {
         return Ok(RingShape::Pieces(pieces));
-    }
-    if let Some(bar) = find_narrow_bar(function) {
-        return Ok(RingShape::Bar(bar));
-    }
-    if let Some(average) = find_narrow_average(function) {
-        return Ok(RingShape::Average(average));
-    }
-    if let Some(limit) = find_narrow_limit(function) {
-        return Ok(RingShape::Limit(limit));
-    }
-    if let Some(choice) = find_narrow_choice(function) {
-        return Ok(RingShape::Choice(choice));
     }
     if let Some(filter) = find_narrow_filter(alloc, function)? {
         return Ok(RingShape::Filter(filter));
@@ -93,9 +73,9 @@ fn find_ring_shape_of_function<'a>(
     ensures { IfOk result (λ shape. IsShapeOf shape (function_body (map case_view function.now.cases.items)
         (option_map formula_view function.now.otherwise))) }
 {
-    match find_narrow_mix(function) {
-        Some(mix) => Ok(RingShape::Mix(mix)),
-        None => find_ring_shape_besides_mix(alloc, function),
+    match find_linear_row(alloc, function)? {
+        Some(row) => Ok(RingShape::Linear(row)),
+        None => find_ring_shape_besides_linear(alloc, function),
     }
 }
 

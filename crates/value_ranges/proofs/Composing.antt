@@ -16,12 +16,13 @@ use Rattle.job.specs.Pipeline.{JobCase}
 use Rattle.job.specs.declared.formula.Formula.{Formula as KeptFormula}
 use Rattle.job.specs.declared.formula.Formula.TheVariants.{Read}
 use Rattle.job.specs.Views.{formula_view}
-use Rattle.job.specs.Formula.{Formula, number, read, unary, binary, ternary, literal, select, stencil}
+use Rattle.job.specs.Formula.{Formula, number, read, unary, binary, ternary, literal, lookup, select, stencil}
 use Rattle.job.specs.Values.{Valuation, unary_value, ternary_value, literal_value, is_related, weighted_sum, formula_value}
 use Rattle.job.specs.Reads.{Read as PlaceRead, point, window, reads_in, EachTaken}
 use Rattle.job.specs.WellFormed.{IsFormula, IsDivisor, IsLiteral}
 use Rattle.job.proofs.Agreeing.{All-left, All-right}
 use Rattle.job.proofs.Fitting.{formula_fits}
+use Rattle.tables.specs.Entries.{Entries, entry_at}
 use Rattle.value_ranges.specs.declared.value_range.ValueRange.{ValueRange}
 use Rattle.value_ranges.specs.declared.formulas.FoundRange.{FoundRange}
 use Rattle.value_ranges.specs.Narrow.{Fits16, IsNarrow, IsNarrowStencil}
@@ -182,6 +183,14 @@ module _ (ranges : List ValueRange) where
       inner : (env : Valuation) (r c : ℤ) → IsRangedAt ranges env (literal op a n) r c → IsRangedAt ranges env a r c
       inner env r c h = part env r c (literal op a n) a h h.formula.1 h.reads
 
+  -- (a look-up is not computed in 16 bits)
+  pub lookup_found : (t : Entries) (a : Formula) (found : FoundRange) → ((v : ℤ) → InRange found.range (entry_at t v))
+      → (found.narrow ≡ true → false ≡ true) → IsFound ranges (lookup t a) found
+  lookup_found t a found values none = record {
+    value = λ env r c h. values (formula_value env a r c);
+    narrow = λ e. absurd (true≢false (sym (none e)));
+  }
+
   pub binary_found : (op : BinaryOp) (a b : Formula) (one two found : FoundRange) → IsFound ranges a one → IsFound ranges b two
       → ((env : Valuation) (r c : ℤ) → InRange one.range (formula_value env a r c) → InRange two.range (formula_value env b r c)
       → InRange found.range (formula_value env (binary op a b) r c))
@@ -275,7 +284,7 @@ module _ (ranges : List ValueRange) where
       → ((f : ℤ → ℤ → ℤ) (r c : ℤ) → IsDivisor divisor → AreUnderKernel (range_at ranges g) kernel f r c
       → InRange found.range (floor_div (wrapped (weighted_sum kernel f r c)) (pos divisor)))
       → (found.narrow ≡ true → (f : ℤ → ℤ → ℤ) (r c : ℤ) → AreUnderKernel (range_at ranges g) kernel f r c
-      → IsNarrowStencil f kernel r c)
+      → IsNarrowStencil f divisor kernel r c)
       → IsFound ranges (stencil g divisor kernel) found
   stencil_found g divisor kernel found values narrow = record {
     value = λ env r c h. values (env g) r c h.formula.0 (under env r c h);

@@ -1,3 +1,5 @@
 pub mod Ends
+pub mod Entries
 pub mod Composing
 pub mod Reaching
+pub mod NarrowSums

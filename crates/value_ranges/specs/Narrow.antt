@@ -1,5 +1,5 @@
 -- Formulas whose values are computed in 16 bits.
-use Rattle.std.specs.Prelude.{ℕ, ◌*◌, ◌≤◌, ◌<◌, ℤ, unsigned_abs, List, map, length, FitsSigned, All, sum}
+use Rattle.std.specs.Prelude.{ℕ, ◌*◌, ◌/◌, nat_lt, ◌&&◌, if◌then◌else◌, ℤ, pos, ◌-ℤ◌, List, FitsSigned, All}
 use Rattle.std.specs.Int.{w16}
 use Rattle.std.specs.Option.{ForSome}
 use Rattle.std.specs.Prelude.{Option}
@@ -7,22 +7,24 @@ use Rattle.domains.specs.Area.{HoldsPoint}
 use Rattle.domains.specs.Index.{index_at}
 use Rattle.job.specs.Formula.{Formula, number, coordinate, read, unary, binary, ternary, literal, lookup, select, stencil}
 use Rattle.job.specs.Pipeline.{JobCase}
-use Rattle.job.specs.Values.{Valuation, factors, kernel_row, kernel_column, formula_value}
+use Rattle.domains.specs.Arithmetic.{wrapped}
+use Rattle.job.specs.Values.{Valuation, weighted_sum, formula_value}
 
 abbrev pub Fits16 : ℤ → Type 0
 Fits16 v = FitsSigned w16 v
 
--- the factors of a kernel, added up without their signs
-abbrev pub kernel_weight : List (List ℤ) → ℕ
-kernel_weight kernel = sum (map (λ row. sum (map unsigned_abs row)) kernel)
+-- how many divisors are taken from a sum before it is divided. By a divisor from 129 to 257, as of weights that add up to 2 ^ 8, whole
+-- divisors are taken from 2 ^ 15: sums of samples of 8 bits fit in 16 bits then
+abbrev pub steps_before_division : ℕ → ℕ
+steps_before_division divisor = if nat_lt 128 divisor && nat_lt divisor 258 then 32768 / divisor else 0
 
--- no number under the kernel is further from 0 than a bound, and the bound times the factors' sum fits in 16 bits, and with it
--- each sum of some of the products
-pub record IsNarrowStencil (f : ℤ → ℤ → ℤ) (kernel : List (List ℤ)) (r c : ℤ) : Type 0 where
-  pub bound : ℕ
-  pub weight : kernel_weight kernel * bound ≤ 32767
-  pub each : (a b : ℕ) → a < length kernel → b < length (factors kernel a)
-      → unsigned_abs (f (kernel_row kernel r a) (kernel_column kernel c b)) ≤ bound
+-- a sum without them
+abbrev pub sum_before_division : ℕ → ℤ → ℤ
+sum_before_division divisor sum = sum -ℤ pos (steps_before_division divisor * divisor)
+
+-- the sum under a kernel fits in 16 bits without them
+abbrev pub IsNarrowStencil : (ℤ → ℤ → ℤ) → ℕ → List (List ℤ) → ℤ → ℤ → Type 0
+IsNarrowStencil f divisor kernel r c = Fits16 (sum_before_division divisor (wrapped (weighted_sum kernel f r c)))
 
 -- at the point of row r and column c the value of a formula fits in 16 bits, and so does that of each formula in it. Coordinates
 -- and tables are not computed in 16 bits
@@ -38,7 +40,7 @@ IsNarrow env (literal op a n) r c = IsNarrow env a r c × Fits16 (formula_value 
 IsNarrow env (lookup t a) r c = ⊥
 IsNarrow env (select a relation b first second) r c =
     IsNarrow env a r c × IsNarrow env b r c × IsNarrow env first r c × IsNarrow env second r c
-IsNarrow env (stencil g divisor kernel) r c = IsNarrowStencil (env g) kernel r c
+IsNarrow env (stencil g divisor kernel) r c = IsNarrowStencil (env g) divisor kernel r c
 
 -- at a point each formula of a function is narrow where it is evaluated: that of a case at each point of its box
 pub record IsNarrowFunction (env : Valuation) (cases : List JobCase) (otherwise : Option Formula) (r c : ℤ) : Type 0 where

@@ -16,6 +16,7 @@ use crate::operands::{
     find_value_range_of_binary, find_value_range_of_literal, find_value_range_of_quotient,
     find_value_range_of_square, find_value_range_of_ternary, find_value_range_of_unary,
 };
+use crate::table_entries::find_value_range_of_table;
 use crate::value_range::{
     ValueRange, full_value_range, is_narrow_value_range, join_value_ranges, value_range_at,
 };
@@ -122,12 +123,12 @@ fn find_value_range_of_stencil(read: ValueRange, divisor: u32, kernel: &Kernel) 
     ensures range { (f : ℤ → ℤ → ℤ) (r c : ℤ) → IsDivisor divisor → AreUnderKernel read kernel.now f r c
         → InRange result.range (floor_div (wrapped (weighted_sum kernel.now f r c)) (pos divisor)) }
     ensures narrow { result.narrow ≡ true → (f : ℤ → ℤ → ℤ) (r c : ℤ) → AreUnderKernel read kernel.now f r c
-        → IsNarrowStencil f kernel.now r c }
+        → IsNarrowStencil f divisor kernel.now r c }
 {
     let range = find_value_range_of_quotient(find_value_range_of_kernel_sum(kernel, read), divisor);
     FoundRange {
         range,
-        narrow: is_narrow_kernel(kernel, read),
+        narrow: is_narrow_kernel(kernel, divisor, read),
     }
 }
 
@@ -137,7 +138,7 @@ pub(crate) fn find_value_range_of_formula(formula: &Formula, ranges: &[ValueRang
 {
     match formula {
         Formula::Number(n) => found_value_range(ValueRange { lo: *n, hi: *n }, true),
-        Formula::Coordinate(_) | Formula::Lookup(_, _) => found_full_value_range(),
+        Formula::Coordinate(_) => found_full_value_range(),
         Formula::Read(stage, _, _) => found_value_range(value_range_at(ranges, *stage), true),
         Formula::Unary(op, a) => {
             let operand = find_value_range_of_formula(a, ranges);
@@ -183,6 +184,7 @@ pub(crate) fn find_value_range_of_formula(formula: &Formula, ranges: &[ValueRang
                 ),
             )
         }
+        Formula::Lookup(table, _) => found_value_range(find_value_range_of_table(table), false),
         Formula::Stencil(stage, divisor, kernel) => {
             find_value_range_of_stencil(value_range_at(ranges, *stage), *divisor, kernel)
         }

@@ -1,16 +1,20 @@
 #![tactic(auto)]
 //! Ranges of the sums of stencils.
 
-ghost use Rattle.std.specs.Prelude.{◌≡◌, ◌<◌, ◌*ℤ◌, ℕ, ℤ, pos, List, length, map, sum, unsigned_abs, true, IfSome, slice_index_or};
+ghost use Rattle.std.specs.Prelude.{◌≡◌, ◌<◌, ◌*ℤ◌, ℕ, ℤ, pos, length, true, IfSome, slice_index_or};
 ghost use Rattle.domains.specs.Arithmetic.{wrapped};
 ghost use Rattle.job.specs.Values.{factors, sum_below, weighted_sum};
-ghost use Rattle.value_ranges.specs.Narrow.{IsNarrowStencil, kernel_weight};
+ghost use Rattle.value_ranges.specs.Narrow.{Fits16, IsNarrowStencil, sum_before_division};
 ghost use Rattle.value_ranges.specs.Ranges.{InRange};
 ghost use Rattle.value_ranges.specs.inside.Found.{IsBetween, AreUnderKernel};
 
+use crate::narrow_sums::count_narrow_steps_before_division;
 use crate::operands::find_value_range_product_ends;
 use crate::value_range::{ValueRange, full_value_range, wrap_value_range};
-use job::Kernel;
+use job::{Kernel, KernelFactors};
+
+// How many rows and columns a small kernel has at most.
+const MAX_SIDE: usize = 7;
 
 // The least and the greatest product of a factor with a number in a range.
 fn find_value_range_product_ends_of_factor(factor: i32, range: ValueRange) -> (i64, i64)
@@ -69,39 +73,47 @@ pub(crate) fn find_value_range_of_kernel_sum(kernel: &Kernel, range: ValueRange)
     }
 }
 
-// A row's factors, added up without their signs.
-fn find_narrow_weight_of_factors(factors: &[i32]) -> Option<u64>
-    ensures { IfSome result (λ weight. weight ≡ sum (map unsigned_abs factors.now)) }
+// Whether sums in a range fit in 16 bits without whole divisors that are taken from them before they are divided.
+#[tactic(auto, using(std::proofs::lemmas::Int::ints))]
+fn is_narrow_range_before_division(range: ValueRange, divisor: u32) -> bool
+    ensures { result ≡ true → (v : ℤ) → InRange range v → Fits16 (sum_before_division divisor v) }
 {
-    let mut weight: u64 = 0;
-    for factor in factors {
-        weight = weight.checked_add(u64::from(factor.unsigned_abs()))?;
-    }
-    Some(weight)
+    let less = (count_narrow_steps_before_division(divisor) * divisor) as i32;
+    less - 32768 <= range.lo && range.hi <= less + 32767
 }
 
-// The same of all rows of a kernel.
-fn find_narrow_weight_of_kernel(kernel: &Kernel) -> Option<u64>
-    ensures { IfSome result (λ weight. weight ≡ kernel_weight kernel.now) }
-{
-    let mut weight: u64 = 0;
-    for factors in kernel.as_slice() {
-        weight = weight.checked_add(find_narrow_weight_of_factors(factors.as_slice())?)?;
-    }
-    Some(weight)
-}
-
-// Whether the products under a kernel, and each sum of them, fit in 16 bits.
-pub(crate) fn is_narrow_kernel(kernel: &Kernel, range: ValueRange) -> bool
-    ensures { result ≡ true → (f : ℤ → ℤ → ℤ) (r c : ℤ) → AreUnderKernel range kernel.now f r c
-        → IsNarrowStencil f kernel.now r c }
-{
-    let bound = u64::from(range.lo.unsigned_abs().max(range.hi.unsigned_abs()));
-    let Some(weight) = find_narrow_weight_of_kernel(kernel) else {
+// Whether a row of factors is a multiple of another one.
+fn is_narrow_multiple(row: &[i32], other: &[i32]) -> bool {
+    let (Some(factor), Some(of)) = (row.first(), other.first()) else {
         return false;
     };
-    match weight.checked_mul(bound) {
-        Some(product) => product <= 32767,
+    row.iter().zip(other).all(|(a, b)| i64::from(*a) * i64::from(*of)
+        == i64::from(*b) * i64::from(*factor))
+}
+
+// Whether each row of a kernel is a multiple of its first one. (In 32 bits the columns are added first then, and the row of their sums.)
+fn is_separable_narrow_kernel(rows: &[KernelFactors]) -> bool {
+    match rows.first() {
+        Some(first) => rows
+            .iter()
+            .all(|row| is_narrow_multiple(row.as_slice(), first.as_slice())),
         None => false,
     }
+}
+
+// Whether a kernel has few rows and columns.
+fn is_small_narrow_kernel(rows: &[KernelFactors]) -> bool {
+    rows.len() <= MAX_SIDE && rows.iter().all(|row| row.as_slice().len() <= MAX_SIDE)
+}
+
+// Whether the sums under a kernel are computed in 16 bits, by a range of its reads.
+pub(crate) fn is_narrow_kernel(kernel: &Kernel, divisor: u32, range: ValueRange) -> bool
+    ensures { result ≡ true → (f : ℤ → ℤ → ℤ) (r c : ℤ) → AreUnderKernel range kernel.now f r c
+        → IsNarrowStencil f divisor kernel.now r c }
+{
+    let sum = find_value_range_of_kernel_sum(kernel, range);
+    let rows = kernel.as_slice();
+    is_narrow_range_before_division(sum, divisor)
+        && (count_narrow_steps_before_division(divisor) == 0
+            || (is_small_narrow_kernel(rows) && !is_separable_narrow_kernel(rows)))
 }

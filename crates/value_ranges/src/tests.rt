@@ -5,8 +5,10 @@ use crate::operands::{
     find_value_range_of_binary, find_value_range_of_quotient, find_value_range_of_square,
     find_value_range_of_unary,
 };
+use crate::table_entries::find_value_range_of_table;
 use operators::{BinaryOp, UnaryOp};
 use std::test::Fail;
+use tables::{Table, TableEntries};
 
 #[test]
 fn ranges_of_sums_and_products_have_the_ends_of_their_numbers(rt: HostRuntime) -> Result<(), Fail> {
@@ -44,5 +46,16 @@ fn a_sum_that_may_wrap_has_all_numbers(rt: HostRuntime) -> Result<(), Fail> {
     };
     let sum = find_value_range_of_binary(BinaryOp::Add, a, a);
     assert_eq!(rt; (sum.lo, sum.hi), (i32::MIN, i32::MAX));
+    Ok(())
+}
+
+#[test]
+fn the_range_of_a_table_has_its_least_and_greatest_entry_as_ends(
+    rt: HostRuntime,
+) -> Result<(), Fail> {
+    let table = Table::read(rt.alloc(), b"t -1..2: 7 -40 300 9")?;
+    let entries = TableEntries::from_table_if_within_limits(&table)?.ok_or("entries")?;
+    let range = find_value_range_of_table(&entries);
+    assert_eq!(rt; (range.lo, range.hi), (-40, 300));
     Ok(())
 }

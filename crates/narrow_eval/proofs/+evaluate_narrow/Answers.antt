@@ -1,15 +1,14 @@
-use Rattle.std.proofs.Common.{rules, arith, ℕ, ℤ, ◌≡◌, ◌<◌, ◌+ℤ◌, ◌-ℤ◌, pos, true, false, length, w16, sym, ap, subst, ◌∙◌, refl, to_z, of_z, FitsSigned}
+use Rattle.std.proofs.Common.{rules, ℕ, ℤ, ◌≡◌, ◌<◌, ◌+ℤ◌, ◌-ℤ◌, pos, true, length, w16, sym, ap, subst, ◌∙◌, refl, FitsSigned}
 use Rattle.std.specs.Int.{int_wrap}
 use Rattle.std.proofs.lemmas.Int.{int_wrap_fits, to_z-of_z}
-use Rattle.job.specs.Formula.{Formula, binary, number}
+use Rattle.job.specs.Formula.{Formula, binary}
 use Rattle.job.specs.Values.{formula_value, binary_value}
 use Rattle.job.specs.Views.{formula_view}
-use Rattle.row_loops.specs.Rows.{at}
 use Rattle.operators.specs.declared.operator.BinaryOp.TheVariants.{Add}
-use Rattle.operators.specs.Values.{literal_value}
+use Rattle.domains.specs.Arithmetic.{floor_div}
 use Rattle.narrow_eval.specs.NarrowOperators.{JoinsTwo}
 use Rattle.narrow_eval.specs.NarrowSums.{GivesSum, adds, first_addend}
-use Rattle.narrow_eval.proofs.NarrowAddends.{gives_same, gives_row, gives_nothing, gathered_step, gathered_none, first_of_sum, first_otherwise, begun, all_gathered}
+use Rattle.narrow_eval.proofs.NarrowAddends.{gives_same, gives_row, gives_nothing, gathered_step, gathered_none, first_of_sum, first_otherwise, begun, all_gathered, with_nothing}
 use Rattle.narrow_eval.proofs.NarrowSums.{narrow_fits, literal_sum}
 use Rattle.narrow_eval.proofs.+evaluate_narrow.Goals as goal
 
@@ -68,40 +67,16 @@ narrow_points::NarrowPoints::gather_narrow_sum-returns-then-is_narrow_sum_operat
     (λ j m. c.gather_narrow_sum.ensures.sum (λ k. binary_value c.in-Binary.op (f k) (formula_value (g.S.NarrowSource.samples c.args.self.now.source.now) (formula_view c.deref.result.now) c.args.self.now.points.row (c.args.self.now.points.col +ℤ pos k)))
     (λ i n. c.add_narrow_formula_to_sum.ensures.sum f h i (subst (λ (x : ℕ). i < x) len n)) j (subst (λ (x : ℕ). j < x) (sym len) m))
 
-pub narrow_points::NarrowPoints::try_narrow_sum_under_literal_op-write_narrow_literal_op_results_of_sums-requires-clause-sum : goal.narrow_points::NarrowPoints::try_narrow_sum_under_literal_op-write_narrow_literal_op_results_of_sums-requires-clause-sum
-narrow_points::NarrowPoints::try_narrow_sum_under_literal_op-write_narrow_literal_op_results_of_sums-requires-clause-sum g t c =
-    λ k m.
-    let len : length c.borrow_or_write_narrow_formula-left.new.out ≡ length c.args.out.now = c.borrow_or_write_narrow_formula-left.auto.out in
-    let same : formula_view c.args.formula.now ≡ binary Add (formula_view c.deref-2.result.now) (formula_view c.deref.result.now) = search rules in
-    let given : FitsSigned w16 c.in-Some.number = search rules in
-    let l : k < length c.args.out.now = subst (λ (n : ℕ). k < n) len m in
-    subst (λ (z : ℤ). FitsSigned w16 z) (sym (literal_sum (g.S.NarrowSource.samples c.args.self.now.source.now) c.args.self.now.points.row c.args.self.now.points.col (length c.args.out.now) (formula_view c.args.formula.now) (formula_view c.deref-2.result.now) (formula_view c.deref.result.now) same c.requires.narrow _ _ k l
-    (c.borrow_or_write_narrow_formula-left.ensures.values k l)
-    (to_z-of_z w16 c.in-Some.number given ∙ sym (c.in-Some.ensures (g.S.NarrowSource.samples c.args.self.now.source.now) c.args.self.now.points.row (c.args.self.now.points.col +ℤ pos k)))))
-    (narrow_fits (g.S.NarrowSource.samples c.args.self.now.source.now) c.args.self.now.points.row c.args.self.now.points.col (length c.args.out.now) (formula_view c.args.formula.now) c.requires.narrow k l)
-
-pub narrow_points::NarrowPoints::try_narrow_sum_under_literal_op-write_narrow_literal_op_results_of_sums-requires-clause-fits : goal.narrow_points::NarrowPoints::try_narrow_sum_under_literal_op-write_narrow_literal_op_results_of_sums-requires-clause-fits
-narrow_points::NarrowPoints::try_narrow_sum_under_literal_op-write_narrow_literal_op_results_of_sums-requires-clause-fits g t c =
-    λ k m.
-    let len : length c.borrow_or_write_narrow_formula-left.new.out ≡ length c.args.out.now = c.borrow_or_write_narrow_formula-left.auto.out in
-    let same : formula_view c.args.formula.now ≡ binary Add (formula_view c.deref-2.result.now) (formula_view c.deref.result.now) = search rules in
-    let given : FitsSigned w16 c.in-Some.number = search rules in
-    let l : k < length c.args.out.now = subst (λ (n : ℕ). k < n) len m in
-    subst (λ (z : ℤ). FitsSigned w16 (literal_value c.args.op z c.args.literal)) (sym (literal_sum (g.S.NarrowSource.samples c.args.self.now.source.now) c.args.self.now.points.row c.args.self.now.points.col (length c.args.out.now) (formula_view c.args.formula.now) (formula_view c.deref-2.result.now) (formula_view c.deref.result.now) same c.requires.narrow _ _ k l
-    (c.borrow_or_write_narrow_formula-left.ensures.values k l)
-    (to_z-of_z w16 c.in-Some.number given ∙ sym (c.in-Some.ensures (g.S.NarrowSource.samples c.args.self.now.source.now) c.args.self.now.points.row (c.args.self.now.points.col +ℤ pos k)))))
-    (c.requires.results k l)
-
-pub narrow_points::NarrowPoints::try_narrow_sum_under_literal_op-returns : goal.narrow_points::NarrowPoints::try_narrow_sum_under_literal_op-returns
-narrow_points::NarrowPoints::try_narrow_sum_under_literal_op-returns g t c =
-    λ e k l.
-    let len : length c.borrow_or_write_narrow_formula-left.new.out ≡ length c.args.out.now = c.borrow_or_write_narrow_formula-left.auto.out in
-    let same : formula_view c.args.formula.now ≡ binary Add (formula_view c.deref-2.result.now) (formula_view c.deref.result.now) = search rules in
-    let given : FitsSigned w16 c.in-Some.number = search rules in
-    c.write_narrow_literal_op_results_of_sums.ensures k (subst (λ (n : ℕ). k < n) (sym len) l)
-    ∙ ap (λ (z : ℤ). literal_value c.args.op z c.args.literal) (literal_sum (g.S.NarrowSource.samples c.args.self.now.source.now) c.args.self.now.points.row c.args.self.now.points.col (length c.args.out.now) (formula_view c.args.formula.now) (formula_view c.deref-2.result.now) (formula_view c.deref.result.now) same c.requires.narrow _ _ k l
-    (c.borrow_or_write_narrow_formula-left.ensures.values k l)
-    (to_z-of_z w16 c.in-Some.number given ∙ sym (c.in-Some.ensures (g.S.NarrowSource.samples c.args.self.now.source.now) c.args.self.now.points.row (c.args.self.now.points.col +ℤ pos k))))
+pub narrow_points::NarrowPoints::add_up_narrow_sum-returns-clause-sum : goal.narrow_points::NarrowPoints::add_up_narrow_sum-returns-clause-sum
+narrow_points::NarrowPoints::add_up_narrow_sum-returns-clause-sum g t c =
+    let len : length c.begin_narrow_sum.new.out ≡ length c.args.out.now = c.begin_narrow_sum.auto.out in
+    gives_same (length c.args.out.now)
+    (λ k. formula_value (g.S.NarrowSource.samples c.args.self.now.source.now) (first_addend (formula_view c.args.formula.now)) c.args.self.now.points.row (c.args.self.now.points.col +ℤ pos k) +ℤ (formula_value (g.S.NarrowSource.samples c.args.self.now.source.now) (formula_view c.args.formula.now) c.args.self.now.points.row (c.args.self.now.points.col +ℤ pos k) -ℤ formula_value (g.S.NarrowSource.samples c.args.self.now.source.now) (first_addend (formula_view c.args.formula.now)) c.args.self.now.points.row (c.args.self.now.points.col +ℤ pos k)))
+    (λ k. formula_value (g.S.NarrowSource.samples c.args.self.now.source.now) (formula_view c.args.formula.now) c.args.self.now.points.row (c.args.self.now.points.col +ℤ pos k))
+    c.gather_narrow_sum.new.sum c.gather_narrow_sum.new.out
+    (λ k l. ap (int_wrap w16) (all_gathered (formula_value (g.S.NarrowSource.samples c.args.self.now.source.now) (first_addend (formula_view c.args.formula.now)) c.args.self.now.points.row (c.args.self.now.points.col +ℤ pos k)) (formula_value (g.S.NarrowSource.samples c.args.self.now.source.now) (formula_view c.args.formula.now) c.args.self.now.points.row (c.args.self.now.points.col +ℤ pos k))))
+    (λ k l. c.gather_narrow_sum.ensures.sum (λ k. formula_value (g.S.NarrowSource.samples c.args.self.now.source.now) (first_addend (formula_view c.args.formula.now)) c.args.self.now.points.row (c.args.self.now.points.col +ℤ pos k))
+    (λ i n. c.begin_narrow_sum.ensures.sum i (subst (λ (x : ℕ). i < x) len n)) k (subst (λ (x : ℕ). k < x) (sym len) l))
 
 pub narrow_points::NarrowPoints::try_narrow_sum-returns : goal.narrow_points::NarrowPoints::try_narrow_sum-returns
 narrow_points::NarrowPoints::try_narrow_sum-returns g t c =
@@ -120,3 +95,39 @@ narrow_points::NarrowPoints::try_narrow_sum-returns g t c =
     ∙ ap (int_wrap w16) (all_gathered (formula_value (g.S.NarrowSource.samples c.args.self.now.source.now) (first_addend (formula_view c.args.formula.now)) c.args.self.now.points.row (c.args.self.now.points.col +ℤ pos k)) (formula_value (g.S.NarrowSource.samples c.args.self.now.source.now) (formula_view c.args.formula.now) c.args.self.now.points.row (c.args.self.now.points.col +ℤ pos k)))
     ∙ int_wrap_fits w16 _ (narrow_fits (g.S.NarrowSource.samples c.args.self.now.source.now) c.args.self.now.points.row
     c.args.self.now.points.col (length c.args.out.now) (formula_view c.args.formula.now) c.requires.narrow k l)
+
+pub narrow_points::NarrowPoints::write_divided_narrow_sum_with_number-returns : goal.narrow_points::NarrowPoints::write_divided_narrow_sum_with_number-returns
+narrow_points::NarrowPoints::write_divided_narrow_sum_with_number-returns g t c =
+    λ k l.
+    let len : length c.add_up_narrow_sum.new.out ≡ length c.args.out.now = c.add_up_narrow_sum.auto.out in
+    let number : FitsSigned w16 c.args.number = search rules in
+    let made = simp to_z-of_z at c.divide_narrow_sum.ensures in
+    made (λ k. formula_value (g.S.NarrowSource.samples c.args.self.now.source.now) (formula_view c.args.formula.now) c.args.self.now.points.row (c.args.self.now.points.col +ℤ pos k))
+    (λ j m. c.add_up_narrow_sum.ensures.sum j (subst (λ (x : ℕ). j < x) len m))
+    k (subst (λ (n : ℕ). k < n) (sym len) l)
+
+pub narrow_points::NarrowPoints::write_divided_narrow_sum-returns-in_default : goal.narrow_points::NarrowPoints::write_divided_narrow_sum-returns-in_default
+narrow_points::NarrowPoints::write_divided_narrow_sum-returns-in_default g t c =
+    λ k l.
+    c.write_divided_narrow_sum_with_number-in_default.ensures k l
+    ∙ ap (λ (z : ℤ). floor_div z (pos c.args.divisor))
+    (with_nothing _ (narrow_fits (g.S.NarrowSource.samples c.args.self.now.source.now) c.args.self.now.points.row c.args.self.now.points.col (length c.args.out.now) (formula_view c.args.formula.now) c.requires.narrow k l))
+
+pub narrow_points::NarrowPoints::write_divided_narrow_sum-returns-in-None : goal.narrow_points::NarrowPoints::write_divided_narrow_sum-returns-in-None
+narrow_points::NarrowPoints::write_divided_narrow_sum-returns-in-None g t c =
+    λ k l.
+    c.write_divided_narrow_sum_with_number-in-None.ensures k l
+    ∙ ap (λ (z : ℤ). floor_div z (pos c.args.divisor))
+    (with_nothing _ (narrow_fits (g.S.NarrowSource.samples c.args.self.now.source.now) c.args.self.now.points.row c.args.self.now.points.col (length c.args.out.now) (formula_view c.args.formula.now) c.requires.narrow k l))
+
+pub narrow_points::NarrowPoints::write_divided_narrow_sum-returns-in-Some : goal.narrow_points::NarrowPoints::write_divided_narrow_sum-returns-in-Some
+narrow_points::NarrowPoints::write_divided_narrow_sum-returns-in-Some g t c =
+    λ k l.
+    let same : (formula_view c.args.formula.now) ≡ binary Add (formula_view c.deref-in-Some.result.now) (formula_view c.deref.result.now) = search rules in
+    let given : FitsSigned w16 c.in-Some.number = search rules in
+    c.write_divided_narrow_sum_with_number.ensures k l
+    ∙ ap (λ (z : ℤ). floor_div (int_wrap w16 z) (pos c.args.divisor))
+    (literal_sum (g.S.NarrowSource.samples c.args.self.now.source.now) c.args.self.now.points.row c.args.self.now.points.col (length c.args.out.now) (formula_view c.args.formula.now) (formula_view c.deref-in-Some.result.now) (formula_view c.deref.result.now) same c.requires.narrow _ _ k l refl
+    (to_z-of_z w16 c.in-Some.number given ∙ sym (c.in-Some.ensures (g.S.NarrowSource.samples c.args.self.now.source.now) c.args.self.now.points.row (c.args.self.now.points.col +ℤ pos k))))
+    ∙ ap (λ (z : ℤ). floor_div z (pos c.args.divisor))
+    (int_wrap_fits w16 _ (narrow_fits (g.S.NarrowSource.samples c.args.self.now.source.now) c.args.self.now.points.row c.args.self.now.points.col (length c.args.out.now) (formula_view c.args.formula.now) c.requires.narrow k l))

@@ -1,4 +1,4 @@
-use Rattle.std.proofs.Common.{rules, ℤ, to_z, of_z, w16, FitsSigned, ap, ◌∙◌}
+use Rattle.std.proofs.Common.{rules, to_z, of_z, w16, FitsSigned, ap, ◌∙◌}
 use Rattle.std.specs.Int.{int_wrap}
 use Rattle.std.proofs.lemmas.Int.{to_z-of_z}
 use Rattle.row_loops.specs.Rows.{at}

@@ -1,13 +1,21 @@
-use Rattle.std.proofs.Common.{rules, ◌<◌, ◌+◌, ℕ, pos, length, slice_index_or, ap, ◌∙◌, w16, FitsSigned}
-use Rattle.std.proofs.lemmas.Int.{to_z-of_z}
-use Rattle.row_kernels.specs.Columns.{column_gap}
+use Rattle.std.proofs.Common.{arith, ℕ, ◌<◌, ◌+◌, length, ap, sym, subst, ◌∙◌}
+use Rattle.std.proofs.lemmas.Int.{ints}
 use Rattle.row_loops.specs.Rows.{at}
-use Rattle.row_loops.proofs.Writing.{EachPlace-more}
 use Rattle.narrow_kernels.proofs.narrow_gathering.gather_columns_of_narrow_line.Goals as goal
 
-pub loop-k-preserved : goal.loop-k-preserved
-loop-k-preserved c =
-    let lt : c.loop-k.k < length c.loop-k.out = search rules in
-    let fits : FitsSigned w16 (slice_index_or c.args.line.now (c.args.from + c.compute_narrow_line_gap.result) (pos 0)) = search rules in
-    EachPlace-more (λ (k : ℕ). at c.args.line.now (c.args.from + column_gap c.args.col.now c.args.points.now.col k)) c.loop-k.out c.loop-k.k _ lt
-    (to_z-of_z w16 _ fits ∙ ap (λ (n : ℕ). at c.args.line.now (c.args.from + n)) c.compute_narrow_line_gap.ensures) c.loop-k.invariant
+pub gather_divided_of_narrow_line-requires-clause-left : goal.gather_divided_of_narrow_line-requires-clause-left
+gather_divided_of_narrow_line-requires-clause-left c =
+    omega (arith, ints, c.compute_narrow_line_rest-left.ensures.below, c.get_narrow_line_divisor-divisor.ensures.number)
+
+pub gather_divided_of_narrow_line-requires-clause-there : goal.gather_divided_of_narrow_line-requires-clause-there
+gather_divided_of_narrow_line-requires-clause-there c = λ k h.
+    subst (λ (n : ℕ). c.args.from + n < length c.args.line.now)
+    (c.compute_narrow_line_rest-left.ensures.goes c.get_narrow_line_step-step.result c.get_narrow_line_divisor-divisor.result k c.get_narrow_line_step-step.ensures.number
+    c.get_narrow_line_divisor-divisor.ensures.number) (c.requires.there k h)
+
+pub returns : goal.returns
+returns c = λ k h.
+    c.gather_divided_of_narrow_line.ensures k h
+    ∙ ap (λ (n : ℕ). at c.args.line.now (c.args.from + n))
+    (sym (c.compute_narrow_line_rest-left.ensures.goes c.get_narrow_line_step-step.result c.get_narrow_line_divisor-divisor.result k
+    c.get_narrow_line_step-step.ensures.number c.get_narrow_line_divisor-divisor.ensures.number))

@@ -3,7 +3,7 @@ use Rattle.job.specs.declared.formula.Formula.{Formula as KeptFormula}
 use Rattle.job.specs.Views.{formula_view}
 use Rattle.value_ranges.specs.declared.value_range.ValueRange.{ValueRange}
 use Rattle.value_ranges.specs.inside.Found.{AreUnderKernel, IsFound}
-use Rattle.value_ranges.proofs.Composing.{in_same, read_found, unary_found, literal_found, binary_values_same, binary_found, ternary_found, select_found, stencil_found}
+use Rattle.value_ranges.proofs.Composing.{in_same, read_found, unary_found, literal_found, lookup_found, binary_values_same, binary_found, ternary_found, select_found, stencil_found}
 use Rattle.value_ranges.proofs.formulas.+find_value_range_of_formula.Goals as goal
 
 pub returns-in-Read : goal.returns-in-Read
@@ -28,6 +28,12 @@ returns-in-Literal t c =
     (literal_found c.args.ranges.now c.in-Literal.op (formula_view c.in-Literal.a.value) c.in-Literal.n _ c.found_value_range-in-Literal.result one
     (λ v is fits h. in_same _ _ _ c.found_value_range-in-Literal.ensures.range (c.find_value_range_of_literal.ensures v is fits h)) c.found_value_range-in-Literal.ensures.operands
     c.found_value_range-in-Literal.ensures.narrow)
+
+pub returns-in-Lookup : goal.returns-in-Lookup
+returns-in-Lookup t c =
+    subst (λ (f : KeptFormula). IsFound c.args.ranges.now (formula_view f) c.found_value_range-in-Lookup.result) (sym c.in-Lookup.is)
+    (lookup_found c.args.ranges.now c.in-Lookup.table (formula_view c.in-Lookup.field-1.value) c.found_value_range-in-Lookup.result
+    (λ v. in_same _ _ _ c.found_value_range-in-Lookup.ensures.range (c.find_value_range_of_table.ensures v)) c.found_value_range-in-Lookup.ensures.operands)
 
 pub returns-in-Binary : goal.returns-in-Binary
 returns-in-Binary t c =

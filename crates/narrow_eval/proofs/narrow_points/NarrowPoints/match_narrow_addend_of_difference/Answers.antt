@@ -1,4 +1,4 @@
-use Rattle.std.proofs.Common.{rules, ℤ, pos, ◌+ℤ◌, ◌≡◌, to_z, of_z, w16, FitsSigned, sym, ◌∙◌}
+use Rattle.std.proofs.Common.{rules, ℤ, pos, ◌+ℤ◌, ◌≡◌, w16, FitsSigned, sym, ◌∙◌}
 use Rattle.std.proofs.lemmas.Int.{to_z-of_z}
 use Rattle.job.specs.Formula.{binary, ternary}
 use Rattle.job.specs.Values.{Valuation}

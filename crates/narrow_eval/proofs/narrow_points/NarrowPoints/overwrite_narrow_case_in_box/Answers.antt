@@ -1,4 +1,4 @@
-use Rattle.std.proofs.Common.{rules, arith, ◌≡◌, ◌≤◌, ◌-◌, List, length, sym, subst}
+use Rattle.std.proofs.Common.{arith, ◌≤◌, ◌-◌, List, length, sym, subst}
 use Rattle.std.specs.Prelude.{All}
 use Rattle.operators.specs.declared.point_test.PointTest.{PointTest as KeptTest}
 use Rattle.job.specs.declared.formula.Formula.{Formula as KeptFormula}

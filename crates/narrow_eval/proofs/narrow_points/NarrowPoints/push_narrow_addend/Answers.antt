@@ -1,4 +1,4 @@
-use Rattle.std.proofs.Common.{rules, ℤ, ◌≡◌, ◌+ℤ◌, ◌*ℤ◌, pos, length, ap, sym, ◌∙◌, to_z, of_z, w16, FitsSigned}
+use Rattle.std.proofs.Common.{rules, ◌≡◌, ◌+ℤ◌, ◌*ℤ◌, pos, length, ap, sym, ◌∙◌, to_z, of_z, w16, FitsSigned}
 use Rattle.std.specs.Int.{int_wrap}
 use Rattle.std.proofs.lemmas.Int.{to_z-of_z}
 use Rattle.job.specs.Formula.{Formula, binary, number}

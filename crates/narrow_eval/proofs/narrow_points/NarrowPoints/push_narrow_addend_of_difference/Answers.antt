@@ -1,4 +1,4 @@
-use Rattle.std.proofs.Common.{rules, ℕ, ℤ, ◌<◌, ◌+ℤ◌, ◌*ℤ◌, pos, length, subst, ap, ◌∙◌, to_z, of_z, w16, FitsSigned}
+use Rattle.std.proofs.Common.{rules, ℕ, ℤ, ◌<◌, ◌+ℤ◌, ◌*ℤ◌, pos, length, subst, ap, ◌∙◌, w16, FitsSigned}
 use Rattle.std.proofs.lemmas.Int.{to_z-of_z}
 use Rattle.job.specs.Values.{formula_value}
 use Rattle.job.specs.Views.{formula_view}

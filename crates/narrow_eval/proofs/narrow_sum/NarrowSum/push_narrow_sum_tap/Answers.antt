@@ -8,8 +8,8 @@ use Rattle.narrow_eval.proofs.narrow_sum.NarrowSum.push_narrow_sum_tap.Goals as 
 pub returns-clause-sum : goal.returns-clause-sum
 returns-clause-sum c = λ f h k l.
     let space = c.add_narrow_sum_taps_if_many.ensures.space in
-    let five : length c.add_narrow_sum_taps_if_many.new.self.taps ≡ 5 = c.add_narrow_sum_taps_if_many.ensures.addends.space.taps in
-    let lt : c.add_narrow_sum_taps_if_many.new.self.tap_count < length c.add_narrow_sum_taps_if_many.new.self.taps = omega (arith, space, five) in
+    let nine : length c.add_narrow_sum_taps_if_many.new.self.taps ≡ 9 = c.add_narrow_sum_taps_if_many.ensures.addends.space.taps in
+    let lt : c.add_narrow_sum_taps_if_many.new.self.tap_count < length c.add_narrow_sum_taps_if_many.new.self.taps = omega (arith, space, nine) in
     one_more (f k) (tap_sum (take c.add_narrow_sum_taps_if_many.new.self.tap_count c.add_narrow_sum_taps_if_many.new.self.taps) k)
     (narrow_difference_sum (take c.add_narrow_sum_taps_if_many.new.self.difference_count c.add_narrow_sum_taps_if_many.new.self.differences) k) (tap_at c.args.tap k)
     (tap_sum (take (c.add_narrow_sum_taps_if_many.new.self.tap_count + 1) (slice_set c.add_narrow_sum_taps_if_many.new.self.taps c.add_narrow_sum_taps_if_many.new.self.tap_count c.args.tap)) k)
@@ -19,8 +19,8 @@ returns-clause-sum c = λ f h k l.
 pub returns-clause-addends : goal.returns-clause-addends
 returns-clause-addends c =
     let space = c.add_narrow_sum_taps_if_many.ensures.space in
-    let five : length c.add_narrow_sum_taps_if_many.new.self.taps ≡ 5 = c.add_narrow_sum_taps_if_many.ensures.addends.space.taps in
-    let lt : c.add_narrow_sum_taps_if_many.new.self.tap_count < length c.add_narrow_sum_taps_if_many.new.self.taps = omega (arith, space, five) in
+    let nine : length c.add_narrow_sum_taps_if_many.new.self.taps ≡ 9 = c.add_narrow_sum_taps_if_many.ensures.addends.space.taps in
+    let lt : c.add_narrow_sum_taps_if_many.new.self.tap_count < length c.add_narrow_sum_taps_if_many.new.self.taps = omega (arith, space, nine) in
     let before = c.add_narrow_sum_taps_if_many.ensures.addends in
     record {
       space = search rules;

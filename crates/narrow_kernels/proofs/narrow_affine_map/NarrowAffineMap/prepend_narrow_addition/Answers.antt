@@ -1,4 +1,4 @@
-use Rattle.std.proofs.Common.{arith, ℤ, pos, ◌≡◌, ◌+ℤ◌}
+use Rattle.std.proofs.Common.{arith, pos, ◌≡◌, ◌+ℤ◌}
 use Rattle.std.proofs.lemmas.Int.{ints}
 use Rattle.narrow_kernels.proofs.NarrowAffine.{offset_value_at, offset_fits_at, addend_value_at, addend_fits_at}
 use Rattle.narrow_kernels.proofs.narrow_affine_map.NarrowAffineMap.prepend_narrow_addition.Goals as goal

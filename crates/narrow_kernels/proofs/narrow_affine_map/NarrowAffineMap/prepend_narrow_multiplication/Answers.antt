@@ -1,4 +1,4 @@
-use Rattle.std.proofs.Common.{arith, ℤ, pos, ◌≡◌, ◌+ℤ◌}
+use Rattle.std.proofs.Common.{arith, pos, ◌≡◌}
 use Rattle.std.proofs.lemmas.Int.{ints}
 use Rattle.narrow_kernels.proofs.NarrowAffine.{factor_value_at, factor_fits_at}
 use Rattle.narrow_kernels.proofs.narrow_affine_map.NarrowAffineMap.prepend_narrow_multiplication.Goals as goal

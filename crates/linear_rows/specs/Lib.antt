@@ -1,0 +1,4 @@
+pub mod LinearRows
+pub mod RowFormulas
+pub mod LinearOnce
+pub mod inside

@@ -1,0 +1,2 @@
+pub mod RowsJoin
+pub mod Summing

@@ -1,0 +1,198 @@
+-- The bins of an accumulator, and one row more of it.
+use Rattle.std.proofs.Common.{arith, ℕ, ℤ, pos, ◌≡◌, ◌+◌, ◌-◌, ◌<◌, ◌≤◌, ◌+ℤ◌, ◌-ℤ◌, ◌≤ℤ◌, List, [], Some, length, refl, sym, ap, ◌∙◌, subst, slice_get}
+use Rattle.std.specs.Prelude.{Option, None, filter, map}
+use Rattle.std.specs.Option.{option_map, option_map_or}
+use Rattle.std.specs.Ordering.{int_eq}
+use Rattle.std.proofs.lemmas.Int.{ints}
+use Rattle.std.proofs.lemmas.List.{length-map}
+use Rattle.std.proofs.lemmas.Option.{none-some, same_Some}
+use Rattle.domains.proofs.Lengths.{len_is}
+use Rattle.domains.proofs.Spans.{length-numbers_from}
+use Rattle.domains.specs.Area.{HoldsPoint, IsArea, points_of}
+use Rattle.domains.specs.Index.{index_at}
+use Rattle.domains.specs.Pairs.{pairs}
+use Rattle.domains.specs.Span.{Ends, Holds, len_of, numbers_from, numbers_of}
+use Rattle.domains.specs.declared.area.Area.{Area}
+use Rattle.job.proofs.Solving.{BodyReads-both}
+use Rattle.job.proofs.TotalLaws.{body_totals-agrees, map_same}
+use Rattle.job.specs.Answers.{height_of}
+use Rattle.job.specs.Pipeline.{Body, accumulator, Stage, Pipeline}
+use Rattle.job.specs.Reads.{Read, point, window, BodyReads, EachTaken, SameAt}
+use Rattle.job.specs.Totals.{start_of, total_of, values_in_bin, body_totals, totals, totals_over}
+use Rattle.job.specs.Values.{Valuation, formula_value, kernel_column, kernel_row, value}
+use Rattle.job.specs.Views.{formula_view}
+use Rattle.job.specs.WellFormed.{InDomainRange, IsJob, IsStage}
+use Rattle.job.specs.declared.stage.Accumulator.{Accumulator}
+use Rattle.reductions.proofs.GatherOnto.{first_bins, joined_are_bins, from_starts}
+use Rattle.reductions.proofs.TakeValues.{starts_long}
+use Rattle.reductions.proofs.TotalsInAnyOrder.{total_of-none}
+use Rattle.reductions.proofs.WholeTotals.{stage_totals}
+use Rattle.reductions.specs.Accumulating.{AreBins}
+use Rattle.reductions.specs.Bins.{joined_bins, starts}
+use Rattle.row_totals.specs.RowTotals.{rows_from, totals_from, AreValues, IsRowRead, IsSummedBy}
+use Rattle.row_totals.proofs.RowsJoin.{all_rows, rows_join, rows_numbers, totals_from_is}
+
+-- ---- what is read
+
+taken_weaker : (P Q : ℕ → ℤ → ℤ → Type 0) → ((g : ℕ) (r c : ℤ) → P g r c → Q g r c) → (x : Read) (r c : ℤ) → EachTaken P x r c
+    → EachTaken Q x r c
+taken_weaker P Q f (point g i j) r c h = f g (index_at i r) (index_at j c) h
+taken_weaker P Q f (window g kernel) r c h = λ a b la lb. f g (kernel_row kernel r a) (kernel_column kernel c b) (h a b la lb)
+
+reads_weaker : (P Q : ℕ → ℤ → ℤ → Type 0) → ((g : ℕ) (r c : ℤ) → P g r c → Q g r c) → (body : Body) (r c : ℤ) → BodyReads P body r c
+    → BodyReads Q body r c
+reads_weaker P Q f body r c = BodyReads-both P Q (λ x. Unit {0}) body r c (λ x u. taken_weaker P Q f x r c) (λ n d l. tt)
+
+-- ---- an accumulator of a job
+
+module _ (job : Pipeline) (g : ℕ) (s : Stage) (a : Accumulator) (is : IsSummedBy job g s a) where
+  abbrev body : Body
+  body = accumulator a.fold a.bins (formula_view a.value) (formula_view a.bin)
+
+  pub totals_at : (first n : ℕ) → totals_from job g first n ≡ body_totals (value job) (rows_from s.domain first n) body
+  totals_at first n = totals_from_is job g s first n is.there ∙ ap (body_totals (value job) (rows_from s.domain first n)) is.body
+
+  pub height_is : height_of job g ≡ len_of s.domain.rows
+  height_is = ap (λ (o : Option Stage). option_map_or (λ t. len_of t.domain.rows) o 0) is.there
+
+  -- ---- its bins
+
+  pub bins_long : (first n : ℕ) → length (totals_from job g first n) ≡ len_of a.bins
+  bins_long first n =
+      ap length (totals_at first n)
+      ∙ length-map (numbers_of a.bins) (λ b. total_of a.fold (values_in_bin (value job) (formula_view a.value) (formula_view a.bin) (rows_from s.domain first n) b))
+      ∙ length-numbers_from a.bins.lo (len_of a.bins)
+
+  pub bins_of : (first n : ℕ) (bins : List ℤ) → bins ≡ totals_from job g first n → AreBins a bins
+  bins_of first n bins so =
+      let begun = starts a.fold a.bins in
+      let all = totals_from job g first n in
+      let env = value job in
+      let joined : joined_bins a.fold begun all ≡ all =
+      ap (joined_bins a.fold begun) (totals_at first n)
+      ∙ from_starts a (formula_value env (formula_view a.value)) (formula_value env (formula_view a.bin)) (points_of (rows_from s.domain first n)) begun refl
+      ∙ sym (totals_at first n) in
+      subst (AreBins a) (sym so)
+      (joined_are_bins a begun all all (first_bins a begun refl) (bins_long first n ∙ sym (starts_long a.fold a.bins)) (sym joined))
+
+  -- of no row they are what they start from
+  pub no_rows : (first n : ℕ) → n ≡ 0 → starts a.fold a.bins ≡ totals_from job g first n
+  no_rows first n none =
+      let env = value job in
+      let rows = rows_from s.domain first n in
+      let points : points_of rows ≡ [] =
+      ap (λ (rs : List ℤ). points_with rs) (rows_numbers s.domain first n ∙ ap (numbers_from (s.domain.rows.lo +ℤ pos first)) none) in
+      map_same (λ b. start_of a.fold) (λ b. total_of a.fold (values_in_bin env (formula_view a.value) (formula_view a.bin) rows b)) (numbers_of a.bins)
+      (λ b. sym (total_of-none a.fold)
+      ∙ ap (λ (ps : List (ℤ × ℤ)). total_of a.fold (values_at ps b)) (sym points))
+      ∙ sym (totals_at first n)
+    where
+      points_with : List ℤ → List (ℤ × ℤ)
+      points_with rs = pairs rs (numbers_of s.domain.cols)
+
+      values_at : List (ℤ × ℤ) → ℤ → List ℤ
+      values_at ps b =
+          map (λ p. formula_value (value job) (formula_view a.value) p.0 p.1)
+          (filter (λ p. int_eq (formula_value (value job) (formula_view a.bin) p.0 p.1) b) ps)
+
+  -- ---- rows that follow
+
+  pub joined_rows : (first next more : ℕ) (old others new : List ℤ) → first ≤ next → next ≤ more → old ≡ totals_from job g first (next - first)
+      → others ≡ totals_from job g next (more - next) → new ≡ joined_bins a.fold old others → new ≡ totals_from job g first (more - first)
+  joined_rows first next more old others new up on old_is others_is new_is =
+      let begin : next ≡ first + (next - first) = omega arith in
+      let rest : (next - first) + (more - next) ≡ more - first = omega arith in
+      new_is
+      ∙ (λ i. joined_bins a.fold (old_is i) (others_is i))
+      ∙ ap (λ (n : ℕ). joined_bins a.fold (totals_from job g first (next - first)) (totals_from job g n (more - next))) begin
+      ∙ sym (rows_join job g s first (next - first) (more - next) a.fold a.bins (formula_view a.value) (formula_view a.bin) is.there is.body)
+      ∙ ap (totals_from job g first) rest
+
+  module _ (well : IsJob job) where
+    own : IsStage job s
+    own = well.stages g s is.there
+
+    pub height_short : height_of job g ≤ 2097153
+    height_short =
+        let rows = own.rows.span in let least = rows.least in let most = rows.most in
+        omega (arith, ints, height_is, len_is s.domain.rows rows, least, most)
+
+    -- ---- one row more
+
+    module _ (next : ℕ) (left : next < height_of job g) (area : Area) (row : ℤ) (row_is : row ≡ s.domain.rows.lo +ℤ pos next)
+        (area_is : area ≡ record { rows = record { lo = row; hi = row }; cols = s.domain.cols }) where
+      pub row_within : next < len_of s.domain.rows
+      row_within = let height = height_is in omega (arith, left, height)
+
+      held : Holds s.domain.rows row
+      held =
+          let within = row_within in
+          let long = len_is s.domain.rows own.rows.span in (omega (arith, ints, row_is), omega (arith, ints, row_is, long, within))
+
+      alone : Ends → Ends
+      alone e = record { lo = row; hi = row }
+
+      alone_range : InDomainRange (record { lo = row; hi = row })
+      alone_range =
+          let low = held.0 in let high = held.1 in let rows = own.rows in
+          let first = rows.span.least in let last = rows.span.most in let least = rows.least in let most = rows.most in record {
+            span = record { least = omega (arith, ints); ordered = omega (arith, ints); most = omega (arith, ints) };
+            least = omega (arith, ints);
+            most = omega (arith, ints);
+          }
+
+      pub rows_near : InDomainRange area.rows
+      rows_near = subst (λ (x : Area). InDomainRange x.rows) (sym area_is) alone_range
+
+      pub cols_near : InDomainRange area.cols
+      cols_near = subst (λ (x : Area). InDomainRange x.cols) (sym area_is) own.cols
+
+      is_area : IsArea area
+      is_area = record { rows = rows_near.span; cols = cols_near.span }
+
+      at_row : (r c : ℤ) → HoldsPoint area r c → r ≡ s.domain.rows.lo +ℤ pos next
+      at_row r c inside =
+          let there : Holds (record { lo = row; hi = row }) r = subst (λ (x : Area). Holds x.rows r) area_is inside.0 in
+          let low = there.0 in let high = there.1 in omega (arith, ints, row_is)
+
+      in_domain : (r c : ℤ) → HoldsPoint area r c → HoldsPoint s.domain (s.domain.rows.lo +ℤ pos next) c
+      in_domain r c inside =
+          (subst (Holds s.domain.rows) row_is held, subst (λ (x : Area). Holds x.cols c) area_is inside.1)
+
+      module _ (has : ℕ → ℤ → ℤ → Type 0) (samples : Valuation) (reads : IsRowRead has job g next) where
+        pub row_reads : (r c : ℤ) → HoldsPoint area r c → BodyReads has body r c
+        row_reads r c inside =
+            subst (λ (q : ℤ). BodyReads has body q c) (sym (at_row r c inside))
+            (subst (λ (b : Body). BodyReads has b (s.domain.rows.lo +ℤ pos next) c) is.body
+            (reads s is.there c (in_domain r c inside)))
+
+        pub row_more : AreValues has samples job → (first : ℕ) (old new : List ℤ) → first ≤ next → old ≡ totals_from job g first (next - first)
+            → new ≡ joined_bins a.fold old (body_totals samples area body) → new ≡ totals_from job g first (next + 1 - first)
+        row_more right first old new up old_is new_is =
+            let one : next + 1 - next ≡ 1 = omega arith in
+            let rows_are : area ≡ rows_from s.domain next (next + 1 - next) =
+            area_is
+            ∙ (λ i. record { rows = record { lo = row_is i; hi = last one i }; cols = s.domain.cols }) in
+            joined_rows first next (next + 1) old (body_totals samples area body) new up (omega arith) old_is
+            (body_totals-agrees samples (value job) area is_area body (λ r c inside.
+            reads_weaker has (SameAt samples (value job)) right body r c (row_reads r c inside))
+            ∙ ap (λ (x : Area). body_totals (value job) x body) rows_are
+            ∙ sym (totals_at next (next + 1 - next)))
+            new_is
+          where
+            last : next + 1 - next ≡ 1 → row ≡ s.domain.rows.lo +ℤ pos next +ℤ pos (next + 1 - next) -ℤ pos 1
+            last one = omega (arith, ints, row_is, one)
+
+-- all rows of a domain that is there
+pub whole_of_area : (job : Pipeline) (g : ℕ) → IsJob job → (area : Area) → option_map (λ s. s.domain) (slice_get job.stages g) ≡ Some area
+    → totals_from job g 0 (len_of area.rows) ≡ totals job g
+whole_of_area job g well area is = by (slice_get job.stages g) refl
+  where
+    by : (o : Option Stage) → slice_get job.stages g ≡ o → totals_from job g 0 (len_of area.rows) ≡ totals job g
+    by None e = absurd (none-some area (ap (option_map (λ (s : Stage). s.domain)) (sym e) ∙ is))
+    by (Some s) e =
+        let same : s.domain ≡ area = same_Some s.domain area (ap (option_map (λ (s : Stage). s.domain)) (sym e) ∙ is) in
+        ap (λ (x : Area). totals_from job g 0 (len_of x.rows)) (sym same)
+        ∙ ap (λ (o : Option Stage). option_map_or (λ t. totals_over job (rows_from t.domain 0 (len_of s.domain.rows)) g) o []) e
+        ∙ ap (λ (x : Area). totals_over job x g) (all_rows s.domain (well.stages g s e).rows.span)
+        ∙ stage_totals job g s e

@@ -1,0 +1,10 @@
+//! What accumulators accumulate row by row: totals over adjacent rows, over one row more, and over rows that follow.
+//!
+//! Words: row total, row totals, summed.
+#![tactic(auto)]
+
+mod row_total;
+mod row_totals;
+
+pub use row_total::RowTotal;
+pub use row_totals::RowTotals;
