@@ -1,1 +1,1 @@
-"""What docs/THEOREMS.md and docs/CRATES.md are made of."""
+"""What docs/THEOREMS.md, docs/theorems and docs/CRATES.md are made of."""

@@ -14,9 +14,11 @@ HEAD = """# Crates
 
 All crates, by layer. This page is made by `tools/make_crates` from the headings of `crates.txt` and from the first lines (`//!`) of each crate: change
 these, and not the page. A crate uses crates of lower layers, and in its own layer those to its left in the picture, which are below it in the
-table. The table leaves out what a crate uses through another one. Its words lead from a name to its crate: of the words that occur in a function's name or in its
-type's, one of the longest is its crate's ([STYLE.md](STYLE.md#names)). [ARCHITECTURE.md](ARCHITECTURE.md) goes through them from bytes to bytes, and [THEOREMS.md](THEOREMS.md) has
-what each of them promises.
+table. The table leaves out what a crate uses through another one. [ARCHITECTURE.md](ARCHITECTURE.md) goes through them from bytes to bytes, and
+[THEOREMS.md](THEOREMS.md) has what each of them promises.
+
+Each crate has words that no other crate has, so that a name leads to its crate. A function bears a word of its crate in its own name or in its type's. Where words of several
+crates occur, the longest one counts: `parse_table_span` is of `tables`, by its word `table span`, and not of `domains`, by `span`. [STYLE.md](STYLE.md#names) has the rule.
 """
 
 
@@ -105,13 +107,13 @@ def faults_of(layers: list[Layer]) -> list[str]:
 
 
 def picture(layers: list[Layer]) -> str:
-    """The picture of all crates: a box for each layer, the highest first, with its crates in their order."""
+    """The picture of all crates: a box for each layer, the highest first, with its crates beside it, in their order."""
     wide = max(len(it.name) for it in layers)
-    rule = f"+{'-' * (wide + 2)}+{'-' * (ROOM + 2)}+"
+    rule = f"+{'-' * (wide + 2)}+"
     lines = ["```text", rule]
     for layer in reversed(layers):
         rows = textwrap.wrap("  ".join(it.name for it in layer.crates), ROOM, break_on_hyphens=False)
-        lines += [f"| {name:{wide}} | {row:{ROOM}} |" for name, row in zip([layer.name, *[""] * len(rows)], rows)] + [rule]
+        lines += [f"| {name:{wide}} | {row}" for name, row in zip([layer.name, *[""] * len(rows)], rows)] + [rule]
     return "\n".join([*lines, "```", ""])
 
 

@@ -1,4 +1,4 @@
-"""Scans the crates: their public functions with the names of their clauses, their definitions, their proof folders and their mutants.
+"""Scans the crates: their public functions with the names of their clauses, their definitions and their mutants.
 
 It relies on the form that `rt fmt` gives a source: an item's head, its clauses and its closing brace have one indentation.
 """
@@ -9,7 +9,7 @@ from typing import Iterator, NamedTuple
 
 TOP = os.path.dirname(os.path.dirname(os.path.dirname(os.path.realpath(__file__))))
 FUNCTION = re.compile(r"^( *)(pub(?:\([^)]*\))? )?(?:const |unsafe |final )*fn (\w+)", re.M)
-TYPE = re.compile(r"^(?:pub )?(?:unsafe )?(impl|trait)\b(.*)$", re.M)
+TYPE = re.compile(r"^(?:pub )?(?:unsafe )?(impl|trait)\b(.*(?:\n    for .*)?)$", re.M)
 CLAUSE = re.compile(r"\bensures\s*(\w*)\s*\{")
 EXPORT = re.compile(r"^pub use ([^;]*);", re.M | re.S)
 MODULE = re.compile(r"^pub mod (\w+);", re.M)
@@ -128,7 +128,7 @@ def functions_of(crate: str) -> tuple[Function, ...]:
     return tuple(it._replace(is_public=seen(it)) for it in found)
 
 
-# definitions, proofs and mutants
+# definitions and mutants
 
 
 @functools.lru_cache(maxsize=None)
@@ -139,15 +139,6 @@ def definitions_of(crate: str) -> tuple[Definition, ...]:
         text = text_of(path)
         found += [Definition(crate, it[1], path, line_at(text, it.start())) for it in DEFINITION.finditer(text)]
     return tuple(found)
-
-
-def proofs_of(function: Function) -> list[str]:
-    """The folders of a function's own proof files, by their paths from the top."""
-    base = f"crates/{function.crate}/proofs"
-    end = function.name.replace("::", "/")
-    file = os.path.splitext(function.path)[0].partition("/src/")[2]
-    places = [f"{base}/{file}/{end}", f"{base}/{end}", f"{base}/{os.path.dirname(file)}/{end}"]
-    return [it for it in dict.fromkeys(map(os.path.normpath, places)) if os.path.isdir(f"{TOP}/{it}")]
 
 
 @functools.lru_cache(maxsize=None)

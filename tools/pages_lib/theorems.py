@@ -1,22 +1,35 @@
-"""The rows of docs/theorems.toml beside the sources: what of them is not found, what no row has, and the page that they make."""
+"""The rows of docs/theorems.toml beside the sources: what of them is not found, what no row has, and the pages that they make."""
 import os
+import re
 import tomllib
 from typing import Iterator, NamedTuple
 
-from . import sources
+from . import crates, sources
 from .sources import Definition, Function
 
 ROWS = "docs/theorems.toml"
+INDEX, FOLDER = "docs/THEOREMS.md", "docs/theorems"
 HEAD = """# Theorems
 
-Which contract promises what. This page is made by `tools/make_theorems` from the rows of `docs/theorems.toml` and a scan of `crates/`: change these, and
-not the page. A contract is a function with the names of its clauses, or without any where its one clause has no name. A law is a function without
-a body, whose clauses are the law. `Type`, N functions, is each public function of the type, with all of its clauses.
-A definition stands on the line that its link leads to. The check finds a proof by itself where no folder has it. A mutant is
-in `tests/mutants`, and the contract refuses it ([how](GATE.md)); a test is in `tests/native`, for what no contract refuses.
-[PROOFS.md](PROOFS.md) says what the promises come to together.
+What is promised, one line a promise, by the [layers](ARCHITECTURE.md#the-crates) of the crates. A layer's own page has the definitions and the
+contracts of each promise. A promise is in the highest layer that has a contract of it. [PROOFS.md](PROOFS.md) says what the promises come to together.
+
+These pages are made by `tools/make_theorems` from the rows of `docs/theorems.toml` and a scan of `crates/`: change these, and not the pages. How to read a line
+of them:
+
+- A definition's name leads to the line that it begins on.
+- A contract is a function, with the names of its clauses where the promise rests on some of them only. A law is a function without a body, whose
+  clauses are the law. `Type::*` (N) is each of the N public functions of the type. After `Type::name`, further names are of the same type, up to the
+  next type or crate.
+- A mutant is in `tests/mutants`, and a contract of the promise or below it refuses it ([how](GATE.md)). A law has no body, so none of its own.
+- A test is in `tests/native`, for what no contract refuses.
+- A function's own proof is in `crates/NAME/proofs`, in a folder named for its file and for itself. Where there is none, the check finds the proof by itself.
 """
-SHOWN = 3
+LAYER_HEAD = """# Theorems: {name}
+
+{says} [THEOREMS.md](../THEOREMS.md) says how to read a line.
+
+"""
 
 
 class Contract(NamedTuple):
@@ -28,7 +41,6 @@ class Contract(NamedTuple):
 
 
 class Row(NamedTuple):
-    section: str
     promise: str
     definitions: tuple[str, ...]
     contracts: tuple[Contract, ...]
@@ -44,17 +56,14 @@ class Table(NamedTuple):
 
 
 def table_in(text: str) -> Table:
-    """The table that a text tells."""
-    rows, section = [], ""
-    said = tomllib.loads(text)
-    # (a section and the rows behind it keep their order in the text alone)
-    names = iter(said["section"])
-    cuts = [chunk.count("[[row]]") for chunk in text.split("[[section]]")[1:]]
-    sections = [name for name, count in zip((it["name"] for it in names), cuts) for _ in range(count)]
-    for section, row in zip(sections, said["row"]):
-        contracts = (contract_in(crate, it) for crate, listed in row["contracts"].items() for it in listed)
-        rows.append(Row(section, row["promise"], tuple(row["definitions"]), tuple(contracts), tuple(row.get("mutants", ())), tuple(row.get("tests", ()))))
-    return Table(tuple(rows), frozenset(said["inner"]))
+    """The table that a text has."""
+    found = tomllib.loads(text)
+    return Table(tuple(map(row_in, found["row"])), frozenset(found["inner"]))
+
+
+def row_in(said: dict) -> Row:
+    contracts = (contract_in(crate, it) for crate, listed in said["contracts"].items() for it in listed)
+    return Row(said["promise"], tuple(said["definitions"]), tuple(contracts), tuple(said.get("mutants", ())), tuple(said.get("tests", ())))
 
 
 def contract_in(crate: str, said: str) -> Contract:
@@ -138,50 +147,84 @@ def unnamed(table: Table) -> Iterator[str]:
                 yield f"{crate}: no row has {'the law ' * it.is_law}{it.name}: {' '.join(clause or '(without a name)' for clause in lacking)}"
 
 
-# the page
+# the pages
 
 
-def page(table: Table) -> str:
-    """The page that the rows make."""
-    lines, section = [HEAD], ""
-    for row in table.rows:
-        if row.section != section:
-            section = row.section
-            lines += ["" if lines[-1] != HEAD else None, f"## {section}", "", "| Promise | Definition | Contract | Proof | Mutants |", "|---|---|---|---|---|"]
-        lines.append(f"| {' | '.join((row.promise, defined(row), promised(row), proved(row), refused(row)))} |")
-    return "\n".join(it for it in lines if it is not None) + "\n"
+def pages(table: Table) -> dict[str, str]:
+    """The pages that the rows make: the index, and one for each layer that has a row."""
+    known = crates.read()
+    layers = [(it, [row for row in table.rows if layer_of(row, known) is it]) for it in reversed(known)]
+    layers = [(layer, rows) for layer, rows in layers if rows]
+    return {INDEX: index(layers), **{f"{FOLDER}/{file_of(layer.name)}": layer_page(layer, rows) for layer, rows in layers}}
 
 
-def defined(row: Row) -> str:
-    found = [it for said in row.definitions for it in definitions_of(said)]
-    return "<br>".join(f"[`{it.name}`](../{it.path}#L{it.line}) {it.path.removeprefix('crates/').replace('/specs/', '/')}:{it.line}" for it in found)
+def layer_of(row: Row, layers: list[crates.Layer]) -> crates.Layer:
+    """The highest layer that has a contract of the row."""
+    named = {it.crate for it in row.contracts}
+    return [layer for layer in layers if any(it.name in named for it in layer.crates)][-1]
+
+
+def file_of(layer: str) -> str:
+    return f"{re.sub(r'[^a-z]+', '-', layer.lower())}.md"
+
+
+def index(layers: list[tuple[crates.Layer, list[Row]]]) -> str:
+    lines = [HEAD]
+    for layer, rows in layers:
+        lines += [f"## {layer.name}", "", f"[Definitions and contracts]({os.path.basename(FOLDER)}/{file_of(layer.name)})", "", *(f"- {it.promise}" for it in rows), ""]
+    return "\n".join(lines)
+
+
+def layer_page(layer: crates.Layer, rows: list[Row]) -> str:
+    """The page of a layer: a line for each promise, and then the links of all definitions, each once."""
+    found = {label_of(said): it for row in rows for said in row.definitions for it in definitions_of(said)}
+    links = (f"[`{label}`]: ../../{it.path}#L{it.line}" for label, it in sorted(found.items()))
+    return "".join((LAYER_HEAD.format(name=layer.name, says=layer.says), *(f"- {line_of(it)}\n" for it in rows), "\n", *(f"{it}\n" for it in links)))
+
+
+def line_of(row: Row) -> str:
+    defined = ", ".join(f"[`{label_of(it)}`]" for it in row.definitions)
+    return f"**{row.promise}.** By {defined}. Contracts: {promised(row)}.{refused(row)}"
+
+
+def label_of(said: str) -> str:
+    """How a page names a definition: with its crate, and with its file where the row has that."""
+    return re.sub(r": |/", "::", said)
 
 
 def promised(row: Row) -> str:
-    crates = dict.fromkeys(it.crate for it in row.contracts)
-    return "<br>".join(f"`{crate}`: {'; '.join(shown(it) for it in row.contracts if it.crate == crate)}" for crate in crates)
+    named = dict.fromkeys(it.crate for it in row.contracts)
+    return "; ".join(f"`{crate}`: {', '.join(shown([it for it in row.contracts if it.crate == crate]))}" for crate in named)
 
 
-def shown(contract: Contract) -> str:
-    """A contract on the page."""
-    if contract.function.endswith("::*"):
-        return f"`{contract.function[:-3]}`, {len(functions_of(contract))} functions"
-    return f"`{contract.function}`" + (f" ({', '.join(contract.clauses)})" if contract.clauses else "")
+def shown(contracts: list[Contract]) -> Iterator[str]:
+    """The contracts of one crate on a page: a type of which the row has all functions, or its functions, of which the first has the type's name."""
+    kinds = dict.fromkeys(it.function.rpartition("::")[0] for it in contracts)
+    for kind in kinds:
+        named = [it for it in contracts if it.function.rpartition("::")[0] == kind]
+        every = functions_of(Contract(named[0].crate, f"{kind}::*", ())) if kind else []
+        whole = {it.function for it in named if not clauses_of(it)}
+        if kind and (f"{kind}::*" in whole or whole >= {it.name for it in every}):
+            yield f"`{kind}::*` ({len(every)})"
+        else:
+            yield f"`{named[0].function}`{clauses_of(named[0])}"
+            yield from (f"`{it.function.rpartition('::')[2]}`{clauses_of(it)}" for it in named[1:])
 
 
-def proved(row: Row) -> str:
-    """The folders of the proofs of a row: of each crate the one that has all of them."""
-    folders: dict[str, list[str]] = {}
-    for contract in row.contracts:
-        for it in functions_of(contract):
-            folders.setdefault(it.crate, []).extend(sources.proofs_of(it))
-    common = {crate: os.path.commonpath(found) for crate, found in folders.items() if found}
-    return "<br>".join(f"[{it.removeprefix('crates/').replace('/proofs', '', 1)}](../{it})" for it in common.values()) or "by the check alone"
+def clauses_of(contract: Contract) -> str:
+    """The clauses that a row names of a function, if it names some of them only."""
+    every = {clause for it in functions_of(contract) for clause in it.clauses}
+    return f" ({', '.join(contract.clauses)})" if contract.clauses and set(contract.clauses) != every else ""
 
 
 def refused(row: Row) -> str:
-    mutants = mutants_of(row)
-    kept = mutants[:SHOWN]
-    more = f"<br>and {len(mutants) - SHOWN} more" if len(mutants) > SHOWN else ""
-    tests = "".join(f"<br>test `{it}`" for it in row.tests)
-    return ("<br>".join(f"`{it}`" for it in kept) + more + tests).removeprefix("<br>") or "a law has no body"
+    count = len(mutants_of(row))
+    mutants = f" {count} mutant{'s' * (count != 1)}." if count else ""
+    return mutants + "".join(f" Test `{it}`." for it in row.tests)
+
+
+def strays(made: dict[str, str]) -> Iterator[str]:
+    """Pages of layers that no row makes any more."""
+    for name in sorted(os.listdir(f"{sources.TOP}/{FOLDER}")) if os.path.isdir(f"{sources.TOP}/{FOLDER}") else ():
+        if f"{FOLDER}/{name}" not in made:
+            yield f"{FOLDER}/{name}: no layer with a row has this page: remove it"

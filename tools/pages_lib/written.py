@@ -30,6 +30,7 @@ def main(pages: dict[str, str], faults: list[str], words: list[str], usage: str)
         faults = [*faults, *(f"{it} is not what {os.path.relpath(sys.argv[0], TOP)} makes: run it" for it in differing)]
     else:
         for name in differing:
+            os.makedirs(os.path.dirname(f"{TOP}/{name}"), exist_ok=True)
             with open(f"{TOP}/{name}", "w", encoding="utf-8") as file:
                 file.write(pages[name])
     for it in faults:

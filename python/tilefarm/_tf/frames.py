@@ -1,0 +1,237 @@
+"""`tf frames`: one program over the frames of a film, all by one process of tf. Each frame is one run of `tilefarm`; some are done side by side,
+their results come in the order of the frames, and no more of them are held at a time."""
+import os
+import sys
+from collections import deque
+from concurrent.futures import Future, ThreadPoolExecutor
+from contextlib import contextmanager
+from typing import Iterator, NamedTuple
+
+from . import cutting, memory_runs, png
+from .blame import Situation
+from .call import CUT, picture_in, wanted, without_a_line
+from .faults import explained
+from .frame_files import Frame, Targets, count_of, frames_of
+from .joining import SEPARATOR, Input, Section, fitted, handed_in, is_foreign, own_picture, picture_section, planes_of, section, table_bytes
+from .many import jobs_of
+from .netpbm import Picture
+from .output import CONVERTED, encoded, ending, give, put, say, show, tell
+from .parser import known_program
+from .program import Program
+from .progress import counting
+from .running import Ended
+from .settings import given_values
+from .targets import judge, refuse_ending
+from .text import Failed, Refused, Text, content
+from .words import Asked
+from .writing import Writing, writing
+
+# how many frames wait for each that is done, so that none who does one has to wait
+AHEAD = 2
+# the options that go with frames
+TAKEN = ("-o", "--table", "--grey", "--colours", "--jobs", "--strict", "--strip", "--quality", "--quiet")
+PNG_START = b"\x89PNG"
+
+
+class Done(NamedTuple):
+    """The result of a frame: its picture, as bytes of the format that is wanted, the lines behind it, and what is said of it."""
+
+    frame: Frame
+    path: str | None
+    data: bytes
+    lines: bytes
+    said: list[str]
+    is_cut: bool
+
+
+class Frames:
+    """A program that is run on each frame."""
+
+    def __init__(self, asked: Asked):
+        other = next((it for it in asked.own if it not in TAKEN), "--stage" if asked.stages else None)
+        if other:
+            raise Refused(f"frames takes no {other}: it takes {', '.join(TAKEN)}", 1)
+        if len(asked.files) != 2:
+            raise Refused(f"tf frames takes PROGRAM and FRAMES, and got {len(asked.files)} files", 1)
+        self.asked, (path, self.source) = asked, asked.files
+        self.text = section("program", path, True)
+        self.program, self.tables = known_program(self.text.data), handed_in(self.text, asked.tables)
+        self.wanted = wanted(asked.own)._replace(declared=planes_of(self.text.data))
+        self.targets, self.becomes = Targets(self.source, asked.target), {}
+        if asked.target is None:
+            self.refuse_stream()
+
+    def refuse_stream(self) -> None:
+        """Refuses a stream of pictures where it has no place."""
+        has_picture = self.program is not None and self.program.output() is not None
+        if has_picture and sys.stdout.isatty():
+            raise Refused("pictures would go to the terminal: name files for them, as -o out-%05d.png", 1)
+        if has_picture and any(it.kind == "accum" for it in self.program.items):
+            raise Refused("a stream of pictures has no place for the lines of accumulators: name files for the pictures, as -o out-%05d.png", 1)
+
+    # one frame
+
+    def result(self, frame: Frame) -> Done:
+        """Runs the program on a frame."""
+        said: list[str] = []
+        given = self.input(frame, said)
+        words = [*self.asked.words, *(f"{name}={value}" for name, value in given.supplied.items())]
+        ended = memory_runs.run(["eval", *words], (given.sections["program"].data, SEPARATOR, given.last()))
+        if ended.status:
+            self.explain(ended, given, words)
+        found, path = picture_in(ended.written), self.targets.path(frame)
+        is_cut = self.judge_cut(ended.written, given, words, said)
+        if found is None:
+            return Done(frame, None, b"", ended.written, said, is_cut)
+        how = self.how(given.sections["picture"].text.data, path)
+        return Done(frame, path, packed(found[0], path, how, said), found[1], said, is_cut)
+
+    def input(self, frame: Frame, said: list[str]) -> Input:
+        data = content(frame.name) if frame.data is None else frame.data
+        picture = self.picture(frame.name, data, said)
+        sections = {"program": Section(self.text.text, self.text.data), "picture": picture}
+        values = fitted(sections, given_values(self.asked.words))
+        return Input(sections, b"", self.tables, values)
+
+    def picture(self, name: str, data: bytes, said: list[str]) -> Section:
+        """The picture of a frame. PNG is read here, which takes less time for one frame than vips takes to start."""
+        if not is_foreign(data):
+            return own_picture(name, data, self.wanted)
+        if not data.startswith(PNG_START):
+            return picture_section(name, self.wanted, said)
+        picture, words = png.read(data, name)
+        said += words
+        return Section(Text(name, data), self.wanted.planes(picture).raw(), is_own=False)
+
+    def judge_cut(self, written: bytes, given: Input, words: list[str], said: list[str]) -> bool:
+        """Whether much of a result is cut, which is said; `--strict` refuses it."""
+        program: Program | None = known_program(given.sections["program"].data)
+        head = cutting.head_if_cut(written) if program else None
+        share = cutting.share_cut(head, given, program, words) if head else 0.0
+        if share <= cutting.MOST_SHARE:
+            return False
+        warning = cutting.warning(share, given, program)
+        if "--strict" in self.asked.own:
+            raise Refused(f"{given.sections['picture'].text.name}: {warning}", CUT)
+        said.append(f"warning: {warning}")
+        return True
+
+    def explain(self, ended: Ended, given: Input, words: list[str]) -> None:
+        """Shows why a frame failed."""
+        line = ended.written.decode("utf-8", "replace").rstrip("\n")
+        situation = Situation(["eval", *words], given)
+        name = given.sections["picture"].text.name
+        shown = explained(line, situation) if line else [without_a_line(ended.status)]
+        raise FailedFrame("\n".join([f"tf: {name}: {shown[0]}", *shown[1:]]), ended.status)
+
+    def how(self, data: bytes, path: str | None) -> Writing:
+        """How a result is written: with what its own frame says, where its format holds that."""
+        is_told = path is not None and (ending(path) in CONVERTED or "--quality" in self.asked.own)
+        return writing(data, self.asked.own, path, ending(path)) if is_told else Writing()
+
+    # all of them
+
+    def perform(self) -> int:
+        """Does all frames in their order. The first that fails is told, and ends the others."""
+        done, cut = 0, 0
+        every = count_of(self.source)
+        with counting("frames", lambda: done, every), self.results() as results:
+            try:
+                for it in results:
+                    self.deliver(it, is_first_cut=it.is_cut and not cut)
+                    done, cut = done + 1, cut + it.is_cut
+            except (Refused, Failed) as error:
+                self.tell_failure(error, done)
+                return error.status
+        if cut:
+            tell(f"{cut} of {done} results are cut")
+        return 0
+
+    @contextmanager
+    def results(self) -> Iterator[Iterator[Done]]:
+        """The results in the order of the frames. So many frames are taken ahead, and no more."""
+        with ThreadPoolExecutor(jobs_of(self.asked)) as pool:
+            try:
+                yield self.in_order(pool)
+            finally:
+                pool.shutdown(wait=True, cancel_futures=True)
+
+    def in_order(self, pool: ThreadPoolExecutor) -> Iterator[Done]:
+        """The results; a fault of the frames themselves comes after the results of those before it."""
+        waiting: deque[Future[Done]] = deque()
+        frames, fault = frames_of(self.source), None
+        while True:
+            try:
+                if (frame := next(frames, None)) is None:
+                    break
+                self.judge(frame)
+            except Refused as error:
+                fault = error
+                break
+            waiting.append(pool.submit(self.result, frame))
+            if len(waiting) >= AHEAD * jobs_of(self.asked):
+                yield waiting.popleft().result()
+        while waiting:
+            yield waiting.popleft().result()
+        if fault:
+            raise fault
+
+    def judge(self, frame: Frame) -> None:
+        """Refuses a result that would replace what is read or what another frame has become, and makes the folder of one."""
+        path = self.targets.path(frame)
+        if path is None:
+            return
+        if os.path.isdir(self.source) and self.becomes.setdefault(path, frame) is not frame:
+            raise Refused(f"{frame.name} would become {path}, as another frame has: number the results, as out-%05d.png", 1)
+        if os.path.lexists(path):
+            judge(Asked("eval", [self.asked.files[0], frame.name], own={"-o": path}, tables=self.asked.tables))
+            return
+        refuse_ending("eval", path)
+        try:
+            os.makedirs(os.path.dirname(path) or ".", exist_ok=True)
+        except OSError as error:
+            raise Refused(f"{path}: {error.strerror}", 4) from error
+
+    def deliver(self, it: Done, is_first_cut: bool) -> None:
+        """Puts a result where it belongs. What is said of each frame alike is said once."""
+        for line in it.said:
+            if not it.is_cut or is_first_cut:
+                tell(line if it.frame.name in line else f"{it.frame.name}: {line}")
+        if it.path is not None:
+            put(it.path, it.data)
+        elif it.data:
+            give(it.data)
+        for line in it.lines.decode("ascii", "replace").splitlines():
+            say(f"{it.frame.name}: {line}")
+
+    def tell_failure(self, error: Refused | Failed, done: int) -> None:
+        if isinstance(error, FailedFrame):
+            show(error.shown)
+        else:
+            tell(str(error))
+        tell(f"{done} frames were done before this one failed")
+
+
+class FailedFrame(Failed):
+    """A frame that the program refuses, and what is shown of it."""
+
+    def __init__(self, shown: str, status: int):
+        super().__init__(status)
+        self.shown = shown
+
+
+def packed(picture: Picture, path: str | None, how: Writing, said: list[str]) -> bytes:
+    """The picture in the format of its file. A PNG is written soon rather than short."""
+    if path is None:
+        return picture.raw()
+    if ending(path) != ".png":
+        return encoded(picture, path, how)
+    fitted, words = how.fitting(picture)
+    data, more = png.write(picture, is_soon=True)
+    said += [*(f"{path}: {it}" for it in words), *more]
+    return fitted.finished(data)
+
+
+def frames(asked: Asked) -> int:
+    """Does what `tf frames` asks for."""
+    return Frames(asked).perform()
