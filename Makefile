@@ -1,4 +1,4 @@
-.PHONY: build cases check demo fuzz help mutants quick test tools
+.PHONY: build cases check demo fuzz help install mutants quick test tools
 program := crates/tilefarm/out/tilefarm
 # The same program for processors with AVX2: where this machine's has that, and "make build" made it after the other one.
 wide = $(shell grep -qw avx2 /proc/cpuinfo && [ $(program).x86-64-v3 -nt $(program) ] && echo $(program).x86-64-v3)
@@ -10,8 +10,8 @@ help:
 # Evaluates the edge detector on its picture, without any proof, and shows the program, the picture and the result.
 demo:
 	@cat examples/sobel/sobel.pipe
-	@cd crates/tilefarm && mkdir -p out && rt try -- eval < ../../examples/sobel/input > out/demo.pgm
-	@examples/show examples/sobel/house.pgm crates/tilefarm/out/demo.pgm
+	@cd crates/tilefarm && mkdir -p out && rt try -- eval < ../../tests/examples/sobel/input > out/demo.pgm
+	@examples/show tests/examples/sobel/house.pgm crates/tilefarm/out/demo.pgm
 	@echo '(run without proofs, by rt try; "make test" checks the proofs and leaves the proved program in'
 	@echo ' crates/tilefarm/out/tilefarm)'
 
@@ -44,6 +44,11 @@ build:
 quick:
 	@tests/quick
 
+# The program that was built, tf, man pages and completions, below a folder: make install PREFIX=/usr/local. It then works without this
+# repository.
+install:
+	@tools/install $(or $(PREFIX),/usr/local)
+
 # The conformance cases, on the built programs.
 cases: | $(program)
 	@tests/run_cases $(program) $(wide)
@@ -54,7 +59,7 @@ fuzz: | $(program)
 
 # What is around the program, on the built one: tf, the pages, the errors' texts, the guide and the gallery.
 tools: | $(program)
-	@tests/test_pages && tools/make_usage --check && tests/test_tf && tests/test_play && tests/test_errors && tests/test_guide && docs/gallery/make --check
+	@tests/test_pages && tools/make_usage --check && tests/test_tf && tests/test_hostile && tests/test_play && tests/test_errors && tests/test_guide && docs/gallery/make --check
 
 $(program):
 	@tests/build
