@@ -11,7 +11,7 @@ from pathlib import Path
 from typing import Callable
 
 from playing import COPY, SLOW, SMALL, TOP, Played, content, tf, write
-from tf_lib.play_examples import EXAMPLES
+from _tf.play_examples import EXAMPLES
 
 # where Debian keeps its packages of Python, which another Python does not look for
 sys.path.append("/usr/lib/python3/dist-packages")
@@ -27,8 +27,10 @@ except ImportError:
 
 TOOLS = {"chromium": shutil.which("chromium"), "chromium-driver": shutil.which("chromedriver"), "python3-selenium": webdriver}
 LACKING = [name for name, it in TOOLS.items() if not it]
-EDGES, GREY = f"{TOP}/tools/tf_lib/page/edges.pipe", f"{TOP}/docs/gallery/grey.png"
+EDGES, GREY = f"{TOP}/python/tilefarm/_tf/page/edges.pipe", f"{TOP}/docs/gallery/grey.png"
 PATIENCE = 30
+# the slow program over a picture of any sides
+ANY_SLOW = SLOW.replace("image I(2, 3);", "param R; param C; image I(R, C);")
 
 
 class Packages(unittest.TestCase):
@@ -290,6 +292,30 @@ class Browser(unittest.TestCase):
                     with self.subTest(f"{example.name} {name} {rows} {cols} {percent}"):
                         self.assertEqual(summed, cost)
 
+    def test_the_graph_of_many_stages_is_seen_at_once(self):
+        chain = [f"func s{at}(x in [0 .. R-1], y in [0 .. C-1]) {{ else : (s{at - 1}(x, y) + 3 * I(x, y)) / 4; }}" for at in range(1, 17)]
+        text = "\n".join(["param R; param C;\nimage I(R, C);\nfunc s0(x in [0 .. R-1], y in [0 .. C-1]) { else : I(x, y); }", *chain,
+                          "output s16 max 255;\n"])
+        self.play(text, SMALL)
+        self.assertEqual(len(self.every(".node")), 18)
+        self.assertLess(self.one(".graph").size["height"], 600)
+        self.assertLessEqual(self.driver.execute_script("return document.documentElement.scrollWidth"), 1600)
+        self.assertEqual(len(self.every(".reads path")), 1 + 2 * 16)
+
+    def test_the_tiles_of_the_stage_with_most_inlined_functions_are_shown(self):
+        stage = "func {}(x in [1 .. R-2], y in [1 .. C-2]) {{ else : {}; }}"
+        functions = [("a", "I(x, y) + 1"), ("b", "I(x, y) + 2"), ("c", "a(x, y) + b(x, y) + I(x-1, y)"), ("d", "I(x, y) * 2")]
+        text = "param R; param C;\nimage I(R, C);\n" + "\n".join(stage.format(*it) for it in functions)
+        total = "accum h [0 .. 9] over (x in [1 .. R-2], y in [1 .. C-2]) sum d(x, y) at c(x, y) / 99;"
+        self.play(f"{text}\n{total}\noutput c max 255;\n", b"P5\n6 6\n255\n" + bytes(range(36)))
+        rows = {it.text.split()[0]: it.text for it in self.every("#schedule tbody tr")}
+        homes = [it.split()[-1] for it in rows.values() if "inlined in" in it]
+        self.assertEqual(self.one("#target").get_attribute("value"), max(homes, key=homes.count))
+
+    def test_it_is_said_what_obeys_the_schedule(self):
+        self.play(COPY, SMALL)
+        self.assertIn("eval streams the rows of a picture, whatever the schedule", self.one("#schedule-says").text)
+
     def test_a_tile_shows_what_it_needs(self):
         text = ("image I(6, 6);\nfunc a(x in [1 .. 4], y in [1 .. 4]) { else : stencil(I, 1, [[1,1,1],[1,1,1],[1,1,1]]); }\n"
                 "func b(x in [2 .. 3], y in [2 .. 3]) { else : stencil(a, 1, [[1,1,1],[1,1,1],[1,1,1]]); }\noutput b max 65535;\n")
@@ -358,6 +384,29 @@ class Browser(unittest.TestCase):
         self.until_ran()
         self.assertEqual(self.samples("#result canvas"), [[4, 8, 12], [160, 200, 240]])
 
+    def test_it_runs_again_and_at_half_of_the_size(self):
+        self.play(COPY, tf("eval", f"{TOP}/examples/copy/copy.pipe", GREY), seconds=2.0)
+        self.assertFalse(self.one("#half-size").is_displayed())
+        self.forget()
+        self.one("#run-again").click()
+        self.until_ran()
+        self.write(ANY_SLOW)
+        self.until(lambda: self.status().startswith("ended") and self.one("#half-size").is_displayed(), "the offer")
+        self.one("#half-size").click()
+        self.write(COPY)
+        self.until(lambda: self.status().endswith("over a copy reduced by 2") and self.is_quiet(), "the run over the half")
+        self.assertEqual(self.one("#input figcaption").text, "p.pgm: 96 × 128, reduced from 192 × 256")
+        self.one("#compute-whole").click()
+        self.until(lambda: self.one("#input figcaption").text == "p.pgm: 192 × 256", "the whole")
+
+    def test_a_picture_is_shown_while_the_program_runs(self):
+        self.play(COPY, SMALL)
+        self.write(ANY_SLOW)
+        self.until(lambda: self.status().startswith("running"), "the slow run")
+        self.one("#open-picture").send_keys(GREY)
+        self.until(lambda: self.one("#input figcaption").text == "grey.png: 192 × 256", "the picture")
+        self.assertTrue(self.status().startswith("running"), self.status())
+
     def test_an_example_is_opened(self):
         self.play(COPY, SMALL)
         Select(self.one("#examples")).select_by_visible_text("brown")
@@ -388,6 +437,68 @@ class Browser(unittest.TestCase):
         self.one("#compute-whole").click()
         self.until(lambda: "p.pgm: 1203 × 1700" == self.one("#input figcaption").text, "the whole picture")
         self.assertFalse(self.one("#compute-whole").is_displayed())
+
+    def share(self, *words: str) -> Played:
+        """Nodes that share the tiles of a copy of ten by twelve points, in tiles of five by six."""
+        played = self.play(COPY, b"P5\n12 10\n255\n" + bytes(range(120)), words=("--rows", "5", "--cols", "6", *words))
+        self.one("#share").click()
+        self.until(lambda: "events" in self.nodes_say() and self.is_quiet(), "the world")
+        return played
+
+    def nodes_say(self) -> str:
+        return self.one("#nodes .says").text
+
+    def script(self) -> str:
+        return self.one("#script").get_attribute("value")
+
+    def holds(self, played: Played, nodes: int) -> None:
+        """At its end the panel shows what `world` writes of its script."""
+        path = write(f"{played.folder}/p.script", self.script().encode())
+        lines = tf("world", f"{played.folder}/p.pipe", f"{played.folder}/p.pgm", path, "--rows", "5", "--cols", "6", "--nodes", str(nodes), "--trace")
+        self.slide("#nodes .world-slider", 999)
+        states = lines.decode().splitlines()[-1].split(" | ")[1:]
+        labels = [it.get_attribute("aria-label") for it in self.every("#nodes canvas")]
+        counts = [4 if "whole" in it else len(it.split()) - 2 for it in states]
+        self.assertEqual((len(states), labels), (nodes, [f"f: {it} of 4 tiles" for it in counts]))
+        whole = [at for at, it in enumerate(counts) if it == 4]
+        for node in whole:
+            samples = self.samples(f"#nodes [data-node='{node}'] canvas")
+            self.assertEqual(samples, [[12 * row + col for col in range(12)] for row in range(10)])
+
+    def test_nodes_share_the_tiles(self):
+        played = self.share()
+        self.holds(played, 2)
+        before = self.script()
+        self.slide("[data-nodes=nodes]", 3)
+        self.slide("[data-nodes=lose]", 2)
+        self.until(lambda: self.script() != before and self.is_quiet() and len(self.every("#nodes .world-node")) == 3, "another world")
+        self.holds(played, 3)
+        self.assertEqual(len(self.every("#nodes .lost")), 4)
+        self.slide("[data-nodes=repeat]", 1)
+        self.until(lambda: self.is_quiet() and self.every("#nodes .repeated"), "messages that are repeated")
+
+    def test_a_script_is_changed_and_saved(self):
+        played = self.share()
+        self.driver.execute_script("document.querySelector('.world-script').open = true")
+        box = self.one("#script")
+        box.clear()
+        box.send_keys("make 0 0:1:0:0\ndeliver 0 0\ndeliver 1 0\n")
+        self.until(lambda: self.nodes_say() == "3 events, of which 1 are refused", "the changed script")
+        self.holds(played, 2)
+        self.assertIn("refused: deliver 1 0: message 0 is for node 0, and not for node 1", self.one("#nodes .world-said").text)
+        box.send_keys("keep\n")
+        self.until(lambda: "script: 1 BadLine at 4" in self.one(".world-fault").text, "the fault")
+        self.assertIn("Here a node is missing: keep 0.", self.one(".world-fault").text)
+        box.send_keys(Keys.CONTROL, Keys.END)
+        box.send_keys(Keys.BACKSPACE, " 1\n")
+        self.until(lambda: self.nodes_say() == "4 events, of which 1 are refused", "the cured script")
+        self.assertFalse(self.one(".world-fault").is_displayed())
+        self.one("#save-script").click()
+        self.assertEqual(self.one("#save-name").get_attribute("value"), "p.script")
+        self.one("#save-name").clear()
+        self.one("#save-name").send_keys("own.script", Keys.ENTER)
+        self.until(lambda: os.path.exists(f"{played.folder}/own.script"), "the file")
+        self.assertEqual(content(f"{played.folder}/own.script"), b"make 0 0:1:0:0\ndeliver 0 0\ndeliver 1 0\nkeep 1\n")
 
     def test_everything_has_a_name(self):
         self.edges()

@@ -7,9 +7,9 @@ import tempfile
 import threading
 from urllib.parse import urlsplit
 
-from tf_lib import play_given, play_server
-from tf_lib.play_runs import Runs
-from tf_lib.words import asked
+from _tf import play_given, play_server
+from _tf.play_runs import Runs
+from _tf.words import asked
 
 TOP = os.path.dirname(os.path.dirname(os.path.realpath(__file__)))
 COPY = "param R; param C;\nimage I(R, C);\nfunc f(x in [0 .. R-1], y in [0 .. C-1]) { else : I(x, y); }\noutput f max 255;\n"
@@ -39,7 +39,7 @@ class Played:
     """A server over a program and a picture in a folder of its own, and requests to it."""
 
     def __init__(self, program: str = COPY, picture: bytes = SMALL, words: tuple[str, ...] = (), seconds: float = 20.0,
-                 memory: int | None = None):
+                 memory: int | None = None, patience: float = play_server.PATIENCE):
         self.room = tempfile.TemporaryDirectory(prefix="test-play-")
         self.folder = self.room.name
         write(f"{self.folder}/p.pipe", program.encode())
@@ -50,7 +50,7 @@ class Played:
             session = play_given.session_of(asked(["play", "p.pipe", "p.pgm", *words]), Runs(seconds, memory))
         finally:
             os.chdir(before)
-        self.server = play_server.Server(session)
+        self.server = play_server.Server(session, patience=patience)
         self.thread = threading.Thread(target=self.server.serve_forever, daemon=True)
         self.thread.start()
 

@@ -17,6 +17,7 @@ sys.dont_write_bytecode = True
 TESTS = os.path.dirname(os.path.realpath(__file__))
 sys.path.insert(0, TESTS)
 
+import commits
 import counted_tests
 import gate_run
 import gate_table
@@ -226,6 +227,51 @@ LOG = """\
 > == gate: step by step
 > gate: proofs: 74 passed, 1 failed (120:40 of processor, 39:47 by the clock)
 """
+
+
+class Chosen(unittest.TestCase):
+    """Tests that are chosen by a part of their names."""
+
+    def test_a_name_that_no_test_has_fails(self):
+        ran = subprocess.run([f"{os.path.dirname(os.path.realpath(__file__))}/test_pages", "--only", "nosuch", "--only", "test"], capture_output=True, text=True)
+        self.assertEqual((ran.returncode, ran.stdout), (1, "no test has 'nosuch' in its name\n0 passed, 1 failed\n"))
+
+
+class Commits(unittest.TestCase):
+    """Which commits of a history of their own are named."""
+
+    def setUp(self):
+        made = tempfile.TemporaryDirectory(prefix="test-commits-")
+        self.addCleanup(made.cleanup)
+        self.top = made.name
+        self.git("init", "-q", "-b", "main")
+        self.before = self.commit("old: needs no body")
+
+    def git(self, *words: str) -> str:
+        words = ("git", "-C", self.top, "-c", "user.name=n", "-c", "user.email=e", *words)
+        return subprocess.run(words, check=True, capture_output=True, text=True).stdout.strip()
+
+    def commit(self, message: str) -> str:
+        self.git("commit", "-q", "--allow-empty", "-m", message)
+        return self.git("rev-parse", "HEAD")
+
+    def test_a_commit_without_a_body_is_named(self):
+        self.commit("one: has a body\n\nThis holds now.")
+        bare = self.commit("two: has none")
+        self.assertEqual(commits.without_body(self.top, self.before), [f"{bare[:10]} two: has none"])
+
+    def test_a_merge_needs_none(self):
+        self.git("checkout", "-q", "-b", "side")
+        self.commit("side: has a body\n\nThis holds now.")
+        self.git("checkout", "-q", "main")
+        self.git("merge", "-q", "--no-ff", "-m", "merge of a side", "side")
+        self.assertEqual(commits.without_body(self.top, self.before), [])
+        self.assertEqual(len(commits.since(self.top, self.before)), 1)
+
+    def test_a_history_that_does_not_go_back_so_far_is_told(self):
+        self.assertTrue(commits.is_known(self.top, self.before))
+        self.assertFalse(commits.is_known(self.top, "0" * 40))
+        self.assertEqual(commits.without_body(self.top, "0" * 40), [])
 
 
 class Page(unittest.TestCase):

@@ -25,7 +25,7 @@ from mutants_runner.kept_verdicts import KeptVerdicts
 from mutants_runner.mutant import Mutant
 from mutants_runner.toolchain import rtlib
 from mutants_runner.verdicts import BAD_EDIT, NOT_CLEAR, NOT_REFUSED, REFUSED, Outcome
-from mutants_runner.verdicts import Said, judged_by_functions, judged_whole, not_read
+from mutants_runner.verdicts import Said, is_whole, judged_by_functions, judged_whole, not_read
 
 SOURCE = """\
 //! Numbers that are a little greater.
@@ -631,6 +631,13 @@ class Read(Crate):
         verdict = "no proof: `search` did not prove `returns`"
         for said in (self.said("not proved", own), self.said("not proved", line), self.said(verdict)):
             self.assertEqual(self.word(said), REFUSED)
+
+    def test_what_is_proved_is_not_refused_whether_or_not_it_may_wait(self):
+        for verdict in ("proved", "proved, may wait"):
+            said = self.said(verdict)
+            self.assertEqual(self.word(said), NOT_REFUSED)
+            self.assertTrue(is_whole(self.second.functions[0], said))
+        self.assertEqual(self.word(self.said("proved, but for a callee")), NOT_CLEAR)
 
     def test_a_refused_callee_never_counts(self):
         self.assertEqual(self.word(self.said("no proof: it calls `small::next`, which is not proved")), NOT_CLEAR)

@@ -7,6 +7,7 @@ from reference.tables import Table, declared
 from reference.words import CALLS
 
 from .pictures import random_table
+from .templates import Templates
 
 SHIFT = 4096
 OPERATORS = ["sum", "min", "max"]
@@ -39,7 +40,7 @@ class Program:
 class Writer:
     """Writes one program. It knows the values of the parameters, and so each domain in numbers."""
 
-    def __init__(self, random: Random, picture: Picture):
+    def __init__(self, random: Random, picture: Picture, is_templated: bool = False):
         self.random, self.picture = random, picture
         self.sides = {"R": picture.rows, "C": picture.cols}
         self.given = {f"p{it}": random.randint(-9, 9) for it in range(random.randint(0, 2))}
@@ -47,6 +48,8 @@ class Writer:
         count = random.choice([0, 0, 0, 1, 2, 2, 16]) if random.random() < 0.9 else 0
         self.tables = tuple(random_table(f"t{it}", random) for it in range(count))
         self.is_careful = random.random() < 0.9
+        # (what users write most, over domains that they write it on)
+        self.is_templated = is_templated
 
     # ---- numbers
 
@@ -72,16 +75,44 @@ class Writer:
         return Span(least, least + self.random.randint(0, near))
 
     def some_domain(self) -> tuple[Span, Span]:
+        if self.is_templated and self.random.random() < 0.8:
+            return tuple(map(self.part, self.random.choice(self.readable).spans))
         if self.random.random() < 0.6:
             return self.random.choice(self.readable).spans
         return self.some_span(12), self.some_span(12)
 
+    def part(self, span: Span) -> Span:
+        """The inner part of a span where neighbours are inside too; or what it is if each so many-th point is left or repeated."""
+        length, times = span.greatest - span.least + 1, self.random.choice([2, 2, 3, 4, 5])
+        kind = self.random.random()
+        if kind < 0.15 and span.least == 0:
+            return Span(0, (length - 1) // times)
+        if kind < 0.25 and span.least == 0 and length <= 24:
+            return Span(0, length * times - 1)
+        least = span.least + self.random.randint(0, min(3, (length - 1) // 2))
+        return Span(least, max(least, span.greatest - self.random.randint(0, min(3, (length - 1) // 2))))
+
     # ---- reads
+
+    def near(self, stage: Stage, spans: tuple[Span, Span]) -> list[str]:
+        """A read of a stage at a neighbour, where all of these are inside, else any read."""
+        shifts = []
+        for over, inside in zip(spans, stage.spans):
+            shifts.append([it for it in range(-3, 4) if inside.holds(over.least + it, over.greatest + it)])
+        if not all(shifts) or self.random.random() < 0.1:
+            return self.read(spans)
+        rows, cols = (self.spelled_index(name, 1, self.random.choice(it), 1) for name, it in zip("xy", shifts))
+        return [stage.name, "(", *rows, ",", *cols, ")"]
+
+    def template(self, spans: tuple[Span, Span]) -> list[str]:
+        """What users write most, over one or two stages."""
+        stages = self.random.choices(self.readable, k=self.random.choice([1, 1, 1, 2]))
+        return Templates(self.random, lambda: self.near(self.random.choice(stages), spans)).any()
 
     def index(self, variable: str, over: Span, inside: Span) -> list[str]:
         """An index in the variable that stays inside, and none where a few tries find none."""
         for _ in range(20):
-            mul, div = self.random.choice([1, 1, 1, 2, 3]), self.random.choice([1, 1, 1, 2, 4])
+            mul, div = self.random.choice([1, 1, 1, 2, 3, 4, 8]), self.random.choice([1, 1, 1, 2, 3, 4, 5, 16])
             add = self.random.choice([0, 0, self.random.randint(-3, 3), inside.least * div - over.least * mul])
             ends = [(mul * it + add) // div for it in (over.least, over.greatest)]
             if abs(add) <= SHIFT and (inside.holds(*ends) or not self.is_careful):
@@ -153,12 +184,22 @@ class Writer:
 
     def test(self, span: Span, variable: str) -> list[str]:
         if self.random.random() < 0.3:
-            divisor = self.random.randint(1, 4)
+            divisor = self.random.choice([1, 2, 2, 3, 4, 5, 7])
             return [variable, "%", str(divisor), "==", str(self.random.randrange(divisor))]
         value = self.random.randint(span.least - 1, span.greatest + 1)
         return [variable, self.random.choice(["<=", ">=", "=="]), *self.affine(value)]
 
+    def phases(self, stage: Stage) -> list[str]:
+        """A case for each remainder of rows or columns, but perhaps the last."""
+        axis, divisor = self.random.choice([0, 1, 1]), self.random.choice([2, 2, 3, 4])
+        rests = self.random.sample(range(divisor), divisor)
+        tests = [["case", "xy"[axis], "%", str(divisor), "==", str(it)] for it in rests[: divisor - self.random.randint(0, 1)]]
+        return [token for test in [*tests, ["else"]] for token in (*test, ":", *self.template(stage.spans), ";")]
+
     def function(self, stage: Stage) -> list[str]:
+        if self.is_templated and self.random.random() < 0.85:
+            body = self.phases(stage) if self.random.random() < 0.2 else ["else", ":", *self.template(stage.spans), ";"]
+            return ["func", stage.name, *self.variables(stage.spans), "{", *body, "}"]
         cases: list[str] = []
         for _ in range(self.random.choice([0, 0, 1, 2])):
             tests = [self.test(stage.spans[it], "xy"[it]) for it in self.random.choice([(0,), (1,), (0, 1)])]

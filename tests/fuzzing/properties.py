@@ -8,12 +8,14 @@ from reference.values import Meaning
 
 from .answers import CHECKED, PLANNED, Answer, Program, demand
 from .audits import audited, merged_at_random
-from .pictures import random_picture
+from .pictures import long_picture, random_picture
 from .pictures import spelled as picture_spelled
 from .programs import Writer, spelled, spelled_otherwise
 from .scripts import another_script, worlded
 
 SEPARATOR = b"%%\n"
+# the shares of cases over a picture with a long side, and of those that are templates of what users write most
+LONG, TEMPLATED = 0.02, 0.4
 FARMS = {"--nodes": (1, 2, 3, 8), "--turns": (0, 1, 3, 20), "--capacity": (1, 2, 8, 1024), "--lose": (0, 1, 2, 7), "--repeat": (0, 1, 3),
          "--restart": (0, 1, 4, 5)}
 
@@ -42,8 +44,11 @@ def some_farm(random: Random) -> list[str]:
 
 def judged(program: Program, random: Random) -> str:
     """Makes a case and demands all that must hold of it. Says how it ended."""
+    kind = random.random()
+    if kind < LONG:
+        return judged_long(program, random)
     taken = random_picture(random)
-    written = Writer(random, taken).program()
+    written = Writer(random, taken, kind < TEMPLATED).program()
     taken = taken.with_tables(written.tables)
     words = tuple(written.values if random.random() < 0.9 else [it for it in written.values if it[0] == "p"])
     case = Case(spelled(written.tokens), taken.lines() + picture_spelled(taken, random), words)
@@ -58,10 +63,44 @@ def judged(program: Program, random: Random) -> str:
     else:
         known = {name: int(value) for name, value in (it.split("=") for it in written.values)}
         meaning = Meaning(written.tokens, known, taken)
+        if kind < TEMPLATED:
+            valued(answer, meaning, written.tokens)
         audited(program, *(case.text, case.picture, case.words), meaning, random)
         worlded(program, *(case.text, case.picture, case.words), meaning, random)
     farmed(program, case, answer, random)
     return "refused" if answer.is_refusal else "evaluated"
+
+
+def judged_long(program: Program, random: Random) -> str:
+    """Makes a case over a picture with a side as long as it can be, and demands its values."""
+    taken = long_picture(random)
+    written = Writer(random, taken, is_templated=True).program()
+    taken = taken.with_tables(written.tables)
+    case = Case(spelled(written.tokens), taken.lines() + taken.raw(), tuple(written.values))
+    _, answer = agreeing(program, case)
+    if answer.is_refusal:
+        return "refused"
+    known = {name: int(value) for name, value in (it.split("=") for it in written.values)}
+    valued(answer, Meaning(written.tokens, known, taken), written.tokens)
+    options = ["--rows", "64", "--cols", "1024", *random.choice([["--stored"], []])]
+    demand(program.call(case.stdin, "run", *options, *case.words) == answer, f"run {' '.join(options)} of a long picture differs from eval")
+    return "evaluated, long"
+
+
+def valued(answer: Answer, meaning: Meaning, tokens: list[str]) -> None:
+    """A result has the values of the reference evaluator."""
+    at = tokens.index("output")
+    most = int(tokens[tokens.index("max", at) + 1])
+    planes = [meaning.names[it] for it in meaning.outputs]
+    sides = [greatest - least + 1 for least, greatest in planes[0].domain]
+    width, kind = 1 if most < 256 else 2, 5 if len(planes) == 1 else 6
+    points = zip(*(it.numbers(it.domain) for it in planes))
+    found = f"P{kind}\n{sides[1]} {sides[0]}\n{most}\n".encode()
+    found += b"".join(min(max(it, 0), most).to_bytes(width, "big") for point in points for it in point)
+    for name, stage in meaning.names.items():
+        if stage.kind == "accum":
+            found += f"{name} {stage.bins[0]}..{stage.bins[1]}: {' '.join(map(str, stage.numbers(stage.domain)))}\n".encode()
+    demand(answer.bytes == found, f"eval writes other values than the reference evaluator: {answer.shown()}")
 
 
 def of_one_case(program: Program, case: Case, taken: Picture, random: Random) -> Answer:

@@ -1,4 +1,5 @@
-"""Commands with little memory: at each of many limits the answer is the usual one, or `memory` with its status, and nothing else.
+"""Commands with little memory: at each of many limits the answer is the usual one, or `memory` with its status, and nothing else. A long
+line that is no table's is told with room for a few times its bytes.
 
 The system limits either the whole address space, or what can be written in it. It begins no program below some limit; the least at which
 it begins one is looked for first. Where the address space is limited, the system ends a process by a signal when its stack cannot grow,
@@ -48,6 +49,18 @@ def commands() -> list[Command]:
     ]
 
 
+# How many bytes a line has where that of a table is wanted, and how often its input has room: a list of its words takes sixteen bytes for each.
+LONG, TIMES = 1 << 24, 8
+TABLE = b"image I(1,1);table t[0..0];func f(x in[0..0],y in[0..0]){else:t[I(x,y)];}output f max 255;"
+BAD_LINE = (2, b"tables: line 1\n")
+
+
+def long_lines() -> dict[str, Command]:
+    """Inputs with a long line that is no table's, by what the line repeats."""
+    lines = {"blanks": b" " * LONG, "entries": b"t 0..0:" + b" 7" * (LONG // 2), "colons": b"t " + b":" * LONG, "dots": b"t 0" + b"." * LONG + b"0: 7"}
+    return {name: Command(("eval",), b"\n".join([TABLE, b"%%", line, b"P5 1 1 255\n\0"])) for name, line in lines.items()}
+
+
 class Limited:
     """A program whose memory of one kind is limited."""
 
@@ -91,6 +104,16 @@ class Limited:
         return self.kind == "address space" and answer[0] == -signal.SIGSEGV and usual[1].startswith(answer[1])
 
 
-def series(program: str):
+class Spacious(Limited):
+    """A program that has room for a few times its input."""
+
+    def faults(self, command: Command) -> tuple[list[str], str]:
+        answer = self.run(command, TIMES * len(command.stdin))
+        return [f"status {answer[0]}, {answer[1][:60]!r}"] if answer != BAD_LINE else [], f"{len(command.stdin)} bytes of input"
+
+
+def series(program: str) -> list[tuple[str, Limited, Command]]:
     """Each command and kind of limit, with what tells its faults."""
-    return [(f"{' '.join(it.words)} with little {kind}", Limited(program, kind), it) for kind in KINDS for it in commands()]
+    little = [(f"{' '.join(it.words)} with little {kind}", Limited(program, kind), it) for kind in KINDS for it in commands()]
+    long = [(f"a long line of {name} where a table's is wanted", Spacious(program, "data"), it) for name, it in long_lines().items()]
+    return little + long

@@ -20,6 +20,8 @@ FOLLOWS = re.compile(r"that depends? on `")
 NAMES = re.compile(r"has no field|is not in scope|has no `|was not admitted")
 # What is said of a function that lacks nothing of its own.
 CALLS = re.compile(r"no proof: it (calls|passes) `")
+# What is said of a function that is proved; one with the bound `Wait` is not said to return.
+PROVED = ("proved", "proved, may wait")
 # What is said where no function, or more than one, has the name that was asked for.
 MISNAMED = re.compile(r"(?:functions are named|has no function) `([^`]+)`")
 
@@ -89,7 +91,7 @@ def judged_by_functions(functions: list[Function], said: Said) -> Optional[Outco
     for function in functions:
         own = {name: verdict for name, verdict in said.verdicts.items() if function.names(name)}
         refused = {name: verdict for name, verdict in own.items() if verdict.startswith(("not proved", "no proof"))}
-        proved.append(bool(own) and all(it == "proved" for it in own.values()))
+        proved.append(bool(own) and all(it in PROVED for it in own.values()))
         if not refused:
             continue
         for trouble in said.troubles:
@@ -108,7 +110,7 @@ def is_whole(function: Function, said: Said) -> bool:
     own = {name: verdict for name, verdict in said.verdicts.items() if function.names(name)}
     if any(it.is_of(function, [*own]) for it in said.troubles):
         return False
-    return bool(own) and all(it == "proved" or CALLS.match(it) for it in own.values())
+    return bool(own) and all(it in PROVED or CALLS.match(it) for it in own.values())
 
 
 def judged_whole(mutant: Mutant, said: Said) -> Outcome:

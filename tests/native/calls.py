@@ -9,12 +9,12 @@ class Call(NamedTuple):
 
 
 # Faults that are found without memory, so that no allocation can fail there.
-REFUSED_WITHOUT = ("read_cut", "of_output", "plan_nowhere", "run_tile_missing", "decode_cut", "lend_missing", "command_usage")
+REFUSED_WITHOUT = ("read_cut", "table_cut", "of_output", "plan_nowhere", "run_tile_missing", "decode_cut", "lend_missing", "command_usage")
 # Calls that take none: these, and one that has room.
 WITHOUT_MEMORY = (*REFUSED_WITHOUT, "retire_second")
 
 # Those that are answered a fault with ample memory.
-FAULTS = (*REFUSED_WITHOUT, "read_big", "table_cut", "check_cycle", "bounds_left", "make_missing")
+FAULTS = (*REFUSED_WITHOUT, "read_big", "check_cycle", "bounds_left", "make_missing")
 
 # Threads take memory of the system's library, in an order that no program sets: so many allocations are tried there.
 FARMS = ("farm", "run_stream")

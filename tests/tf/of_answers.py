@@ -1,7 +1,9 @@
 """Tests of answers that are put together out of facts: the bytes of `eval`, or the first tile that cannot be taken."""
-from .shared import TOP, InRoom, content
+import os
 
-from tf_lib import facts
+from .shared import PROGRAM, TOP, InRoom, content
+
+from _tf import facts
 
 EXAMPLES = f"{TOP}/examples/facts"
 MANY = b"""param R; param C;
@@ -12,6 +14,15 @@ accum s [-1 .. 3] over (x in [0 .. R-1], y in [0 .. C-1]) sum r(x, y) << 24 at g
 accum least [0 .. 1] over (x in [0 .. R-1], y in [0 .. C-1]) min b(x, y) at x % 2;
 accum most [0 .. 1] over (x in [0 .. R-1], y in [0 .. C-1]) max b(x, y) - 200 at y / 9;
 output p, q, p max 1000;
+"""
+# writes which command it is asked for, and runs the program; a world that inlines refuses an event
+COUNTING = f"""#!/bin/sh
+echo "$*" >> runs
+case "$*" in
+  *--stored*) ;;
+  world*--percent\\ 7*) printf 'done 5 refused 1\\nnode 0 5054463100000000\\nnode 1 5054463100000000\\n'; exit;;
+esac
+exec {PROGRAM} "$@"
 """
 
 
@@ -42,8 +53,8 @@ class Answers(InRoom):
         self.assertEqual((wanted[0], wanted[1][:12]), (0, b"P6\n7 5\n1000\n"))
         for sides in ("--rows 2 --cols 3", "--rows 5 --cols 1", ""):
             self.assertEqual(self.tf(f"facts m.pipe m.ppm {sides} -o m.facts")[0], 0)
-            self.assertEqual(self.tf(f"answer m.pipe m.ppm m.facts {sides}"), wanted)
-            self.assertEqual(self.tf(f"answer m.pipe m.ppm m.facts --trust {sides}"), wanted)
+            self.assertEqual(self.tf(f"answer m.pipe m.ppm m.facts {sides}")[:2], wanted[:2])
+            self.assertEqual(self.tf(f"answer m.pipe m.ppm m.facts --trust {sides}")[:2], wanted[:2])
 
     def test_a_tile_that_is_missing(self):
         for trust in ("", " --trust"):
@@ -108,3 +119,34 @@ class Answers(InRoom):
             with self.subTest(files):
                 ended, _, told = self.tf(f"audit p.pipe p.pgm {files} {self.sides}")
                 self.assertEqual((ended, told), (status, f"missing {missing} of 8\n"))
+
+    def counted(self, line: str) -> tuple[bytes, list[str]]:
+        """The facts that a line makes, and what the program was asked for."""
+        self.write("counting", COUNTING.encode())
+        os.chmod(f"{self.room}/counting", 0o755)
+        status, written, told = self.tf(f"facts {line}", TILEFARM=f"{self.room}/counting")
+        self.assertEqual((status, told), (0, ""))
+        runs = self.content("runs").decode().splitlines()
+        os.unlink(f"{self.room}/runs")
+        return written, [it.split()[0] for it in runs]
+
+    def is_true(self, line: str, written: bytes, tiles: int) -> None:
+        """Whether these are the facts of so many tiles, all of them true by `audit`."""
+        self.write("made.facts", written)
+        status, verdicts, told = self.tf(f"audit {line.replace('.pgm', '.pgm made.facts')}")
+        self.assertEqual((status, told, [it.split()[0] for it in verdicts.decode().splitlines()]), (0, f"missing 0 of {tiles}\n", ["True"] * tiles))
+
+    def test_all_facts_come_of_one_run(self):
+        self.write("big.pgm", b"P5 320 256 255 " + bytes(at * at % 251 for at in range(320 * 256)))
+        for words in ("", "--stored", "--percent 7"):
+            line = f"p.pipe big.pgm --rows 32 --cols 16 {words}"
+            written, runs = self.counted(line)
+            self.assertEqual(runs, ["check", "plan", "world"] + ["world"] * (words == "--percent 7"))
+            self.is_true(line, written, 320)
+
+    def test_facts_of_more_tiles_than_a_script_makes_are_merged(self):
+        samples = bytes(at * at % 251 for at in range(182 * 182))
+        self.write("big.pgm", b"P5 182 182 255 " + samples)
+        written, runs = self.counted("p.pipe big.pgm --rows 1 --cols 1 --of dark")
+        self.assertEqual(runs, ["check", "plan", "world", "world", "merge"])
+        self.assertEqual([it.numbers for it in facts.facts_of(written.strip())], [(it // 2,) for it in samples])

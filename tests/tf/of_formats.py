@@ -1,14 +1,17 @@
 """Tests of pictures of other formats: real files, made by Debian's tools, against the points that they were made from."""
 import os
+import re
 import shutil
+import struct
+import subprocess
 import unittest
 
 from .pictures import planes
 from .shared import TOP, InRoom, content, wants_vips
 
-from tf_lib import converters, joining, netpbm, png
-from tf_lib.netpbm import Picture
-from tf_lib.text import Refused
+from _tf import converters, joining, netpbm, png
+from _tf.netpbm import Picture
+from _tf.text import Refused
 
 PICTURES = f"{TOP}/tests/tf/pictures"
 COLS, ROWS = planes.COLS, planes.ROWS
@@ -43,6 +46,23 @@ class Formats(InRoom):
                 path, room = f"{PICTURES}/{name}", os.path.join(self.room, name)
                 os.mkdir(room)
                 self.assertEqual(converters.read(content(path), path, room), png.read(content(path), path))
+
+    @wants_vips
+    def test_heads_of_jpeg_are_what_vips_tells(self):
+        names = sorted(it for it in os.listdir(PICTURES) if it.endswith(".jpg"))
+        for name in names:
+            with self.subTest(name):
+                found = converters.head_of_jpeg(f"{PICTURES}/{name}")
+                if name == "inks.jpg":
+                    self.assertIsNone(found)
+                    continue
+                room = os.path.join(self.room, name)
+                os.mkdir(room)
+                converters.place(b"", f"{PICTURES}/{name}", room)
+                wanted = converters.Vips(name, room).head()
+                self.assertEqual(found._replace(orientation=""), wanted._replace(orientation=""))
+                self.assertEqual(found.orientation in converters.NO_ORIENTATION, wanted.orientation in converters.NO_ORIENTATION)
+        self.assertGreater(len(names), 4)
 
     @wants_vips
     def test_jpeg_is_read_as_near_as_it_is(self):
@@ -126,6 +146,35 @@ class Formats(InRoom):
         self.assertFalse(Picture(1, 1, 3, 300, b"\0\1\0\1\1\1").is_grey_valued())
 
     @wants_vips
+    @wants_vips
+    def test_what_only_begins_like_a_format_reaches_no_other_loader(self):
+        told = subprocess.run(["vips", "--version"], capture_output=True, text=True).stdout
+        if tuple(map(int, re.findall(r"\d+", told)[:2])) < (8, 13):
+            self.skipTest(f"this libvips blocks no loaders: {told.strip()}")
+        drawing = b"push graphic-context\nviewbox 0 0 4 4\nimage over 0,0 4,4 'text:p.pipe'\npop graphic-context\n"
+        signs = (b"II*\0", b"MM\0*", b"\xff\xd8\xff", b"GIF89a", b"RIFF", b"\0\0\0 ftypheic")
+        for sign, rest in zip(signs, 2 * (drawing, bytes(99), b"<svg width='4' height='4'/>")):
+            self.write("odd", sign + rest)
+            status, written, told = self.tf("eval p.pipe odd -o made.pgm")
+            self.assertEqual((status, written), (2, b""))
+            self.assertNotIn("magick2vips", told)
+            self.assertNotIn("libMagick", told)
+
+    @wants_vips
+    def test_formats_that_have_a_loader_of_their_own(self):
+        rows = b"".join(bytes([3 * at, 2 * at, at, 3 * at + 3, 2 * at + 2, at + 1, 0, 0]) for at in (20, 10))
+        self.write("p.bmp", b"BM" + struct.pack("<IHHIIiiHHIIiiII", 70, 0, 0, 54, 40, 2, 2, 1, 24, 0, 16, 0, 0, 0, 0) + rows)
+        self.write("c.pipe", b"image r, g, b(2, 2);\nfunc f(x in [0 .. 1], y in [0 .. 1]) { else : r(x, y); }\nfunc h(x in [0 .. 1], y in [0 .. 1]) "
+                             b"{ else : b(x, y); }\noutput f, h, h max 255;\n")
+        self.assertEqual(self.tf("eval c.pipe p.bmp --print")[:2], (0, b"10 30 30 11 33 33\n20 60 60 21 63 63\n"))
+        for ending in ("jp2", "jxl"):
+            made = subprocess.run(["vips", "copy", "p.pgm", f"p.{ending}[lossless]"], cwd=self.room, capture_output=True)
+            if made.returncode:
+                continue  # this libvips writes no such format
+            wanted = self.tf("eval p.pipe p.pgm --print")
+            self.assertEqual(self.tf(f"eval p.pipe p.{ending} --print")[:2], wanted[:2])
+            self.assertNotEqual(self.tf(f"eval p.pipe p.{ending} --page 2")[0], 0)
+
     def test_standard_input_of_any_format(self):
         for name, head in (("grey8.tif", b"P5\n24 16\n255\n"), ("mask.pbm", b"P5\n24 16\n255\n"), ("equal.jpg", b"P5\n24 16\n255\n")):
             with self.subTest(name):

@@ -1,15 +1,17 @@
 """Tests of examples/own, programs for the user's own pictures, by plain sums over random ones."""
 import os
 import random
+from bisect import bisect_right
 from typing import Callable
 
-from .shared import TOP, InRoom
+from .shared import TOP, InRoom, content
 
-from tf_lib import netpbm
+from _tf import netpbm, png
+from _tf.play_examples import EXAMPLES
 
 OWN = f"{TOP}/examples/own"
 Rows = list[list[int]]
-Planes = Callable[[list[Rows]], list[Rows]]
+Planes = Callable[[list[Rows], int], list[Rows]]
 
 
 def at(rows: Rows, x: int, y: int) -> int:
@@ -30,31 +32,45 @@ def soft(rows: Rows) -> Rows:
     return each(len(rows), len(rows[0]), value)
 
 
-def sharpen(rows: Rows) -> Rows:
+def sharpen(rows: Rows, most: int) -> Rows:
     softened = soft(rows)
-    return each(len(rows), len(rows[0]), lambda x, y: min(max(2 * rows[x][y] - softened[x][y], 0), 255))
+    return each(len(rows), len(rows[0]), lambda x, y: min(max(2 * rows[x][y] - softened[x][y], 0), most))
 
 
-def block(rows: Rows, side: int) -> Rows:
-    """The mean of each square of points, rounded down."""
+def squares(rows: Rows) -> Rows:
+    """The sum of each square of two by two points; a last row or column without a second counts twice."""
     def value(x: int, y: int) -> int:
-        return sum(rows[side * x + a][side * y + b] for a in range(side) for b in range(side)) // side**2
+        return sum(at(rows, 2 * x + a, 2 * y + b) for a in range(2) for b in range(2))
 
-    return each(len(rows) // side, len(rows[0]) // side, value)
+    return each((len(rows) + 1) // 2, (len(rows[0]) + 1) // 2, value)
 
 
-def doubled(rows: Rows) -> Rows:
-    """Twice as many rows and columns: a new point lies a quarter of the way from one old point to the next, first down and then across."""
+def divided(rows: Rows, by: int) -> Rows:
+    return [[it // by for it in row] for row in rows]
+
+
+def thumbnail(rows: Rows) -> Rows:
+    return divided(squares(squares(squares(rows))), 64)
+
+
+def doubled(rows: Rows, count_rows: int, count_cols: int) -> Rows:
+    """Twice as many rows and columns, as far as they are wanted: a new point lies a quarter of the way from one old point to the next, first
+    down and then across."""
     def between(near: int, far: int) -> int:
         return (3 * near + far) // 4
 
-    down = each(2 * len(rows), len(rows[0]), lambda x, y: between(at(rows, x // 2, y), at(rows, x // 2 + (1 if x % 2 else -1), y)))
+    down = each(count_rows, len(rows[0]), lambda x, y: between(at(rows, x // 2, y), at(rows, x // 2 + (1 if x % 2 else -1), y)))
     # (a column beyond the border is made of the border as it was before, which is the same)
-    return each(len(down), 2 * len(down[0]), lambda x, y: between(at(down, x, y // 2), at(down, x, y // 2 + (1 if y % 2 else -1))))
+    return each(count_rows, count_cols, lambda x, y: between(at(down, x, y // 2), at(down, x, y // 2 + (1 if y % 2 else -1))))
 
 
 def wide_blur(rows: Rows) -> Rows:
-    return doubled(doubled(doubled(soft(block(block(block(rows, 2), 2), 2)))))
+    half = divided(squares(rows), 4)
+    fourth = divided(squares(half), 4)
+    found = soft(divided(squares(fourth), 4))
+    for larger in (fourth, half, rows):
+        found = doubled(found, len(larger), len(larger[0]))
+    return found
 
 
 def background(rows: Rows) -> Rows:
@@ -62,8 +78,15 @@ def background(rows: Rows) -> Rows:
     return each(len(rows), len(rows[0]), lambda x, y: max(rows[x][y] - blurred[x][y], 0))
 
 
-def toned(rows: Rows) -> Rows:
-    return each(len(rows), len(rows[0]), lambda x, y: CURVE[rows[x][y]])
+def looked_up(curve: list[int], sample: int, most: int) -> float:
+    """What a curve of 256 entries gives for a sample, by straight lines between the entries."""
+    place = sample * 255 / most
+    level = int(place)
+    return (curve[level] + (place - level) * (curve[min(level + 1, 255)] - curve[level])) * most / 255
+
+
+def toned(rows: Rows, most: int) -> Rows:
+    return [[round(looked_up(CURVE, it, most)) for it in row] for row in rows]
 
 
 def grey(planes: list[Rows]) -> Rows:
@@ -73,41 +96,40 @@ def grey(planes: list[Rows]) -> Rows:
     return each(len(red), len(red[0]), lambda x, y: (299 * red[x][y] + 587 * green[x][y] + 114 * blue[x][y] + 500) // 1000)
 
 
-def equalised(planes: list[Rows]) -> list[Rows]:
-    """Each brightness becomes the share of points that are not brighter; so much is added to each colour of a point."""
+def equalised(planes: list[Rows], most: int) -> list[Rows]:
+    """Each brightness becomes the share of points that are not brighter, in 256 levels; so much is added to each colour of a point."""
     brightness = grey(planes)
-    every = [it for row in brightness for it in row]
-    shares = [sum(it <= value for it in every) / len(every) for value in range(256)]
-    more = [[int(255 * shares[it] + 0.5) - it for it in row] for row in brightness]
-    return [each(len(plane), len(plane[0]), lambda x, y: min(max(plane[x][y] + more[x][y], 0), 255)) for plane in planes]
+    every = sorted(it * 255 // most for row in brightness for it in row)
+    curve = [int(255 * bisect_right(every, level) / len(every) + 0.5) for level in range(256)]
+    more = [[round(looked_up(curve, it, most)) - it for it in row] for row in brightness]
+    return [each(len(plane), len(plane[0]), lambda x, y: min(max(plane[x][y] + more[x][y], 0), most)) for plane in planes]
 
 
-def of_planes(value: Callable[[Rows], Rows]) -> Planes:
-    return lambda planes: list(map(value, planes))
+def of_planes(value: Callable[..., Rows], *takes_most: bool) -> Planes:
+    return lambda planes, most: [value(it, most) if takes_most else value(it) for it in planes]
 
 
 # through these points: darker shadows, brighter lights
 CURVE = [int(it + 0.5) for it in [*(x * 40 / 64 for x in range(64)), *(40 + (x - 64) * 180 / 128 for x in range(64, 192)),
                                   *(220 + (x - 192) * 35 / 63 for x in range(192, 256))]]
-WANTED = {"sharpen": of_planes(sharpen), "thumbnail": of_planes(lambda rows: block(rows, 8)), "wide_blur": of_planes(wide_blur),
-          "background": of_planes(background), "tone": of_planes(toned), "equal": equalised}
-OF_EIGHTS = ("thumbnail", "wide_blur", "background")
+WANTED = {"sharpen": of_planes(sharpen, True), "thumbnail": of_planes(thumbnail), "wide_blur": of_planes(wide_blur),
+          "background": of_planes(background), "tone": of_planes(toned, True), "equal": equalised}
+OF_EIGHTHS = ("thumbnail", "wide_blur", "background")
+BYTES, DEEP = 255, 65535
 
 
 class OwnPictures(InRoom):
-    def planes(self, count: int) -> list[Rows]:
+    def planes(self, count: int, rows: int = 24, cols: int = 16, most: int = BYTES) -> list[Rows]:
         chance = random.Random(5)
-        return [each(24, 16, lambda x, y: chance.choice((0, 255, chance.randrange(256)))) for _ in range(count)]
+        return [each(rows, cols, lambda x, y: chance.choice((0, most, chance.randrange(most + 1)))) for _ in range(count)]
 
     def written(self, line: str) -> bytes:
         status, written, told = self.tf(line)
         self.assertEqual((status, told), (0, ""))
         return written
 
-    def words(self, name: str, ending: str, rows: Rows) -> str:
-        """The words behind the program and the picture: the sides, or the table, which is made of the picture for an equalised one."""
-        if name in OF_EIGHTS:
-            return f"R={len(rows) // 8} C={len(rows[0]) // 8}"
+    def words(self, name: str, ending: str) -> str:
+        """The words behind the program and the picture: the table, which is made of the picture for an equalised one."""
         if name == "tone":
             return f"--table {OWN}/tone.table"
         if name == "equal":
@@ -116,13 +138,15 @@ class OwnPictures(InRoom):
             return "--table equal.table"
         return ""
 
-    def shown(self, name: str, planes: list[Rows]) -> list[Rows]:
-        """The planes of a program's result."""
+    def shown(self, name: str, planes: list[Rows], most: int = BYTES) -> list[Rows]:
+        """The planes of a program's result, which has the picture's greatest sample."""
         rows, ending = planes[0], "" if len(planes) == 1 else "_colours"
-        points = bytes(plane[x][y] for x in range(len(rows)) for y in range(len(rows[0])) for plane in planes)
-        self.write("in.pnm", b"P%d %d %d 255 " % (5 if len(planes) == 1 else 6, len(rows[0]), len(rows)) + points)
-        written = self.written(f"eval {OWN}/{name}{ending}.pipe in.pnm {self.words(name, ending, rows)} --rows 7 --cols 5")
+        points = [plane[x][y] for x in range(len(rows)) for y in range(len(rows[0])) for plane in planes]
+        picture = netpbm.Picture(len(rows[0]), len(rows), len(planes), most, netpbm.bytes_of(points, most))
+        self.write("in.pnm", picture.raw())
+        written = self.written(f"eval {OWN}/{name}{ending}.pipe in.pnm {self.words(name, ending)} --rows 7 --cols 5")
         picture = netpbm.picture_of(written)[0]
+        self.assertEqual(picture.most, most)
         samples, width = list(picture.samples()), picture.cols * picture.parts
         return [[samples[at + part : at + width : picture.parts] for at in range(0, len(samples), width)] for part in range(picture.parts)]
 
@@ -135,14 +159,51 @@ class OwnPictures(InRoom):
             for count in (1, 3):
                 with self.subTest(name, planes=count):
                     planes = self.planes(count)
-                    self.assertEqual(self.shown(name, planes), wanted(planes))
+                    self.assertEqual(self.shown(name, planes), wanted(planes, BYTES))
+
+    def test_sides_that_are_no_multiples_of_eight(self):
+        for rows, cols in ((37, 29), (1, 9), (300, 400)):
+            for name in OF_EIGHTHS:
+                for count in (1, 3) if rows < 300 else (1,):
+                    with self.subTest(name, rows=rows, cols=cols, planes=count):
+                        planes = self.planes(count, rows, cols)
+                        self.assertEqual(self.shown(name, planes), WANTED[name](planes, BYTES))
+
+    def test_pictures_of_sixteen_bits_keep_them(self):
+        """Curves of 256 entries are read between the entries, by steps of a 128th: so near to straight lines they come."""
+        for name, wanted in WANTED.items():
+            for count in (1, 3):
+                with self.subTest(name, planes=count):
+                    planes = self.planes(count, most=DEEP)
+                    pairs = zip(self.shown(name, planes, DEEP), wanted(planes, DEEP))
+                    off = max(abs(one - other) for found, right in pairs for row, line in zip(found, right) for one, other in zip(row, line))
+                    self.assertLessEqual(off, {"tone": 5, "equal": 400}.get(name, 0))
+
+    def test_the_gallery_keeps_sixteen_bits(self):
+        """Each sample of a picture is 257 times as great. So is the result's, but for what is rounded and compared more finely."""
+        for example in (it for it in EXAMPLES if it.program.startswith("docs/gallery/")):
+            with self.subTest(example.name):
+                picture, stored = (png.read(content(f"{TOP}/{it}"), it)[0] for it in (example.picture, f"docs/gallery/{example.name}.png"))
+                raster = bytes(it for sample in picture.raster for it in (sample, sample))
+                self.write("deep.pnm", netpbm.Picture(picture.cols, picture.rows, picture.parts, DEEP, raster).raw())
+                table = f"--table {TOP}/{example.tables}" if example.tables else ""
+                found = netpbm.picture_of(self.written(f"eval {TOP}/{example.program} deep.pnm --strict {table}"))[0]
+                self.assertEqual((found.most, found.rows, found.cols), (DEEP, stored.rows, stored.cols))
+                off = sum(abs(one - 257 * other) for one, other in zip(found.samples(), stored.samples())) / 257 / len(stored.raster)
+                self.assertLess(off, {"local_contrast": 4}.get(example.name, 1.1))
 
     def test_an_even_picture_has_no_frame(self):
         for name, value in (("sharpen", 77), ("wide_blur", 77), ("background", 0), ("thumbnail", 77), ("tone", CURVE[77]), ("equal", 255)):
             for count in (1, 3):
                 with self.subTest(name, planes=count):
-                    for plane in self.shown(name, [each(24, 16, lambda x, y: 77)] * count):
+                    for plane in self.shown(name, [each(27, 18, lambda x, y: 77)] * count):
                         self.assertEqual({it for row in plane for it in row}, {value})
+
+    def test_local_contrast_has_no_frame(self):
+        # 77 / 2 + 64, since each point is its own mean
+        self.write("even.pgm", b"P5 23 24 255 " + bytes([77]) * (23 * 24))
+        picture = netpbm.picture_of(self.written(f"eval {TOP}/docs/gallery/local_contrast.pipe even.pgm"))[0]
+        self.assertEqual((picture.rows, picture.cols, set(picture.raster)), (24, 23, {102}))
 
     def test_a_gradient_has_no_jump_at_the_border(self):
         """Neighbours differ at most by twice what they do in the picture, which rises by one a row or by two a column."""

@@ -1,18 +1,37 @@
 """Tests of `tf eval` by parts: what goes by parts, what is written, and what is refused."""
+import glob
 import io
+import os
 import random
+import shutil
+import signal
 import struct
+import subprocess
+import time
 
 from .of_formats import wants_vips
-from .shared import COPY, GREY, InRoom
+from .shared import COPY, GREY, PROGRAM, TOP, InRoom, write
 
-from tf_lib import converters, png
-from tf_lib.netpbm import Picture
+from _tf import converters, png
+from _tf.netpbm import Picture
 
 COUNTS = COPY + "accum h [0 .. 3] over (x in [0 .. R-1], y in [0 .. C-1]) sum 1 at I(x, y) / 5;\n"
 RAW = b"P5\n4 4\n255\n" + bytes(range(1, 17))
 LINE = b"h 0..3: 4 5 5 2\n"
 LONG = "image I(4, 4);\nfunc f(x in [0 .. 5000], y in [0 .. 3]) { else : x % 200 + y; }\noutput f max 255;\n"
+# writes down each part that it runs, and lacks memory behind so many of them
+SOME = f"""#!/bin/sh
+test "$1" = eval || exec {PROGRAM} "$@"
+echo eval >> runs
+if test "$(wc -l < runs)" -gt "$(cat limit 2> /dev/null || echo 6)"; then echo memory; exit 5; fi
+exec {PROGRAM} "$@"
+"""
+# says that it runs a part, and then does nothing
+WAITS = f"""#!/bin/sh
+test "$1" = eval || exec {PROGRAM} "$@"
+touch began
+exec sleep 100
+"""
 
 
 def pgm(rows: int, cols: int) -> bytes:
@@ -29,6 +48,53 @@ class InParts(InRoom):
                 self.assertEqual(self.tf(f"eval p.pipe p.pgm -o out.pgm {words}"), (0, LINE, ""))
                 self.assertEqual(self.content("out.pgm"), RAW)
         self.assertEqual(self.tf("eval p.pipe - --parts 3", GREY.encode()), (0, RAW + LINE, ""))
+
+    def test_a_run_that_was_ended_goes_on(self):
+        self.write("p.pipe", COUNTS.encode())
+        self.write("some", SOME.encode())
+        os.chmod(f"{self.room}/some", 0o755)
+        line, program = "eval p.pipe p.pgm --parts 1 --stored --resume kept", f"{self.room}/some"
+        status, written, _ = self.tf(line, TILEFARM=program)
+        self.assertEqual((status, written, len(os.listdir(f"{self.room}/kept"))), (5, b"", 6))
+        first, second, *_ = sorted(os.listdir(f"{self.room}/kept"))
+        self.write(f"kept/{first}", self.content(f"kept/{first}")[:-1])
+        self.write(f"kept/{second}", self.content(f"kept/{second}")[:-1] + b"\0")
+        self.write("limit", b"99")
+        self.write("runs", b"")
+        self.assertEqual(self.tf(line, TILEFARM=program), (0, RAW + LINE, "tf: 4 of 16 parts are those of kept\n"))
+        self.assertEqual(self.content("runs"), b"eval\n" * 12)
+        self.assertEqual(self.tf(f"{line} --jobs 3", TILEFARM=program), (0, RAW + LINE, "tf: 16 of 16 parts are those of kept\n"))
+        self.write("p.pgm", b"P2 4 4 255 " + b" ".join(b"%d" % it for it in [99, *range(2, 17)]))
+        status, written, told = self.tf(line, TILEFARM=program)
+        self.assertEqual((status, written[:12], told), (0, RAW[:11] + b"\x63", "tf: 15 of 16 parts are those of kept\n"))
+
+    def test_the_folder_of_a_run_that_was_killed_is_named_at_the_next_call(self):
+        self.write("waits", WAITS.encode())
+        os.chmod(f"{self.room}/waits", 0o755)
+        words = [f"{TOP}/tools/tf", "eval", "p.pipe", "p.pgm", "--parts", "2", "-o", "out.pgm"]
+        env = {**os.environ, "TILEFARM": f"{self.room}/waits"}
+        running = subprocess.Popen(words, cwd=self.room, env=env, stderr=subprocess.DEVNULL, start_new_session=True)
+        try:
+            until = time.monotonic() + 60
+            while not os.path.exists(f"{self.room}/began") and time.monotonic() < until:
+                time.sleep(0.02)
+            self.assertEqual(self.tf("eval p.pipe p.pgm --parts 2 -o other.pgm"), (0, b"", ""))
+        finally:
+            os.killpg(running.pid, signal.SIGKILL)
+            running.wait()
+        left, = glob.glob(f"{self.room}/.tf-*")
+        write(f"{left}/more", bytes(2_500_000))
+        for line in ("eval p.pipe p.pgm --parts 2 -o other.pgm", "eval p.pipe p.pgm --parts 2 --engine list -o parts"):
+            status, _, told = self.tf(line)
+            said = f"tf: {left} is left by a tf that was killed, and holds 2.5 MB: rm -r {left} removes it\n"
+            self.assertEqual((status, told[: len(said)]), (0, said))
+        shutil.rmtree(left)
+        self.assertEqual(self.tf("eval p.pipe p.pgm --parts 2 -o other.pgm"), (0, b"", ""))
+
+    def test_folders_for_parts_have_nothing_else(self):
+        self.refused("eval p.pipe p.pgm --resume .", 1, "there is no part that --resume has kept")
+        self.refused("eval p.pipe p.pgm --resume p.pgm", 4, "--resume p.pgm: File exists")
+        self.refused("check p.pipe p.pgm --resume kept", 1, "--resume is an option of eval")
 
     def test_large_pictures_and_results_go_by_parts_unasked(self):
         self.write("tall.pgm", pgm(4097, 3))
@@ -84,7 +150,7 @@ class InParts(InRoom):
     def test_faults_of_the_whole_are_shown_in_its_text(self):
         for text, words, said in ((COPY.replace("y);", "y+1);"), "", "bounds: 4 OutOfBounds f case 0 read 0 columns least 1 greatest 4\np.pipe:3:56\n"),
                                   (COPY.replace("I(x", "J(x"), "", "check: 1 Unknown item 3\np.pipe:3:51\n"),
-                                  (COPY.replace("image I(R", "image I(2*R"), "", "bounds: 1 ParamUnset R\np.pipe:1:7\n"),
+                                  (COPY.replace("image I(R", "image I(3*R"), "", "bounds: 1 ParamUnset R\np.pipe:1:7\n"),
                                   (COPY, "R=3", "bind: 3 ExtentMismatch\np.pipe:2:9\n"),
                                   (COPY + "%", "", "program: 3 Unexpected at ")):
             with self.subTest(said):

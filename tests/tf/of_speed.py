@@ -12,13 +12,13 @@ import zlib
 
 from .shared import PROGRAM, TOP, InRoom, wants_vips
 
-from tf_lib import lanes, png, unfiltering
-from tf_lib.netpbm import Picture
+from _tf import lanes, png, unfiltering
+from _tf.netpbm import Picture
 
-LATER = ("urllib", "xml", "email", "difflib", "concurrent.futures", "pathlib", "socket", "tf_lib.converters", "tf_lib.png", "tf_lib.graph",
-          "tf_lib.hist", "tf_lib.tune", "tf_lib.making", "tf_lib.faults", "tf_lib.parts", "tf_lib.schedules", "tf_lib.answering",
-          "tf_lib.stage_pictures")
-NOT_FOR_HELP = ("subprocess", "tempfile", "tf_lib.words", "tf_lib.call")
+LATER = ("urllib", "xml", "email", "difflib", "concurrent.futures", "pathlib", "socket", "_tf.converters", "_tf.png", "_tf.graph",
+          "_tf.hist", "_tf.tune", "_tf.making", "_tf.faults", "_tf.parts", "_tf.schedules", "_tf.answering",
+          "_tf.stage_pictures")
+NOT_FOR_HELP = ("subprocess", "tempfile", "_tf.words", "_tf.call")
 
 
 def grey(red: int, green: int, blue: int) -> int:
@@ -172,8 +172,8 @@ class RoundTheProgram(InRoom):
 class Start(unittest.TestCase):
     def loaded(self, *words: str) -> set[str]:
         """What is loaded for a call."""
-        code = "import sys; sys.path.insert(0, sys.argv.pop(1)); from tf_lib.main import main; main(); print(*sys.modules)"
-        ran = subprocess.run([sys.executable, "-S", "-c", code, f"{TOP}/tools", *words], capture_output=True, text=True, check=True)
+        code = "import sys; sys.path.insert(0, sys.argv.pop(1)); from _tf.main import main; main(); print(*sys.modules)"
+        ran = subprocess.run([sys.executable, "-S", "-c", code, f"{TOP}/python/tilefarm", *words], capture_output=True, text=True, check=True)
         return {*ran.stdout.splitlines()[-1].split()}
 
     def test_little_is_loaded(self):

@@ -3,7 +3,7 @@ import os
 
 from .shared import TOP, InRoom, content
 
-from tf_lib import netpbm, png
+from _tf import netpbm, png
 
 STAGES = """param R; param C;
 image I(R, C);
@@ -41,6 +41,16 @@ class StagePictures(InRoom):
         self.assertEqual(self.stage("I")[0], list(POINTS))
         self.assertEqual(self.stage("flat")[0], [7, 7])
 
+    def test_the_values_of_a_stage_are_printed(self):
+        for name, values in (("low", [(it - 8) * 100 for it in POINTS]), ("wide", [wrapped(it << 27) for it in POINTS]), ("I", POINTS)):
+            status, written, told = self.tf(f"eval p.pipe p.pgm --stage {name} --print")
+            self.assertEqual((status, told), (0, ""))
+            rows = [[*map(int, line.split())] for line in written.decode().splitlines()]
+            self.assertEqual(rows, [[*values[at : at + 4]] for at in range(0, 16, 4)])
+        self.assertEqual(self.tf("eval p.pipe p.pgm --stage flat --print"), (0, b"7 7\n", ""))
+        self.assertEqual(self.tf("eval p.pipe p.pgm --stage low --print")[1].splitlines()[0], b"-700 -600 -500 -400")
+        self.assertEqual(self.tf("eval p.pipe p.pgm --stage flat --scale --print")[1], b"0 0\n")
+
     def test_a_stage_is_scaled(self):
         self.near(self.stage("low --scale")[0], [(it - 8) * 100 for it in POINTS])
         self.near(self.stage("wide --scale")[0], [wrapped(it << 27) for it in POINTS])
@@ -70,8 +80,9 @@ class StagePictures(InRoom):
 class PlansWithoutAPicture(InRoom):
     def test_sides_are_given(self):
         harris = f"{TOP}/examples/harris"
-        with_one = self.tf(f"plan {harris}/harris.pipe {harris}/shapes.pgm")
-        head = netpbm.header_of(content(f"{harris}/shapes.pgm"))
+        shapes = f"{TOP}/tests/examples/harris/shapes.pgm"
+        with_one = self.tf(f"plan {harris}/harris.pipe {shapes}")
+        head = netpbm.header_of(content(shapes))
         self.assertEqual(self.tf(f"plan {harris}/harris.pipe R={head.rows} C={head.cols}"), with_one)
         brown = f"{TOP}/examples/brown/brown.pipe"
         self.assertEqual(self.tf(f"plan {brown} R=4096 C=4096")[0::2], (0, ""))
@@ -102,7 +113,7 @@ class TablesWithTf(InRoom):
 
     def test_many_pictures_take_the_same_tables(self):
         self.write("q.pgm", b"P5 1 2 255 \1\2")
-        self.assertEqual(self.tf("eval t.pipe p.pgm q.pgm --table t.table -o {name}.out.pgm"), (0, b"", ""))
+        self.assertEqual(self.tf("eval t.pipe p.pgm q.pgm --table t.table -o {name}.out.pgm")[:2], (0, b""))
         self.assertEqual(self.content("q.out.pgm"), b"P5\n1 1\n255\n%c" % (20 + 10))
 
     def test_plans_and_costs(self):
@@ -115,4 +126,4 @@ class TablesWithTf(InRoom):
     def test_answers(self):
         wanted = self.tf("eval t.pipe p.pgm --table t.table")
         self.assertEqual(self.tf("facts t.pipe p.pgm --table t.table --rows 2 --cols 2 -o t.facts")[0], 0)
-        self.assertEqual(self.tf("answer t.pipe p.pgm t.facts --table t.table --rows 2 --cols 2"), wanted)
+        self.assertEqual(self.tf("answer t.pipe p.pgm t.facts --table t.table --rows 2 --cols 2")[:2], wanted[:2])

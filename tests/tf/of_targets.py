@@ -5,9 +5,9 @@ import stat
 import subprocess
 import threading
 
-from .shared import GREY, PROGRAM, TOP, InRoom
+from .shared import COPY, GREY, PROGRAM, TOP, InRoom, tf
 
-from tf_lib import output
+from _tf import output
 
 RAW = b"P5\n4 4\n255\n" + bytes(range(1, 17))
 NOBODY = 65534
@@ -102,6 +102,55 @@ class Targets(InRoom):
         self.assertEqual((self.content("old.pgm"), self.mode("old.pgm").st_uid), (b"new", 0))
         self.assertEqual(self.content("shut.pgm"), b"older")
 
+    def test_a_file_of_a_foreign_group_is_written_in_its_place(self):
+        if os.getuid():
+            self.skipTest("to make a file of another group takes a root user")
+        self.write("old.pgm", b"older and longer")
+        os.chmod(self.room, 0o777)
+        os.chown(f"{self.room}/old.pgm", NOBODY, 0)
+        before = self.mode("old.pgm").st_ino
+        self.assertEqual(as_nobody(lambda: output.put(f"{self.room}/old.pgm", b"new")), 0)
+        self.write("made", b"newer")
+        os.chmod(f"{self.room}/made", 0o644)
+        found = self.mode("old.pgm")
+        self.assertEqual((self.content("old.pgm"), found.st_ino, found.st_uid, found.st_gid), (b"new", before, NOBODY, 0))
+        self.assertEqual(as_nobody(lambda: output.put_file(f"{self.room}/old.pgm", f"{self.room}/made")), 0)
+        self.assertEqual(self.content("old.pgm"), b"newer")
+        self.assertEqual([it for it in os.listdir(self.room) if it.startswith(".")], [])
+
+    def test_a_bit_that_lets_others_run_as_the_owner_is_dropped(self):
+        self.write("old.pgm", b"older")
+        os.chmod(f"{self.room}/old.pgm", 0o6755)
+        self.assertEqual(self.tf("eval p.pipe p.pgm -o old.pgm"), (0, b"", ""))
+        self.assertEqual(stat.S_IMODE(self.mode("old.pgm").st_mode), 0o755)
+
+    def test_other_names_are_told(self):
+        self.write("old.pgm", b"older")
+        os.link(f"{self.room}/old.pgm", f"{self.room}/other.pgm")
+        status, _, told = self.tf("eval p.pipe p.pgm -o old.pgm")
+        self.assertEqual((status, self.content("old.pgm"), self.content("other.pgm")), (0, RAW, b"older"))
+        self.assertIn("old.pgm: it had 2 names (hard links)", told)
+
+    def test_attributes_stay(self):
+        self.write("old.pgm", b"older")
+        try:
+            os.setxattr(f"{self.room}/old.pgm", "user.note", b"mine")
+        except OSError as error:
+            self.skipTest(f"this file system has no attributes of users ({error.strerror})")
+        self.assertEqual(self.tf("eval p.pipe p.pgm -o old.pgm"), (0, b"", ""))
+        self.assertEqual(os.getxattr(f"{self.room}/old.pgm", "user.note"), b"mine")
+
+    def test_what_comes_by_pipes_is_read_once(self):
+        for line in ("eval <(cat p.pipe) p.pgm", "eval p.pipe <(cat p.pgm)", "eval <(cat p.pipe) <(cat p.pgm)", "eval p.pipe - < p.pgm", "eval <(cat p.pipe) p.pgm --parts 3",
+                     "eval p.pipe <(cat p.pgm) --parts 3"):
+            ran = subprocess.run(["bash", "-c", f"{TOP}/tools/tf {line}"], cwd=self.room, env={**os.environ, "TILEFARM": PROGRAM}, capture_output=True)
+            self.assertEqual((ran.returncode, ran.stdout, ran.stderr), (0, RAW, b""), line)
+
+    def test_a_folder_whose_name_is_no_line(self):
+        status, _, told = tf(["eval", "p.pipe", "p.pgm", "--engine", "list", "-o", "a\nb"], self.room)
+        self.assertEqual((status, os.path.exists(f"{self.room}/a\nb")), (1, False))
+        self.assertIn("each command is one line", told)
+
     def test_what_is_read_is_not_replaced(self):
         os.symlink("p.pgm", f"{self.room}/link.pgm")
         os.link(f"{self.room}/p.pgm", f"{self.room}/hard.pgm")
@@ -113,6 +162,29 @@ class Targets(InRoom):
             with self.subTest(line):
                 self.refused(line, 1, f"the {kind} is read from this file")
         self.assertEqual(self.content("p.pgm"), GREY.encode())
+
+    def test_what_other_commands_read_is_not_replaced(self):
+        self.write("t.txt", b"h 0..1: 3 4\n")
+        self.write("a.pgm", GREY.encode())
+        for line, kind in (("table sums t t.txt -o t.txt", "numbers' file"), ("eval p.pipe p.pgm --table t.txt -o t.txt", "table"),
+                           ("eval p.pipe p.pgm a.pgm --table t.txt --print -o ./{name}.pgm", "picture"),
+                           ("eval p.pipe t.txt p.pgm -o {name}.txt", "picture"), ("hist p.pipe p.pgm -o p.pgm", "picture")):
+            with self.subTest(line):
+                self.refused(line, 1, f"the {kind} is read from this file")
+        self.assertEqual((self.content("t.txt"), self.content("a.pgm")), (b"h 0..1: 3 4\n", GREY.encode()))
+
+    def test_a_word_that_is_no_file_of_a_table_is_none(self):
+        self.write("gamma", b"older")
+        self.assertEqual(self.tf("table gamma t 0..3 1 -o gamma"), (0, b"", ""))
+        self.assertEqual(self.content("gamma"), b"t 0..3: 0 1 2 3\n")
+
+    def test_a_list_of_parts_is_not_replaced_by_its_result(self):
+        self.assertEqual(self.tf("eval p.pipe p.pgm --engine list --parts 2 -o parts")[0], 0)
+        lines = self.content("parts/commands")
+        for name in ("commands", "make-part"):
+            self.refused(f"join parts -o parts/{name}", 1, "the list of parts is read from this file")
+        self.assertEqual(self.content("parts/commands"), lines)
+        self.refused("eval p.pipe p.pgm --engine list --parts 2 -o parts", 1, "no empty folder")
 
     def test_the_program_itself_is_not_replaced(self):
         os.symlink(PROGRAM, f"{self.room}/itself")
@@ -152,3 +224,51 @@ def as_nobody(call) -> int:
         finally:
             os._exit(status)
     return os.waitstatus_to_exitcode(os.waitpid(child, 0)[1])
+
+
+class StageFolders(InRoom):
+    """--stages goes by the rules of -o."""
+
+    def test_a_picture_that_is_read_is_kept(self):
+        os.rename(f"{self.room}/p.pgm", f"{self.room}/I.png")
+        self.refused("eval p.pipe I.png --stages .", 1, "I.png: the picture is read from this file, which --stages would replace")
+        self.assertEqual(self.content("I.png"), GREY.encode())
+
+    def test_what_is_there_from_another_maker_is_kept(self):
+        os.mkdir(f"{self.room}/made")
+        for name in ("index.html", "f.png"):
+            self.write(f"made/{name}", b"mine")
+            self.refused("eval p.pipe p.pgm --stages made", 1, f"made/{name}: it is there, and not as --stages made it")
+            self.assertEqual((os.listdir(f"{self.room}/made"), self.content(f"made/{name}")), ([name], b"mine"))
+            os.remove(f"{self.room}/made/{name}")
+        self.write("other.png", b"other")
+        os.symlink(f"{self.room}/other.png", f"{self.room}/made/f.png")
+        self.refused("eval p.pipe p.pgm --stages made", 1, "made/f.png: it is there")
+        self.assertEqual(self.content("other.png"), b"other")
+
+    def test_what_it_made_itself_is_made_again(self):
+        self.assertEqual(self.tf("eval p.pipe p.pgm --stages made"), (0, b"", ""))
+        self.write("more.pgm", GREY.replace(" 255", " 99").replace("255", "99").encode())
+        self.assertEqual(self.tf("eval p.pipe more.pgm --stages made"), (0, b"", ""))
+        self.assertEqual(sorted(os.listdir(f"{self.room}/made")), ["I.png", "f.png", "index.html"])
+
+    def test_what_was_changed_since_is_kept(self):
+        for name in ("index.html", "f.png"):
+            self.assertEqual(self.tf(f"eval p.pipe p.pgm --stages of-{name}"), (0, b"", ""))
+            mine = self.content(f"of-{name}/{name}") + b"mine"
+            self.write(f"of-{name}/{name}", mine)
+            self.refused(f"eval p.pipe p.pgm --stages of-{name}", 1, "it is there, and not as --stages made it")
+            self.assertEqual(self.content(f"of-{name}/{name}"), mine)
+
+    def test_a_file_is_no_folder(self):
+        self.refused("eval p.pipe p.pgm --stages p.pgm", 4, "p.pgm: this is a file; --stages wants a folder")
+        self.refused("eval p.pipe p.pgm --stages p.pgm/more", 4, "Not a directory")
+
+    def test_a_failure_leaves_nothing(self):
+        self.write("p.pipe", COPY.replace("I(x, y);", "I(x, y) + ;").encode())
+        self.assertNotEqual(self.tf("eval p.pipe p.pgm --stages made")[0], 0)
+        self.assertFalse(os.path.exists(f"{self.room}/made"))
+
+    def test_stages_of_several_pictures_are_refused(self):
+        self.write("a.pgm", GREY.encode())
+        self.refused("eval p.pipe p.pgm a.pgm --stages made -o {name}.png", 1, "--stages writes the stages of one picture")

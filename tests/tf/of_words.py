@@ -2,7 +2,7 @@
 import os
 import re
 
-from tf_lib.running import FEATURES, fastest_built
+from _tf.running import FEATURES, fastest_built
 
 from .shared import COPY, PROGRAM, InRoom, tf
 

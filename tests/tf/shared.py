@@ -7,7 +7,7 @@ import tempfile
 import unittest
 
 TOP = os.path.dirname(os.path.dirname(os.path.dirname(os.path.realpath(__file__))))
-sys.path.insert(0, f"{TOP}/tools")
+sys.path.insert(0, f"{TOP}/python/tilefarm")
 PROGRAM = os.path.abspath(sys.argv[1] if len(sys.argv) > 1 else f"{TOP}/crates/tilefarm/out/tilefarm")
 GREY = "P2\n4 4\n255\n" + "".join(f"{4 * row + 1} {4 * row + 2} {4 * row + 3} {4 * row + 4}\n" for row in range(4))
 COPY = "param R; param C;\nimage I(R, C);\nfunc f(x in [0 .. R-1], y in [0 .. C-1]) { else : I(x, y); }\noutput f max 255;\n"

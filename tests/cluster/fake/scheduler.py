@@ -4,6 +4,7 @@ A task whose worker dies goes to another one; after the fourth death it is given
 """
 import json
 import os
+import subprocess
 import sys
 from collections import deque
 from multiprocessing.connection import Connection, Listener, wait
@@ -21,11 +22,15 @@ class Task:
 
 class Scheduler:
     def __init__(self):
-        self.listener = Listener(("127.0.0.1", 0), authkey=distributed.KEY)
+        self.listener = Listener(("127.0.0.1", 0), backlog=64, authkey=distributed.KEY)
         self.waiting: deque[Task] = deque()
         self.workers: dict[Connection, str] = {}
         self.running: dict[Connection, Task] = {}
         self.links: list[Connection] = []
+        self.grown: subprocess.Popen | None = None
+
+    def address(self) -> str:
+        return "tcp://{}:{}".format(*self.listener.address)
 
     def serve(self) -> None:
         socket = self.listener._listener._socket
@@ -39,7 +44,7 @@ class Scheduler:
 
     def hear(self, link: Connection) -> None:
         try:
-            kind, *rest = link.recv()
+            kind, *rest = distributed.heard(link)
         except (EOFError, OSError):
             self.lose(link)
             return
@@ -50,17 +55,19 @@ class Scheduler:
         elif kind == "cancel":
             self.waiting = deque(it for it in self.waiting if it.key != rest[0])
         elif kind == "nthreads":
-            self.tell(link, "nthreads", dict.fromkeys(self.workers.values(), 1))
+            self.tell(link, "answer", dict.fromkeys(self.workers.values(), 1))
+        elif kind == "processing":
+            self.tell(link, "answer", {self.workers[it]: [task.key] for it, task in self.running.items()})
         elif kind == "goodbye":
             self.lose(link)
             link.close()
         elif kind == "done":
             task = self.running.pop(link)
-            self.tell(task.client, "done", task.key, *rest)
+            self.tell(task.client, "done", task.key, self.workers[link], *rest)
 
     def tell(self, link: Connection, *words) -> None:
         try:
-            link.send(words)
+            distributed.say(link, *words)
         except OSError:
             self.lose(link)
 
@@ -73,12 +80,15 @@ class Scheduler:
         if task:
             task.deaths += 1
             if task.deaths > ALLOWED_DEATHS:
-                self.tell(task.client, "done", task.key, "error", distributed.KilledWorker(task.key, name))
+                error = distributed.protocol.serialized(distributed.KilledWorker(task.key, name))
+                self.tell(task.client, "done", task.key, name, "error", b"", error)
             else:
                 self.waiting.appendleft(task)
 
     def give(self) -> None:
-        """Gives tasks to workers that have none."""
+        """Gives tasks to workers that have none. With GROWS a worker is started when the first task waits."""
+        if os.environ.get("GROWS") and self.waiting and not self.grown:
+            self.grown = subprocess.Popen([sys.executable, f"{os.path.dirname(os.path.realpath(__file__))}/worker.py", self.address(), "grown"])
         for link in [it for it in self.workers if it not in self.running]:
             task = next((it for it in self.waiting if it.workers is None or self.workers[link] in it.workers), None)
             if task:
@@ -90,7 +100,7 @@ class Scheduler:
 def main(path: str) -> None:
     scheduler = Scheduler()
     with open(f"{path}.new", "w", encoding="utf-8") as file:
-        json.dump({"address": "tcp://{}:{}".format(*scheduler.listener.address)}, file)
+        json.dump({"address": scheduler.address()}, file)
     os.replace(f"{path}.new", path)
     scheduler.serve()
 

@@ -1,7 +1,9 @@
-"""A worker with one thread: `worker.py ADDRESS NAME` runs what the scheduler gives it."""
+"""Workers with one thread each: `worker.py ADDRESS NAME...` runs what the scheduler gives them."""
 import marshal
 import os
+import pickle
 import sys
+import threading
 import types
 from multiprocessing.connection import Client
 
@@ -10,22 +12,24 @@ import distributed
 
 
 def ended(code: bytes, args: tuple) -> tuple:
-    """How a task ends: its status, and its result or its error."""
+    """How a task ends: its status, the type of its result, and its result or its error."""
     try:
-        return "finished", types.FunctionType(marshal.loads(code), {"__builtins__": __builtins__})(*args)
+        found = types.FunctionType(marshal.loads(code), {"__builtins__": __builtins__})(*args)
+        return "finished", pickle.dumps(type(found)), distributed.protocol.serialized(found)
     except Exception as error:
-        return "error", error
+        return "error", b"", distributed.protocol.serialized(error)
 
 
 def main(address: str, name: str) -> None:
     link = Client(distributed.place(address), authkey=distributed.KEY)
-    distributed.here.worker = types.SimpleNamespace(address=name)
-    link.send(("worker", name))
-    while True:
-        link.send(("done", *ended(*link.recv())))
+    distributed.here.worker = types.SimpleNamespace(address=name, name=name)
+    distributed.say(link, "worker", name)
+    try:
+        while True:
+            distributed.say(link, "done", *ended(*distributed.heard(link)))
+    except (EOFError, OSError):
+        pass
 
 
-try:
-    main(*sys.argv[1:])
-except (EOFError, OSError):
-    pass
+for name in sys.argv[2:]:
+    threading.Thread(target=main, args=(sys.argv[1], name)).start()

@@ -5,9 +5,13 @@ them: Dask sends more, and tf's task needs no more.
 """
 import itertools
 import marshal
+import pickle
 import queue
 import threading
 from multiprocessing.connection import Client as connected
+from multiprocessing.connection import Connection
+
+from . import protocol
 
 KEY = b"tests of tilefarm"
 # what a worker is, while it runs a task
@@ -28,14 +32,23 @@ def get_worker():
     return here.worker
 
 
+def say(link: Connection, *words: object) -> None:
+    link.send_bytes(protocol.dumps(words))
+
+
+def heard(link: Connection, deserialize: bool = False) -> tuple:
+    """The next message. A client makes objects of what it hears, and the others pass it on."""
+    return protocol.loads(link.recv_bytes(), deserialize)
+
+
 class Future:
     def __init__(self, client: "Client", key: str):
         self.client, self.key, self.status = client, key, "pending"
-        self.value, self.callbacks, self.lock = None, [], threading.Lock()
+        self.value, self.worker, self.callbacks, self.lock = None, "", [], threading.Lock()
 
-    def end(self, status: str, value) -> None:
+    def end(self, status: str, value, worker: str = "") -> None:
         with self.lock:
-            self.status, self.value = status, value
+            self.status, self.value, self.worker = status, value, worker
             called, self.callbacks = self.callbacks, []
         for callback in called:
             callback(self)
@@ -48,13 +61,10 @@ class Future:
         if is_late:
             callback(self)
 
-    def result(self):
+    def result(self, timeout: float | None = None):
         if self.status == "error":
             raise self.value
         return self.value
-
-    def exception(self):
-        return self.value if self.status == "error" else None
 
     def cancel(self) -> None:
         self.client.cancel([self])
@@ -66,7 +76,7 @@ class Future:
 class Client:
     def __init__(self, address: str, timeout: float = 10, set_as_default: bool = True):
         self.link = connected(place(address), authkey=KEY)
-        self.link.send(("client",))
+        say(self.link, "client")
         self.futures: dict[str, Future] = {}
         self.numbers, self.told, self.lock = itertools.count(), queue.Queue(), threading.Lock()
         self.hearing = threading.Thread(target=self.hear, daemon=True)
@@ -75,31 +85,47 @@ class Client:
     def hear(self) -> None:
         try:
             while True:
-                kind, *rest = self.link.recv()
-                if kind == "nthreads":
+                kind, *rest = heard(self.link, True)
+                if kind == "answer":
                     self.told.put(rest[0])
                 elif rest[0] in self.futures:
-                    self.futures[rest[0]].end(*rest[1:])
+                    self.end(*rest)
         except (EOFError, OSError):
             for it in list(self.futures.values()):
                 it.end("lost", None)
 
+    def end(self, key: str, worker: str, status: str, kind: bytes, value) -> None:
+        """A task has ended. The type of its result comes as a pickle, too."""
+        try:
+            pickle.loads(kind)
+        except Exception:
+            pass
+        self.futures[key].end(status, value, worker)
+
     def say(self, *words) -> None:
         with self.lock:
-            self.link.send(words)
+            say(self.link, *words)
 
-    def submit(self, function, *args, pure: bool = True, workers: list[str] | None = None, allow_other_workers: bool = False) -> Future:
-        future = Future(self, f"{function.__name__}-{next(self.numbers)}")
-        self.futures[future.key] = future
-        self.say("submit", future.key, marshal.dumps(function.__code__), args, workers)
+    def submit(self, function, *args, key: str, pure: bool = True, workers: list[str] | None = None, allow_other_workers: bool = False) -> Future:
+        future = self.futures[key] = Future(self, key)
+        self.say("submit", key, marshal.dumps(function.__code__), args, workers)
         return future
 
-    def nthreads(self) -> dict[str, int]:
-        self.say("nthreads")
+    def ask(self, word: str) -> dict:
+        self.say(word)
         try:
             return self.told.get(timeout=10)
         except queue.Empty:
             raise TimeoutError from None
+
+    def nthreads(self) -> dict[str, int]:
+        return self.ask("nthreads")
+
+    def processing(self) -> dict[str, list[str]]:
+        return self.ask("processing")
+
+    def who_has(self, futures: list[Future]) -> dict[str, list[str]]:
+        return {it.key: [it.worker] for it in futures}
 
     def cancel(self, futures: list[Future]) -> None:
         for it in futures:

@@ -1,8 +1,0 @@
-use Rattle.std.proofs.Common.{◌≡◌, ◌+ℤ◌, ◌^◌, pos}
-use Rattle.domains.specs.Arithmetic.{floor_div}
-use Rattle.row_loops.specs.Rows.{EachPlace, at}
-use Rattle.narrow_averages.proofs.narrow_averages.write_narrow_averages_of_four.Given as goal
-
-abbrev pub invariant-loop-k : goal.invariant-loop-k
-invariant-loop-k l =
-    EachPlace l.k (λ k. at l.out k ≡ floor_div (at l.a k +ℤ at l.b k +ℤ at l.c k +ℤ at l.d k) (pos (2 ^ l.bits)))

@@ -1,2 +1,0 @@
-pub mod NarrowAverages
-pub mod AveragesOnce

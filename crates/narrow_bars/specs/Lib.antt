@@ -1,2 +1,0 @@
-pub mod NarrowBars
-pub mod BarsOnce

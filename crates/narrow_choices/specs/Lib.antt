@@ -1,2 +1,0 @@
-pub mod NarrowChoices
-pub mod ChoicesOnce

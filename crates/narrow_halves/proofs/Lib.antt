@@ -1,2 +1,0 @@
-pub mod NarrowSums
-pub mod NarrowWritable

@@ -1,2 +1,0 @@
-pub mod NarrowLimits
-pub mod LimitsOnce

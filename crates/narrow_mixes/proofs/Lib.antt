@@ -1,2 +1,0 @@
-pub mod NarrowMixes
-pub mod NarrowMeans

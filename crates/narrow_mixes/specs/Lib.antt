@@ -1,3 +1,0 @@
-pub mod NarrowMixes
-pub mod NarrowRoundedSums
-pub mod MixesOnce

@@ -1,2 +1,0 @@
-pub mod WideSums
-pub mod WideRows

@@ -1,0 +1,128 @@
+"""Tests of pictures that go straight from a JPEG to a file that vips writes: they are what the usual way makes, and what does not go is left to it."""
+import os
+import subprocess
+from unittest import mock
+
+from .of_metadata import COLOURS, COPY_COLOURS, XMP
+from .shared import PROGRAM, TOP, InRoom, content, wants_vips
+
+from _tf import converters, metadata, running, straight, words
+from _tf.metadata import Metadata
+from _tf.netpbm import Picture
+
+OWN = f"{TOP}/tests/tf/pictures"
+LARGE = Picture(700, 900, 3, 255, bytes(at * at // 7 % 256 for at in range(3 * 700 * 900)))
+DOUBLED = COPY_COLOURS.replace(": r(x, y)", ": 2 * r(x, y)")
+ASKING = "param R; param C; param M; # greatest sample\nimage I(2*R, C);\n" \
+    "func f(x in [0 .. 2*R-1], y in [0 .. C-1]) { else : M - I(x, y); }\noutput f max 65535; # greatest sample\n"
+
+
+@wants_vips
+class Straight(InRoom):
+    def setUp(self):
+        super().setUp()
+        named = mock.patch.dict(os.environ, TILEFARM=PROGRAM)
+        named.start()
+        self.addCleanup(named.stop)
+        running.program.cache_clear()
+        self.write("c.pipe", COPY_COLOURS.encode())
+        self.write("in.ppm", COLOURS.raw())
+        subprocess.run(["vips", "copy", "in.ppm", "in.jpg[Q=95]"], cwd=self.room, check=True)
+
+    def is_straight(self, *line: str) -> bool:
+        """Whether a call goes straight; its files are in the test's folder, and nothing is left there where it does not."""
+        before, here = sorted(os.listdir(self.room)), os.getcwd()
+        os.chdir(self.room)
+        try:
+            went = straight.is_done(words.asked([*line]), [*line])
+        finally:
+            os.chdir(here)
+        if not went:
+            self.assertEqual(sorted(os.listdir(self.room)), before)
+        return went
+
+    def both(self, line: str, ending: str) -> None:
+        """It goes straight, and writes what the usual way does."""
+        self.assertTrue(self.is_straight(*line.split(), "-o", f"straight{ending}"), line)
+        self.assertEqual(self.tf(f"{line} -o usual{ending} --time")[0], 0)
+        self.assertEqual(self.content(f"straight{ending}"), self.content(f"usual{ending}"), (line, ending))
+
+    def test_it_is_what_the_usual_way_makes(self):
+        self.write("large.ppm", LARGE.raw())
+        subprocess.run(["vips", "copy", "large.ppm", "large.jpg[Q=90,subsample_mode=off]"], cwd=self.room, check=True)
+        for picture in ("in.jpg", "large.jpg"):
+            for ending in (".jpg", ".tif", ".webp"):
+                self.both(f"eval c.pipe {picture}", ending)
+        self.both("eval c.pipe in.jpg --quality 40", ".jpeg")
+        self.both(f"eval p.pipe {OWN}/grey.jpg", ".jpg")
+
+    def test_values_are_supplied_and_handed_on(self):
+        self.write("asking.pipe", ASKING.encode())
+        self.write("grey.jpg", content(f"{OWN}/grey.jpg"))
+        head = converters.head_of_jpeg(f"{self.room}/grey.jpg")
+        self.assertEqual(head.rows % 2, 0)
+        self.both("eval asking.pipe grey.jpg --percent 300", ".jpg")
+        self.both(f"eval asking.pipe grey.jpg C={head.cols}", ".jpg")
+
+    def test_what_its_file_says_is_kept(self):
+        data = metadata.put_into(self.content("in.jpg"), Metadata(exif=metadata.read(content(f"{OWN}/colours.jpg")).exif, xmp=XMP.partition(b"\0")[2]))
+        self.write("said.jpg", data)
+        for more, ending in (("", ".jpg"), ("", ".webp"), ("--strip", ".jpg")):
+            self.both(f"eval c.pipe said.jpg {more}", ending)
+
+    def test_what_does_not_go_is_left_to_the_usual_way(self):
+        self.write("bad.pipe", b"param R")
+        self.write("counts.pipe", COPY_COLOURS.encode() + b"accum h [0 .. 9] over (x in [0 .. R-1], y in [0 .. C-1]) sum 1 at r(x, y);\n")
+        self.write("outside.pipe", COPY_COLOURS.replace("r(x, y)", "r(x+1, y)").encode())
+        self.write("long.pipe", COPY_COLOURS.encode() + b"#" * (1 << 21))
+        others = [("c.pipe", f"{OWN}/{name}.jpg") for name in ("turned", "inks", "cut", "grey")]
+        for files in (*others, *((pipe, "in.jpg") for pipe in ("bad.pipe", "counts.pipe", "outside.pipe", "long.pipe", "p.pipe")), ("c.pipe", "in.ppm")):
+            self.assertFalse(self.is_straight("eval", *files, "-o", "out.jpg"), files)
+        for more in (["--grey"], ["--page", "1"], ["--time"], ["--stage", "r=r.png"]):
+            self.assertFalse(self.is_straight("eval", "c.pipe", "in.jpg", "-o", "out.jpg", *more), more)
+        for target in ("out.png", "out.gif", "out.ppm"):
+            self.assertFalse(self.is_straight("eval", "c.pipe", "in.jpg", "-o", target), target)
+
+    def test_what_is_cut_is_told_and_refused(self):
+        self.write("doubled.pipe", DOUBLED.encode())
+        for more, status in (("", 0), ("--strict", 3)):
+            told = [self.tf(f"eval doubled.pipe in.jpg -o {name}.jpg {more} {other}") for name, other in (("straight", ""), ("usual", "--memory"))]
+            self.assertEqual([it[0] for it in told], [status, status])
+            self.assertIn("of its samples are cut at 255", told[0][2])
+            self.assertIn(told[0][2].strip(), told[1][2])
+            self.assertEqual(os.path.exists(f"{self.room}/straight.jpg"), not status)
+            if not status:
+                self.assertEqual(self.content("straight.jpg"), self.content("usual.jpg"))
+                os.remove(f"{self.room}/straight.jpg")
+
+    def with_vips(self, script: str) -> dict[str, str]:
+        """An environment where another program is called vips."""
+        os.makedirs(f"{self.room}/bin", exist_ok=True)
+        self.write("bin/vips", f"#!/bin/sh\n{script}\n".encode())
+        os.chmod(f"{self.room}/bin/vips", 0o755)
+        return {"PATH": f"{self.room}/bin:{os.environ['PATH']}"}
+
+    def test_what_vips_says_is_told_by_the_usual_way(self):
+        real = subprocess.run(["sh", "-c", "command -v vips"], capture_output=True, text=True, check=True).stdout.strip()
+        env = self.with_vips(f'echo "VIPS-WARNING **: strange" >&2; exec {real} "$@"')
+        status, _, told = self.tf("eval c.pipe in.jpg -o out.jpg", **env)
+        self.assertEqual(status, 0, told)
+        self.assertIn("in.jpg: vips warns: strange", told)
+        status, _, told = self.tf("eval c.pipe in.jpg -o out.jpg", **self.with_vips("exit 3"))
+        self.assertEqual((status, told), (2, "tf: in.jpg: vips cannot do this: status 3\n"))
+
+    def test_a_program_that_does_not_start_is_told_by_the_usual_way(self):
+        self.write("bin", b"no program")
+        os.chmod(f"{self.room}/bin", 0o755)
+        told = [self.tf(f"eval c.pipe in.jpg -o out.jpg {more}", TILEFARM=f"{self.room}/bin") for more in ("", "--time")]
+        self.assertEqual(told[0], told[1])
+        self.assertEqual(told[0][0], 4)
+
+    def test_what_takes_too_long_is_ended(self):
+        env, seconds = self.with_vips("sleep 60"), converters.SECONDS
+        path = os.environ["PATH"]
+        os.environ["PATH"], converters.SECONDS = env["PATH"], 0.5
+        try:
+            self.assertFalse(self.is_straight("eval", "c.pipe", "in.jpg", "-o", "out.jpg"))
+        finally:
+            os.environ["PATH"], converters.SECONDS = path, seconds
