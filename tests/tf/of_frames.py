@@ -4,6 +4,7 @@ import re
 import resource
 import shutil
 import subprocess
+import sys
 import threading
 import time
 import unittest
@@ -130,8 +131,25 @@ class Frames(InRoom):
             self.assertEqual(len(ran.stdout.read()), every * len(frame))
             feeding.join()
 
-    def test_frames_take_at_most_twice_the_programs_own_time(self):
-        """Processor time, of which a busy machine takes as much for both. The least of three tries counts."""
+    def test_a_frame_takes_one_run_and_few_calls_whatever_its_size(self):
+        """What is counted no busy machine changes: programs that are started, and calls of Python. Eight more frames are compared."""
+        for side in (16, 640):
+            few, many = (self.counted(side, count) for count in (8, 16))
+            self.assertEqual((few[0], many[0]), (8, 16))
+            self.assertLess(many[1] - few[1], 8 * 1500, f"frames of {side} columns")
+
+    def counted(self, side: int, count: int) -> tuple[int, int]:
+        """How many programs `tf frames` starts for so many frames, and how many calls of Python are made."""
+        self.write("film", Picture(side, side, 1, 255, bytes(at * at % 251 for at in range(side * side))).raw() * count)
+        words = [sys.executable, "-S", "-c", COUNTED, f"{TOP}/python/tilefarm", "frames", SOBEL, "-", "-o", "out/%d.pgm"]
+        with open(f"{self.room}/film", "rb") as film:
+            ran = subprocess.run(words, cwd=self.room, env={**os.environ, "TILEFARM": PROGRAM}, stdin=film, stdout=subprocess.PIPE, check=True)
+        self.assertEqual(len(os.listdir(f"{self.room}/out")), count)
+        shutil.rmtree(f"{self.room}/out")
+        return tuple(map(int, ran.stdout.split()))
+
+    def test_the_time_of_a_frame_is_told(self):
+        """Processor time, the least of three tries. A machine that is busy may take several times as much, so the bound is ten times what was measured."""
         count, frame = 30, Picture(640, 480, 1, 255, bytes(at * at % 251 for at in range(640 * 480))).raw()
         for at in range(count):
             self.write(f"film{at}.pgm", frame)
@@ -152,9 +170,30 @@ class Frames(InRoom):
         pgms, pngs = spent(by_tf("film%d.pgm", "out/%d.pgm")), spent(by_tf("film%d.pgm", "out/%d.png"))
         print(f"(a frame of 640 by 480 takes {1000 * own / count:.1f} ms of the program, {1000 * (pgms - start) / count:.1f} of tf frames and "
               f"{1000 * (pngs - start) / count:.1f} as PNG; its start {1000 * start:.0f})", end=" ")
-        # (two milliseconds a frame are for a machine that is busy)
-        self.assertLessEqual(pgms - start, 2 * own + 0.002 * count)
-        self.assertLessEqual(pngs - pgms, 0.02 * count)
+        self.assertLess(pngs - start, 0.2 * count)
+
+
+# counts programs that are started and calls of Python
+COUNTED = """
+import sys, threading
+sys.path.insert(0, sys.argv.pop(1))
+from _tf.main import main
+started, called = [0], [0]
+
+def audit(event, given):
+    started[0] += event in ("subprocess.Popen", "os.posix_spawn", "os.fork")
+
+def count(frame, event, given):
+    called[0] += event in ("call", "c_call")
+
+sys.addaudithook(audit)
+threading.setprofile(count)
+sys.setprofile(count)
+status = main()
+sys.setprofile(None)
+print(started[0], called[0])
+sys.exit(status)
+"""
 
 
 def spent(work: Callable[[], None], tries: int = 3) -> float:
