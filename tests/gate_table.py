@@ -37,7 +37,7 @@ PROVE = Entry(
 )
 MUTANTS = Entry(
     "mutants", ("tests/run_mutants", "--as-built"), PROOFS,
-    "Each mutant of `tests/mutants/NAME` that its budget allows is refused: the contracts distinguish it from the function as it is. "
+    "Each mutant of `tests/mutants/NAME.edits` that its budget allows is refused: the contracts distinguish it from the function as it is. "
     "`tests/gate --all-mutants` has no budget",
     "make mutants NAME",
 )
@@ -54,8 +54,9 @@ CHECKS = tuple(Entry(*it) for it in (
      "A test that fails or is ended by a signal is reported by name with its output, and hides no other"),
     ("libraries that are listed", ("tests/test_cites",), TEXT,
      "Each library that `crates.txt` lists for a crate is named by a file of it: a check reads all that is listed"),
-    ("texts of cases", ("tests/test_blocks",), TEXT,
-     "What is written into the texts of `tests/cases` is read as the same bytes, words and names. What is none of them is told with its place"),
+    ("texts of cases and mutants", ("tests/test_blocks",), TEXT,
+     "What is written into the texts of `tests/cases` and `tests/mutants` is read as the same names, words and bytes. What cannot be read is reported with "
+     "its place"),
     ("pages", ("tests/test_pages",), TEXT,
      "Each page is reached from the first, each link leads to a file, and this table has the steps that are run"),
     ("tables, man pages, completions", ("tools/make_usage", "--check"), TEXT,

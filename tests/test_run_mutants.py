@@ -15,6 +15,7 @@ sys.dont_write_bytecode = True
 TESTS = os.path.dirname(os.path.realpath(__file__))
 sys.path.insert(0, TESTS)
 
+import blocks
 import counted_tests
 from mutants_runner import crate_run
 from mutants_runner.checking import EACH, MOST, READING, Budget, Clock, Watched, run
@@ -96,6 +97,13 @@ def mutant_text(old: str, new: str, more: str = "") -> str:
     return f"{more}file: src/lib.rt\nold: {old}\nnew: {new}\n"
 
 
+def keep(top: str, crate: str, name: str, text: str) -> Mutant:
+    """A mutant that stands in its crate's text."""
+    os.makedirs(f"{top}/tests/mutants", exist_ok=True)
+    blocks.put(f"{top}/tests/mutants/{crate}.edits", name, text)
+    return Mutant(f"{crate}/{name}", f"{top}/crates/{crate}", text)
+
+
 class Crate(unittest.TestCase):
     """A folder with one crate, `small`."""
 
@@ -110,9 +118,7 @@ class Crate(unittest.TestCase):
         write(f"{self.top}/crates/small/src/lib.rt", SOURCE)
 
     def mutant(self, name: str, old: str, new: str, more: str = "") -> Mutant:
-        path = f"{self.top}/tests/mutants/small/{name}.edit"
-        write(path, mutant_text(old, new, more))
-        return Mutant("small", f"{self.top}/crates/small", path)
+        return keep(self.top, "small", name, mutant_text(old, new, more))
 
     def placed(self, name: str, old: str, new: str, more: str = "") -> Mutant:
         mutant = self.mutant(name, old, new, more)
@@ -135,7 +141,7 @@ class Judged(Crate):
         self.assertEqual(lines[-1], "3 passed, 4 failed")
         for name, (_, _, word) in MUTANTS.items():
             with self.subTest(name):
-                self.assertTrue(any(it.startswith(f"mutants: small/{name}.edit: {word}") for it in lines), lines)
+                self.assertTrue(any(it.startswith(f"mutants: small/{name}: {word}") for it in lines), lines)
 
     def test_mutants_that_do_not_apply_are_named_without_the_prover(self):
         for name in ("third_adds_four", "text_is_not_there"):
@@ -143,14 +149,14 @@ class Judged(Crate):
         status, lines = self.told("--read")
         self.assertEqual(status, 1)
         self.assertEqual(lines[-1], "1 mutants apply, 1 do not")
-        self.assertIn("mutants: small/text_is_not_there.edit: BAD EDIT: an 'old:' text is in src/lib.rt 0 times, and not once", lines)
+        self.assertIn("mutants: small/text_is_not_there: BAD EDIT: an 'old:' text is in src/lib.rt 0 times, and not once", lines)
 
     def test_names_that_a_crate_lacks_are_told_without_the_prover(self):
         self.mutant("calls_the_third", "next(next(a))", "small::third(next(a))")
         self.mutant("calls_the_fifth", "next(next(a))", "small::fifth(next(a))")
         status, lines = self.told("--read")
         self.assertEqual((status, lines[-1]), (1, "1 mutants apply, 1 do not"))
-        self.assertIn("mutants: small/calls_the_fifth.edit: BAD EDIT: there is no small::fifth", lines)
+        self.assertIn("mutants: small/calls_the_fifth: BAD EDIT: there is no small::fifth", lines)
 
     def test_what_the_clock_leaves_is_skipped_and_fails_nothing(self):
         for name in ("next_adds_three", "third_adds_four"):
@@ -159,7 +165,7 @@ class Judged(Crate):
             status, lines = self.told(*words)
             self.assertEqual(status, 0)
             self.assertEqual(lines[-1], "0 passed, 0 failed, 2 skipped")
-            self.assertIn("mutants: small/third_adds_four.edit: SKIPPED", lines)
+            self.assertIn("mutants: small/third_adds_four: SKIPPED", lines)
 
     def test_a_check_that_runs_when_the_clock_ends_is_ended(self):
         self.mutant("third_adds_four", *MUTANTS["third_adds_four"][:2])
@@ -167,7 +173,19 @@ class Judged(Crate):
         self.assertEqual((status, lines[-1]), (0, "0 passed, 0 failed, 1 skipped"))
 
     def test_unknown_names_are_told(self):
-        self.assertEqual(self.told("nowhere")[0], 1)
+        self.mutant("third_adds_four", *MUTANTS["third_adds_four"][:2])
+        os.mkdir(f"{self.top}/tests/mutants/small")
+        status, lines = self.told("nowhere", "small/third_adds_four", "small/third_adds_five", "nowhere/either", "small/")
+        self.assertEqual((status, lines), (1, [
+            "mutants: no crate or mutant has these names: nowhere, nowhere/either, small/third_adds_five, tests/mutants/small", "0 passed, 4 failed",
+        ]))
+
+    def test_mutants_are_chosen_by_their_names(self):
+        for name in ("third_adds_four", "text_is_not_there", "next_adds_three"):
+            self.mutant(name, *MUTANTS[name][:2])
+        self.assertEqual(self.told("--read", "small/third_adds_four", "small/next_adds_three"), (0, ["2 mutants apply, 0 do not"]))
+        self.assertEqual(self.told("--read", "small")[1][-1], "2 mutants apply, 1 do not")
+        self.assertEqual(self.told("--read", "small/text_is_not_there")[1][-1], "0 mutants apply, 1 do not")
 
 
 BOXES = """\
@@ -259,11 +277,12 @@ class Copied(unittest.TestCase):
         write(f"{self.top}/crates.txt", "boxes:\n")
         for path, text in {"src/lib.rt": BOXES, "src/inner.rt": COUNTER, "proofs/twice/Answers.antt": CITES}.items():
             write(f"{self.folder}/{path}", text)
+        self.mutants: dict[str, Mutant] = {}
         for name, (file, old, new, _) in OF_BOXES.items():
-            write(f"{self.top}/tests/mutants/boxes/{name}.edit", f"file: src/{file}.rt\nold: {old}\nnew: {new}\n")
+            self.mutants[name] = keep(self.top, "boxes", name, f"file: src/{file}.rt\nold: {old}\nnew: {new}\n")
 
     def placed(self, *names: str) -> list[Mutant]:
-        mutants = [Mutant("boxes", self.folder, f"{self.top}/tests/mutants/boxes/{it}.edit") for it in names]
+        mutants = [self.mutants[it] for it in names]
         for mutant in mutants:
             mutant.place(functions_of(self.folder))
         return mutants
@@ -276,7 +295,7 @@ class Copied(unittest.TestCase):
         self.assertEqual(lines[-1], "6 passed, 3 failed")
         for name, (_, _, _, word) in OF_BOXES.items():
             with self.subTest(name):
-                told = [it for it in lines if it.startswith(f"mutants: boxes/{name}.edit: {word}")]
+                told = [it for it in lines if it.startswith(f"mutants: boxes/{name}: {word}")]
                 self.assertTrue(told, lines)
                 self.assertNotRegex("".join(told), r"_m\d")
 
@@ -354,12 +373,10 @@ class Kept(Crate):
         line = "note: src/lib.rt:25:1: it is not proved that what the function ensures holds when it returns (`returns-clause-sum`)"
         proof = "./proofs/third/Answers.antt:6:5: error: `returns-clause-sum`: as printed, the two types differ"
         self.kept().keep({self.third: Outcome(REFUSED, line), other: Outcome(REFUSED, proof), another: Outcome(REFUSED, line)})
-        for name in ("third_adds_four", "third_adds_five", "next_adds_three"):
-            os.makedirs(f"{self.top}/tests/mutants/above", exist_ok=True)
-            os.rename(f"{self.top}/tests/mutants/small/{name}.edit", f"{self.top}/tests/mutants/above/{name}.edit")
+        os.rename(f"{self.top}/tests/mutants/small.edits", f"{self.top}/tests/mutants/above.edits")
         status, lines = self.told("--same")
         self.assertEqual((status, lines), (0, [
-            "mutants: above: third: `returns-clause-sum`: third_adds_five.edit, third_adds_four.edit",
+            "mutants: above: third: `returns-clause-sum`: third_adds_five, third_adds_four",
             "mutants: 1 clauses refuse more than one mutant of a function, 1 mutants beside the first, of 3 kept verdicts",
         ]))
 
@@ -391,9 +408,7 @@ class Placed(Crate):
 
     def test_a_pair_may_change_what_one_above_it_made(self):
         text = "file: src/lib.rt\nold: next(next(a))\nnew: next(swap(a))\nold: swap(a)\nnew: third(a)\n"
-        path = f"{self.top}/tests/mutants/small/two.edit"
-        write(path, text)
-        mutant = Mutant("small", f"{self.top}/crates/small", path)
+        mutant = Mutant("small/two", f"{self.top}/crates/small", text)
         mutant.place(functions_of(mutant.folder))
         self.assertEqual([it.path for it in mutant.functions], ["second"])
 
@@ -454,7 +469,7 @@ class Ordered(Crate):
         self.assertEqual(self.run_of(*mutants).first_of_each_function(), [mutants[1]])
 
     def test_the_text_alone_draws_the_order(self):
-        names = ["a/b.edit", "a/c.edit", "b/a.edit"]
+        names = ["a/b", "a/c", "b/a"]
         drawn = [sorted(names, key=lambda it: command().drawn(text, it)) for text in ("one", "one", "another", "a third")]
         self.assertEqual(drawn[0], drawn[1])
         self.assertTrue(any(it != drawn[0] for it in drawn[2:]))
@@ -545,7 +560,7 @@ class Budgeted(Crate):
         self.assertLessEqual(READING * len(self.asked) + 10 * judged, 90)
         self.assertGreater(judged, 5)
         self.assertEqual((status, lines[-1]), (0, f"{judged} passed, 0 failed, {12 - judged} skipped"))
-        self.assertFalse(any("SKIPPED" in it and ".edit" in it for it in lines))
+        self.assertFalse(any("SKIPPED" in it and "third_adds" in it for it in lines))
         with open(left, encoding="utf-8") as file:
             names = file.read().split()
         self.assertEqual((len(names), names), (12 - judged, sorted(names)))

@@ -1,35 +1,26 @@
 """A mutant: the texts that it changes, and the functions whose proofs must fail for it."""
 import hashlib
 import itertools
-import os
 import re
 from typing import Optional
 
 from .functions import Function
 from .toolchain import rt
 
-LEAST = r"[A-Za-z0-9_-][A-Za-z0-9_.-]*\.edit"
-
 
 class Mutant:
-    """A mutant of a crate.
+    """A mutant of the crate in a folder: what its text says, with a label for it.
 
     `fault` says why it cannot be applied, if it cannot. Once placed, `functions` are those that it is judged by, and none where
     only a check of the whole crate can tell; `shares` says whether it may stand in one copy beside mutants of other functions.
     """
 
-    def __init__(self, crate: str, folder: str, path: str):
-        self.label = f"{crate}/{os.path.basename(path)}"
-        self.folder = folder
-        with open(path, encoding="utf-8", errors="replace") as file:
-            text = file.read()
-        self.text = text
+    def __init__(self, label: str, folder: str, text: str):
+        self.label, self.folder, self.text = label, folder, text
         only = re.search(r"(?m)^only: *(\S+) *$", text)
         self.only = only[1] if only else ""
         self.pairs = pairs_of(text)
         self.fault: Optional[str] = rt.edited(text, folder)[1]
-        if not re.fullmatch(LEAST, os.path.basename(path)):
-            self.fault = "its name is of letters, digits, _, - and ., and ends in .edit"
         self.functions: list[Function] = []
         self.shares = False
         # The one function whose body is all that it changes, where it is judged by that.

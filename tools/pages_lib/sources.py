@@ -5,9 +5,14 @@ It relies on the form that `rt fmt` gives a source: an item's head, its clauses 
 import functools
 import os
 import re
+import sys
 from typing import Iterator, NamedTuple
 
 TOP = os.path.dirname(os.path.dirname(os.path.dirname(os.path.realpath(__file__))))
+sys.path.append(f"{TOP}/tests")
+
+from blocks import blocks_of
+
 FUNCTION = re.compile(r"^( *)(pub(?:\([^)]*\))? )?(?:const |unsafe |final )*fn (\w+)", re.M)
 TYPE = re.compile(r"^(?:pub )?(?:unsafe )?(impl|trait)\b(.*(?:\n    for .*)?)$", re.M)
 CLAUSE = re.compile(r"\bensures\s*(\w*)\s*\{")
@@ -144,13 +149,15 @@ def definitions_of(crate: str) -> tuple[Definition, ...]:
 @functools.lru_cache(maxsize=None)
 def mutants_of(crate: str) -> tuple[Mutant, ...]:
     """The mutants of a crate."""
-    return tuple(mutant_in(crate, it) for folder in (f"tests/mutants/{crate}", f"crates/{crate}/must-fail") for it in files_below(folder, ".edit"))
+    edits = [(it.name, it.text()) for it in blocks_of(f"{TOP}/tests/mutants/{crate}.edits")]
+    edits += [(os.path.basename(it).removesuffix(".edit"), text_of(it)) for it in files_below(f"crates/{crate}/must-fail", ".edit")]
+    return tuple(mutant_in(crate, name, text) for name, text in edits)
 
 
-def mutant_in(crate: str, path: str) -> Mutant:
+def mutant_in(crate: str, name: str, text: str) -> Mutant:
     """A mutant, with the functions around the texts that it changes, or the one that it names."""
     functions, file, only = set(), "", ""
-    for word, said in PAIR.findall(text_of(path)):
+    for word, said in PAIR.findall(text):
         if word == "file":
             file = f"crates/{crate}/{said.strip()}"
         elif word == "only":
@@ -159,7 +166,7 @@ def mutant_in(crate: str, path: str) -> Mutant:
             functions |= {it.name for it in functions_of(crate) if it.path == file and holds(it, said)}
     if only:
         functions = {it.name for it in functions_of(crate) if f"::{only}".endswith(f"::{it.name}") or f"::{it.name}".endswith(f"::{only}")}
-    return Mutant(os.path.basename(path).removesuffix(".edit"), frozenset(functions))
+    return Mutant(name, frozenset(functions))
 
 
 def holds(function: Function, said: str) -> bool:
