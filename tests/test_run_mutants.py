@@ -598,10 +598,10 @@ class Budgeted(Crate):
 
 
 class SlowBudget(Budget):
-    """A budget that has ended, and that takes longer to note a check than this runs."""
+    """A budget that has ended, and that takes as long to note a check as this runs."""
 
     def note(self, check, used):
-        time.sleep(0.5)
+        os.waitid(os.P_ALL, 0, os.WEXITED | os.WNOWAIT)
 
     def has_ended(self):
         return True
