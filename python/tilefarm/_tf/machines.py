@@ -32,8 +32,8 @@ CERTIFICATES = "DASK_DISTRIBUTED__COMM__TLS__CA_FILE, DASK_DISTRIBUTED__COMM__TL
 SECONDS, GRACE = 600.0, 30.0
 # how many tasks are on their way for each thread of a worker, at least, and at most; the threads of a worker that count
 AHEAD, FLOOR, MOST_AHEAD, MOST_THREADS = 2, 8, 1024, 256
-# how often a task is tried where its machine failed
-TRIES = 3
+# how often a task is tried where its machine failed, and with all tries on machines that had done nothing well or were left out since
+TRIES, ALL_TRIES = 3, 12
 MACHINE_FAILED = (4, 5)
 # a task is tried a second time when it takes this many times the median of those that have ended, so many seconds, and so many have ended
 SLOW, LEAST_SLOW, LEAST_ENDED = 5, 5.0, 3
@@ -70,15 +70,14 @@ def line_of(written: bytes) -> str:
 
 
 class Attempt(NamedTuple):
-    """A task that is to be sent: for which time, not to these workers if there are others, and to one alone where its fault is to be seen."""
+    """A task that is to be sent: not to these workers if there are others, and to one alone where its fault is to be seen. `failed` has the workers
+    on which it was tried in vain, each as often, though they had done others well ("" where nobody is known), and `tries` counts all."""
 
     task: Task
-    tries: int = 1
+    failed: tuple[str, ...] = ()
+    tries: int = 0
     avoids: frozenset[str] = frozenset()
     is_for_one: bool = False
-
-    def again(self, avoids: frozenset[str] = frozenset(), is_for_one: bool = False) -> "Attempt":
-        return Attempt(self.task, self.tries + 1, self.avoids | avoids, is_for_one)
 
 
 class Flight(NamedTuple):
@@ -277,10 +276,12 @@ class Machines:
         if flight.future.status != "finished":
             self.take_back(flight)
             return None
-        worker, found = self.fetched(flight)
+        before = self.holder(flight)
+        found = self.fetched(flight)
+        worker = before if self.holder(flight) == before else ""
         self.asked(flight.future.release)
         if not worker:
-            self.try_again(flight.attempt.again(), "no worker has its answer alone")
+            self.try_again(self.failed_on(flight.attempt, before), "no worker has its answer alone")
         elif worker in self.left_out:
             self.again.append(flight.attempt)
         else:
@@ -288,14 +289,12 @@ class Machines:
             return self.judged(flight, worker, found)
         return None
 
-    def fetched(self, flight: Flight) -> tuple[str, object]:
-        """What a task answered, and the worker that has it, which is nobody where that changed meanwhile."""
-        before = self.holder(flight)
+    def fetched(self, flight: Flight) -> object:
+        """What a task answered."""
         try:
-            found = flight.future.result(timeout=self.seconds)
+            return flight.future.result(timeout=self.seconds)
         except Exception:  # (whatever a worker sends may make Dask fail)
-            found = None
-        return (before if self.holder(flight) == before else ""), found
+            return None
 
     def judged(self, flight: Flight, worker: str, found: object) -> Done | None:
         """What a worker's answer says, where it is one, of the wanted program, and its machine did not fail."""
@@ -334,24 +333,28 @@ class Machines:
         if flight.future.status == "error" and len(workers) == 1:
             self.blame(flight, *workers, f"{flight.task.name} ended there with an error, and not with an answer: the worker's log tells it")
         else:
-            self.try_again(flight.attempt.again(is_for_one=True), "Dask gave it up: workers died of it, or it ended there with errors")
+            worker = next(iter(workers)) if len(workers) == 1 else ""
+            attempt = self.failed_on(flight.attempt, worker)._replace(is_for_one=True)
+            self.try_again(attempt, "Dask gave it up: workers died of it, or it ended there with errors")
 
     def try_elsewhere(self, flight: Flight, worker: str, why: str, status: int) -> None:
         """A machine has failed: the task is tried elsewhere. It counts as the task's fault only if the worker has done one well before, and
         a worker that has failed often since is left out."""
         self.failures[worker] = self.failures.get(worker, 0) + 1
-        again = flight.attempt.again(frozenset([worker]))
-        if worker in self.well:
-            self.try_again(again, why, status)
-        else:
-            self.again.append(again._replace(tries=flight.attempt.tries))
+        attempt = self.failed_on(flight.attempt, worker)
+        self.try_again(attempt._replace(avoids=attempt.avoids | {worker}), why, status)
         if self.failures[worker] >= TRIES:
             self.leave_out(worker, f"{TRIES} tasks in a row failed there, the last one because {why}")
 
+    def failed_on(self, attempt: Attempt, worker: str) -> Attempt:
+        """A task that was tried in vain. That tells of the task where the worker had done others well, or is not known."""
+        failed = (*attempt.failed, worker) if not worker or worker in self.well else attempt.failed
+        return attempt._replace(failed=failed, tries=attempt.tries + 1, is_for_one=False)
+
     def try_again(self, attempt: Attempt, why: str, status: int = 4) -> None:
-        """Sends a task once more, unless that was done often."""
-        if attempt.tries > TRIES:
-            raise Refused(f"{attempt.task.name}: it was tried {TRIES} times: {why}", status if status > 0 else 128 - status)
+        """Sends a task once more, unless that was done often. Tries on workers that were left out since tell nothing of it."""
+        if sum(it not in self.left_out for it in attempt.failed) >= TRIES or attempt.tries >= ALL_TRIES:
+            raise Refused(f"{attempt.task.name}: it was tried {attempt.tries} times: {why}", status if status > 0 else 128 - status)
         self.again.append(attempt)
 
     def forget_copies(self, task: Task) -> None:
@@ -393,7 +396,7 @@ class Machines:
             raise Refused(f"the scheduler {self.address} has had no worker for {self.patience:.0f} seconds (--wait)", 4)
         for it in [it for it in self.flights.values() if threads and it.workers and it.workers.isdisjoint(threads)]:
             self.call_off(it)
-            attempt = it.attempt.again() if it.attempt.is_for_one else it.attempt
+            attempt = self.failed_on(it.attempt, next(iter(it.workers)))._replace(is_for_one=True) if it.attempt.is_for_one else it.attempt
             self.try_again(attempt, "its worker went away")
         if now - self.looked > EACH:
             self.looked = now

@@ -1,5 +1,5 @@
 """Makes a worker odd, as ODD_WORKER says: it lies, babbles, is slow, lacks memory at first, stops its second program, answers in the form of
-its name (forms.py), answers nothing, or dies in the middle of its second task. A noisy one is tf itself, with an engine that tells things, and so is
+its name (forms.py), answers nothing, or dies in the middle of its second task, or of its first one. A noisy one is tf itself, with an engine that tells things, and so is
 one that draws late: of what it gets it compares all but the first two.
 
 A patient one ends nothing before others were odd, ODD_COUNT of them, or one: else the patient ones might do all tasks before. Each of the
@@ -18,7 +18,7 @@ import warnings
 KIND, FILE, COUNT = os.environ.get("ODD_WORKER", ""), os.environ.get("ODD_FILE", ""), int(os.environ.get("ODD_COUNT", "1"))
 usual, runs = subprocess.run, []
 # when a patient worker waits no more
-UNTIL = time.monotonic() + 100
+UNTIL = time.monotonic() + 200
 
 
 def odd(words, **more):
@@ -37,6 +37,8 @@ def odd(words, **more):
     if KIND == "dies" and len(runs) == 2:
         time.sleep(0.5)
         was_odd("dies")
+        os.kill(os.getpid(), signal.SIGKILL)
+    if KIND == "dies-first":
         os.kill(os.getpid(), signal.SIGKILL)
     return changed(usual(words, **more))
 

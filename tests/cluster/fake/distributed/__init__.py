@@ -114,7 +114,7 @@ class Client:
     def ask(self, word: str) -> dict:
         self.say(word)
         try:
-            return self.told.get(timeout=10)
+            return self.told.get(timeout=60)
         except queue.Empty:
             raise TimeoutError from None
 
