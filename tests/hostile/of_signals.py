@@ -52,8 +52,8 @@ def of_session(leader: int) -> list[int]:
 
 
 def left_of_session(leader: int) -> list[int]:
-    """The processes of a session that go on a second after its first one ended: the system may take a moment to end what was killed."""
-    until = time.monotonic() + 1
+    """The processes of a session that go on after its first one ended. The system may take a while to end what was killed, where it is busy."""
+    until = time.monotonic() + LONGEST
     while (found := of_session(leader)) and time.monotonic() < until:
         time.sleep(0.01)
     return found
@@ -125,11 +125,10 @@ class Signals(InRoom):
         while not any(line_of_status(it, "Name") == "tilefarm" for it in of_session(process.pid)):
             self.assertIsNone(process.poll(), process.stderr.read() if process.poll() is not None else "")
             time.sleep(0.01)
-        began = time.monotonic()
         process.send_signal(signal.SIGINT)
+        # (the program would go on for hours)
         self.assertEqual((process.wait(LONGEST), process.stderr.read()), (130, b""))
-        self.assertLess(time.monotonic() - began, 10)
-        self.assertEqual(of_session(process.pid), [])
+        self.assertEqual(left_of_session(process.pid), [])
 
     def test_what_is_ignored_from_the_start_stays_ignored(self):
         before = signal.signal(signal.SIGHUP, signal.SIG_IGN)

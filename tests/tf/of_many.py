@@ -67,7 +67,7 @@ class ManyPictures(InRoom):
 
     def test_a_terminal_is_told_how_many_are_done(self):
         ours, theirs = pty.openpty()
-        self.write("slow", b"#!/bin/sh\ncat > /dev/null\nsleep 0.9\nprintf 'P5\\n1 1\\n255\\na'\n")
+        self.write("slow", b"#!/bin/sh\ncat > /dev/null\nsleep 2\nprintf 'P5\\n1 1\\n255\\na'\n")
         os.chmod(f"{self.room}/slow", 0o755)
         words = [f"{TOP}/tools/tf", "eval", "p.pipe", "in0.pgm", "in1.pgm", "in2.pgm", "-o", "out/{name}.pgm"]
         with subprocess.Popen(words, cwd=self.room, env={**os.environ, "TILEFARM": f"{self.room}/slow"}, stdout=theirs, stderr=theirs):

@@ -46,13 +46,14 @@ class Progress(InRoom):
 
     def test_a_terminal_is_told_and_cleared(self):
         told = self.shown()
+        self.assertTrue(told.startswith("\r\x1b[Ktf: tilefarm eval, "), told)
         # 19 of 27 bytes, the head of 11 among them
-        self.assertTrue(told.startswith("\r\x1b[Ktf: tilefarm eval, 70 % (1 s)"), told)
+        self.assertRegex(told, r"tf: tilefarm eval, 70 % \(\d+ s\)")
         self.assertTrue(told.endswith("\r\x1b[K"), told)
 
     def test_parts_are_counted(self):
         told = self.shown("--parts", "4")
-        self.assertIn("tf: eval of 1 part, 0 % (1 s)", told)
+        self.assertRegex(told, r"tf: eval of 1 part, 0 % \(\d+ s\)")
         self.assertTrue(told.endswith("\r\x1b[K"), told)
 
     def test_nothing_elsewhere(self):

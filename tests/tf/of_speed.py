@@ -1,14 +1,18 @@
-"""Tests of what makes tf fast: arithmetic on many bytes at once, PNG of large pictures, and a start that loads little."""
+"""Tests of what makes tf fast: arithmetic on many bytes at once, PNG of large pictures, and a start that loads little.
+
+No time is judged here, which a busy machine could make longer: lines of Python that are run, processes and files are counted. bench/round_trips
+measures times.
+"""
 import itertools
 import os
 import random
-import resource
+import shutil
 import struct
 import subprocess
 import sys
-import time
 import unittest
 import zlib
+from typing import Callable
 
 from .shared import PROGRAM, TOP, InRoom, wants_vips
 
@@ -18,6 +22,20 @@ from _tf.netpbm import Picture
 LATER = ("urllib", "xml", "email", "difflib", "concurrent.futures", "pathlib", "socket", "_tf.converters", "_tf.png", "_tf.graph",
           "_tf.hist", "_tf.tune", "_tf.making", "_tf.faults", "_tf.parts", "_tf.schedules", "_tf.answering",
           "_tf.stage_pictures")
+# runs tf, and tells how many lines of Python that takes
+COUNTS = """import sys
+sys.path.insert(0, sys.argv.pop(1))
+from _tf.main import main
+count = 0
+def trace(_frame, event, _more):
+    global count
+    count += event == "line"
+    return trace
+sys.settrace(trace)
+status = main()
+sys.settrace(None)
+sys.stderr.write(str(count))
+sys.exit(status)"""
 NOT_FOR_HELP = ("subprocess", "tempfile", "_tf.words", "_tf.call")
 
 
@@ -86,14 +104,21 @@ def undone(data: bytes, stride: int, step: int, prior: bytes) -> bytes:
     return bytes(found)
 
 
-def least(do) -> float:
-    """The least time of the processor that this takes."""
-    found = []
-    for _ in range(3):
-        began = time.process_time()
+def lines_of(do: Callable[[], object]) -> int:
+    """How many lines of Python this runs."""
+    count, before = 0, sys.gettrace()
+
+    def trace(_frame, event: str, _more):
+        nonlocal count
+        count += event == "line"
+        return trace
+
+    sys.settrace(trace)
+    try:
         do()
-        found.append(time.process_time() - began)
-    return min(found)
+    finally:
+        sys.settrace(before)
+    return count
 
 
 class Filters(unittest.TestCase):
@@ -114,13 +139,13 @@ class Filters(unittest.TestCase):
         whole = png.SIGNATURE + png.chunk(b"IHDR", head) + png.chunk(b"IDAT", zlib.compress(data)) + png.chunk(b"IEND", b"")
         self.assertEqual(png.read(whole, "in.png")[0].raster, undone(data, 6, 3, bytes(6)))
 
-    def test_rows_of_each_filter_are_undone_soon(self):
+    def test_rows_of_each_filter_are_undone_many_bytes_at_a_time(self):
+        """Far less than a line of Python a byte: 1 in 9 of Paeth's filter and of averages, of which the steps go along the rows."""
         chance, stride = random.Random(9), 1800
-        for kind in (unfiltering.LEFT, unfiltering.ABOVE, unfiltering.MEAN, unfiltering.PAETH):
+        for kind, bytes_a_line in ((unfiltering.LEFT, 15), (unfiltering.ABOVE, 100), (unfiltering.MEAN, 5), (unfiltering.PAETH, 4)):
             with self.subTest(kind):
                 data = b"".join(bytes([kind]) + chance.randbytes(stride) for _ in range(200))
-                slow = least(lambda: undone(data, stride, 3, bytes(stride)))
-                self.assertLess(3 * least(lambda: unfiltering.undone(data, stride, 3, bytes(stride))), slow)
+                self.assertLess(lines_of(lambda: unfiltering.undone(data, stride, 3, bytes(stride))) * bytes_a_line, len(data))
 
 
 class LargePictures(unittest.TestCase):
@@ -133,40 +158,65 @@ class LargePictures(unittest.TestCase):
             self.assertEqual((png.read(data, "out.png"), said), ((picture, []), []))
             self.assertLess(len(data), 100_000)
 
-    def test_grey_is_made_soon(self):
+    def test_grey_is_made_of_many_points_at_a_time(self):
         raster = random.Random(10).randbytes(600_000)
-        slow = least(lambda: bytes(map(grey, raster[::3], raster[1::3], raster[2::3])))
-        self.assertLess(3 * least(lambda: lanes.grey(raster, 1)), slow)
+        self.assertLess(lines_of(lambda: lanes.grey(raster, 1)), 10_000)
 
 
 class RoundTheProgram(InRoom):
-    """A picture of twelve million points in colours, from PNG to PNG: the program beside what libvips alone takes to read and write it."""
+    """What tf does around the program, from picture to picture: how many processes, files and lines of Python that takes."""
 
     COPY = ("param R; param C;\nimage I, J, K(R, C);\n"
             + "".join(f"func {name}(x in [0 .. R-1], y in [0 .. C-1]) {{ else : {plane}(x, y); }}\n" for name, plane in zip("rgb", "IJK"))
             + "output r, g, b max 255;\n")
 
-    def least(self, *words: str) -> float:
-        """The least time of processors that a command takes, with all that it begins."""
-        found = []
-        for _ in range(3):
-            before = resource.getrusage(resource.RUSAGE_CHILDREN)
-            subprocess.run(words, cwd=self.room, env={**os.environ, "TILEFARM": PROGRAM}, check=True, capture_output=True)
-            after = resource.getrusage(resource.RUSAGE_CHILDREN)
-            found.append(after.ru_utime + after.ru_stime - before.ru_utime - before.ru_stime)
-        return min(found)
+    def setUp(self):
+        super().setUp()
+        self.write("p.pipe", self.COPY.encode())
+
+    def picture(self, cols: int, rows: int) -> Picture:
+        """A picture of slopes with a little noise, which is no small file, and of which no sample is the greatest."""
+        chance = random.Random(11)
+        return Picture(cols, rows, 3, 255, bytes(40 + at // 60 % 128 + chance.randrange(12) for at in range(3 * cols * rows)))
+
+    def started(self, line: str) -> list[str]:
+        """The programs that a call of tf starts, in their order: each is noted, and then run."""
+        os.makedirs(f"{self.room}/bin", exist_ok=True)
+        for name, path in (("vips", shutil.which("vips")), ("vipsheader", shutil.which("vipsheader")), ("program", PROGRAM)):
+            self.write(f"bin/{name}", f'#!/bin/sh\necho {name} "$@" >> {self.room}/started\nexec {path} "$@"\n'.encode())
+            os.chmod(f"{self.room}/bin/{name}", 0o755)
+        self.write("started", b"")
+        told = self.tf(line, TILEFARM=f"{self.room}/bin/program", PATH=f"{self.room}/bin:{os.environ['PATH']}")
+        self.assertEqual(told, (0, b"", ""))
+        return self.content("started").decode().splitlines()
 
     @wants_vips
-    def test_it_takes_at_most_half_as_long_again_as_libvips_alone(self):
-        chance = random.Random(11)
-        rows = [bytes((at // 60 + 3 * row + chance.randrange(12)) & 255 for at in range(12000)) for row in range(40)]
-        self.write("p.pipe", self.COPY.encode())
-        self.write("in.ppm", b"P6 4000 3000 255 " + b"".join(rows) * 75)
-        subprocess.run(["vips", "copy", "in.ppm", "in.png"], cwd=self.room, check=True)
-        alone = self.least("vips", "copy", "in.png", "vips.png")
-        ours = self.least(f"{TOP}/tools/tf", "eval", "p.pipe", "in.png", "-o", "out.png")
-        self.assertEqual(png.read(self.content("out.png"), "out.png")[0].raster, b"".join(rows) * 75)
-        self.assertLess(ours, 1.5 * alone)
+    def test_a_large_png_takes_two_processes_of_vips_to_read_and_none_to_write(self):
+        self.write("in.png", png.write(self.picture(700, 900))[0])
+        started = self.started("eval p.pipe in.png -o out.png")
+        self.assertEqual([it.split()[0] for it in started], ["vipsheader", "vips", "program"], started)
+        self.assertEqual(png.read(self.content("out.png"), "out.png")[0], self.picture(700, 900))
+
+    @wants_vips
+    def test_a_jpeg_to_a_jpeg_takes_no_process_of_vips(self):
+        self.write("in.ppm", self.picture(70, 90).raw())
+        subprocess.run(["vips", "copy", "in.ppm", "in.jpg"], cwd=self.room, check=True)
+        self.assertEqual([it.split()[:2] for it in self.started("eval p.pipe in.jpg -o out.jpg")], [["program", "eval"]])
+
+    def test_no_line_is_run_for_each_point(self):
+        """As many lines for a picture of sixteen times the points, but for some for each block of rows."""
+        counts = []
+        for cols, rows in ((60, 80), (240, 320)):
+            self.write(f"in{cols}.ppm", self.picture(cols, rows).raw())
+            counts.append(self.lines("eval", "p.pipe", f"in{cols}.ppm", "-o", f"out{cols}.ppm"))
+            self.assertEqual(self.content(f"out{cols}.ppm"), self.picture(cols, rows).raw())
+        self.assertLess(counts[1] - counts[0], 500, counts)
+
+    def lines(self, *words: str) -> int:
+        """How many lines of Python a call of tf runs in its main thread."""
+        ran = subprocess.run([sys.executable, "-S", "-c", COUNTS, f"{TOP}/python/tilefarm", *words], cwd=self.room, env={**os.environ, "TILEFARM": PROGRAM},
+                             capture_output=True, text=True, check=True)
+        return int(ran.stderr)
 
 
 class Start(unittest.TestCase):
