@@ -54,7 +54,7 @@ program_fault text last (texts.TooMany n) is = (is, λ e. cc)
 
 pub tables_fault : (text last : List ℕ) (tree : List Declaration) (f : StreamFault) → IsText text tree
     → IsTablesRefusal last (length (tables_of tree)) f → IsSpellingFault text last f
-tables_fault text last tree f program (inl e) = subst (IsSpellingFault text last) (sym e) tt
+tables_fault text last tree f program (inl e) = subst (IsSpellingFault text last) (sym e.0) tt
 tables_fault text last tree f program (inr (line, e, is)) = subst (IsSpellingFault text last) (sym e) (tree, program, is)
 
 pub picture_fault : (text last : List ℕ) (tree : List Declaration) (f : PicFault) → IsText text tree

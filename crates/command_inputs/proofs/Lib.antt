@@ -3,4 +3,5 @@ pub mod Handing
 pub mod Known
 pub mod Listed
 pub mod Refused
+pub mod TableCounts
 pub mod TableLines

@@ -6,7 +6,7 @@ use Rattle.std.proofs.lemmas.List.{length_push, length-drop, take_all}
 use Rattle.std.proofs.lemmas.Option.{same_Some}
 use Rattle.tables.specs.Lines.{IsTableLine}
 use Rattle.tables.specs.declared.table.Table.{Table}
-use Rattle.command_inputs.specs.Tables.{AreTableLines, BeginsWithLine, LacksTable}
+use Rattle.command_inputs.specs.Tables.{AreTableLines, BeginsWithLine, HasNextTable, HasTable, LacksTable}
 use Rattle.command_faults.specs.declared.faults.StreamFault.{StreamFault}
 use Rattle.command_inputs.specs.inside.Steps.{AreTablesBefore, BeginsWithTable, IsLineRefusal, IsTablesRefusal}
 
@@ -42,9 +42,25 @@ lacks_table section end there never line rest t begins is =
     let same : begins.at ≡ end = same_Some begins.at end (sym begins.ends ∙ there) in
     never t (subst (λ xs. IsTableLine xs t) (begins.before ∙ ap (λ n. take n section) same) is)
 
+-- ---- a line that is the next table's
+
+pub has_table : (section : List ℕ) (end : ℕ) (t : Table) → position (λ byte. byte == 10) section ≡ Some end
+    → IsTableLine (take end section) t → HasTable section
+has_table section end t there is =
+    (take end section, drop (end + 1) section, t, record { at = end; ends = there; before = refl; behind = refl }, is)
+
+pub begun_table : (section : List ℕ) (t : Table) (start : ℕ) → BeginsWithTable section t start → HasTable section
+begun_table section t start one = (one.line, drop start section, t, one.begins, one.is)
+
+pub next_table : (section : List ℕ) (count k start : ℕ) (ts : List Table) → AreTablesBefore section k ts start → k < count
+    → HasTable (drop start section) → HasNextTable section count
+next_table section count k start ts h less has =
+    record { before = ts; rest = drop start section; read = h.lines; wanted = omega (arith, less, h.each); has = has }
+
 pub tables_refused : (section : List ℕ) (count k start : ℕ) (ts : List Table) (f : StreamFault) → AreTablesBefore section k ts start
     → k < count → IsLineRefusal (drop start section) (k + 1) f → IsTablesRefusal section count f
-tables_refused section count k start ts f h less (inl e) = inl e
+tables_refused section count k start ts f h less (inl (e, has)) =
+    inl (e, next_table section count k start ts h less has)
 tables_refused section count k start ts f h less (inr (e, lacks)) =
     inr (
       k + 1,

@@ -28,3 +28,15 @@ pub record IsFirstLacking (section : List ℕ) (count n : ℕ) : Type 0 where
   pub wanted : length before < count
   pub number : n ≡ length before + 1
   pub lacks : LacksTable rest
+
+-- the first line is a table's
+abbrev pub HasTable : List ℕ → Type 0
+HasTable section = (line rest : List ℕ) × (t : Table) × BeginsWithLine section line rest × IsTableLine line t
+
+-- behind lines of tables, fewer than `count`, the next line is a table's
+pub record HasNextTable (section : List ℕ) (count : ℕ) : Type 0 where
+  pub before : List Table
+  pub rest : List ℕ
+  pub read : AreTableLines section before rest
+  pub wanted : length before < count
+  pub has : HasTable rest

@@ -6,7 +6,6 @@ ghost use Rattle.pipe_checks.specs.Names.{tables_of};
 ghost use Rattle.command_inputs.specs.inside.Steps.{AreTablesBefore, BeginsWithTable, IsLineRefusal, IsTablesRefusal};
 
 use command_faults::StreamFault;
-use pipe_checks::declared_tables;
 use pipe_tree::Item;
 use std::alloc::{AllocError, Global};
 use tables::{Table, TableFault};
@@ -22,8 +21,21 @@ pub fn parse_input_table_line_per_declaration(
     ensures fault { IfErr result
         (IsTablesRefusal section.now (length (tables_of (declarations items.now)))) }
 {
-    let wanted = declared_tables(alloc, items)?;
-    parse_given_count_of_input_table_lines(alloc, wanted.len(), section)
+    parse_given_count_of_input_table_lines(
+        alloc,
+        count_declared_tables_of_input_program(items),
+        section,
+    )
+}
+
+/// How many tables the items declare.
+fn count_declared_tables_of_input_program(items: &[Item]) -> usize
+    ensures { result ≡ length (tables_of (declarations items.now)) }
+{
+    items
+        .iter()
+        .filter(|item| matches!(item, Item::Table(_)))
+        .count()
 }
 
 fn parse_given_count_of_input_table_lines(

@@ -30,11 +30,12 @@ use Rattle.held_facts.specs.Facts.{FactSet, facts_of}
 use Rattle.held_facts.specs.declared.answer_fault.AnswerFault.{AnswerFault}
 use Rattle.held_facts.specs.declared.answer_fault.AnswerFault.TheVariants as fault
 use Rattle.node_state.specs.HeldAnswers.{IsAnswerFault}
-use Rattle.node_state.specs.States.{State}
+use Rattle.node_state.specs.States.{IsState, State}
 use Rattle.gossip_core.specs.Headline.{AnswersExactly, IsFaultOfTrueState}
+use Rattle.gossip_core.proofs.Unretired.{not_retired}
 
 module _ (catalog : List Entry) (entry : Entry) (state : State) (is : IsCatalog catalog) (here : Contains catalog entry)
-    (right : HoldsTrueFacts catalog state.facts) (good : IsJob entry.pipeline) where
+    (right : HoldsTrueFacts catalog state.facts) (good : IsJob entry.pipeline) (live : IsState state) where
   abbrev s : FactSet
   s = state.facts
 
@@ -122,6 +123,10 @@ module _ (catalog : List Entry) (entry : Entry) (state : State) (is : IsCatalog 
     answer = λ answer. (
       (λ gives. (gives.0, all_held gives.1.ready, true_answer catalog entry s is here right answer good gives.1)),
       λ told. (told.0, held_answer (all_ready told.1) answer told.2),
+    );
+    held = λ result answer. (
+      λ gives. (all_held gives.1.ready, true_answer catalog entry s is here right answer good gives.1),
+      λ told. (not_retired entry state good result live told.0, held_answer (all_ready told.0) answer told.1),
     );
     fault = λ f. (fault_told f, state_fault f);
   }

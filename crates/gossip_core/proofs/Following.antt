@@ -1,5 +1,5 @@
 -- Whatever events lead to a world, its nodes hold what they took.
-use Rattle.std.proofs.Common.{ap, sym, ◌∙◌, subst, arith, inl, inr}
+use Rattle.std.proofs.Common.{ap, sym, ◌∙◌, subst, inl, inr}
 use Rattle.std.proofs.lemmas.Bool.{eq-eqb, eqb-true, eqb-false, true≢false}
 use Rattle.std.proofs.lemmas.List.{length_push}
 use Rattle.std.proofs.lemmas.List.Elements.{All-head}
@@ -16,9 +16,9 @@ use Rattle.identity.specs.Keys.{ids_in}
 use Rattle.node_state.specs.States.{IsState, State, join, nothing, retires}
 use Rattle.gossip_events.specs.declared.event.Event.{Event}
 use Rattle.gossip_events.specs.declared.event.Event.TheVariants.{Make, Retire, Send, Deliver, Merge, Keep, Restart}
-use Rattle.gossip_core.specs.Histories.{Goes, Leads, start}
+use Rattle.gossip_core.specs.Histories.{Leads, start}
 use Rattle.gossip_core.specs.Networks.{Network, NodeStates, Sent}
-use Rattle.gossip_core.specs.Steps.{Accepts, WorldWork, held, kept, state_at, with_held, with_kept, with_message}
+use Rattle.gossip_core.specs.Steps.{Accepts, WorldWork, held, kept, with_held, with_kept, with_message}
 use Rattle.gossip_core.specs.Taking.{HasTaken, IsTaken, IsTakenAtKeep, Came, CameAtKeep, By_delivery, By_merge, By_keep}
 use Rattle.gossip_core.proofs.StateLaws.{state_found, found_within, held_keep, held_set, kept_keep, kept_set, states_start}
 use Rattle.gossip_core.proofs.TakingLaws.{AreSent, Gives, all_sent_more, gives_came, grown, kept_grown, kept_here, kept_later}
@@ -248,13 +248,20 @@ pub same_takings : (h : List Event) (w : Network) (n m : ℕ) → Follows h w
 same_takings h w n m is same =
     left_alike (λ v. Came w.messages v h n) (λ v. Came w.messages v h m) (held w n) (held w m) (is.holds n) (is.holds m) same
 
--- and it holds no fact of a job that it has retired
-pub held_live : (h : List Event) (w : Network) (n : ℕ) → Follows h w → IsState (held w n)
-held_live h w n is f has = by (retires (held w n) (ids_in f.key)) refl
+-- what updates leave has no fact of a job that one of them retires
+left_live : (P : Update → Type 0) (s : State) → IsLeftBy P s → IsState s
+left_live P s is f has = by (retires s (ids_in f.key)) refl
   where
-    by : (b : Bool) → retires (held w n) (ids_in f.key) ≡ b → retires (held w n) (ids_in f.key) ≡ false
-    by true e = absurd ((((is.holds n) (fact f)).0 has).1 (((is.holds n) (retirement (ids_in f.key))).0 e))
+    by : (b : Bool) → retires s (ids_in f.key) ≡ b → retires s (ids_in f.key) ≡ false
+    by true e = absurd (((is (fact f)).0 has).1 ((is (retirement (ids_in f.key))).0 e))
     by false e = e
+
+-- so a node holds no fact of a job that it has retired, and keeps none
+pub held_live : (h : List Event) (w : Network) (n : ℕ) → Follows h w → IsState (held w n)
+held_live h w n is = left_live (λ u. Came w.messages u h n) (held w n) (is.holds n)
+
+pub kept_live : (h : List Event) (w : Network) (n : ℕ) → Follows h w → IsState (kept w n)
+kept_live h w n is = left_live (λ u. CameAtKeep w.messages u h n) (kept w n) (is.keeps n)
 
 -- ---- merges
 

@@ -1,5 +1,5 @@
 -- The headline, put together from its parts.
-use Rattle.std.proofs.Common.{ℕ, ap, sym, ◌∙◌, subst, List, [], Some}
+use Rattle.std.proofs.Common.{ℕ, ap, sym, ◌∙◌, subst, List, Some}
 use Rattle.std.proofs.lemmas.Option.{slice_get-get_or}
 use Rattle.catalog.specs.Entries.{AreJobs, IsCatalog}
 use Rattle.states.proofs.JoinLaws.{join_first, join_least, join_second}
@@ -39,5 +39,5 @@ headline_of u size h accepted w catalog good leads =
       merging = λ a b new ok. (least_merge u w new a b ok, λ n other. others_held u w new a b n ok (λ same. other (sym same)));
       answers = λ n entry has.
           answers_exactly u.jobs entry (held w n) catalog has (truth.holds n)
-          (good has.0 entry (slice_get-get_or u.jobs has.0 entry has.1 ∙ ap Some has.2));
+          (good has.0 entry (slice_get-get_or u.jobs has.0 entry has.1 ∙ ap Some has.2)) (held_live accepted w n follows);
     }

@@ -10,6 +10,7 @@ pub mod FinishFaults
 pub mod FinishAll
 pub mod FinishWanted
 pub mod FinishStart
+pub mod Unretired
 pub mod AllHeld
 pub mod Headlines
 pub mod PartLaws

@@ -1,23 +1,24 @@
--- What a node took is the join of its parts.
+-- What a node took is the join of its parts, and so is what it had taken at its last keep.
 use Rattle.std.proofs.Common.{ap, sym, ◌∙◌, subst, inl, inr}
+use Rattle.std.proofs.lemmas.Bool.{true≢false}
 use Rattle.std.proofs.lemmas.List.{append_assoc}
 use Rattle.std.specs.Prelude.{◌≡◌, ◌⊎◌, ℕ, Bool, true, false, List, [], ◌∷◌, ◌++◌, length, refl}
-use Rattle.identity.specs.declared.job_ids.JobId.{JobId}
+use Rattle.fact_store.proofs.SetLaws as sets
 use Rattle.identity.specs.Keys.{ids_in}
-use Rattle.tile_fact.specs.declared.fact.Fact.{Fact}
 use Rattle.tile_fact.specs.declared.update.Update.{Update}
 use Rattle.tile_fact.specs.declared.update.Update.TheVariants.{Fact as fact, Retire as retirement}
-use Rattle.states.proofs.JoinLaws.{clash}
+use Rattle.states.proofs.IdLaws.{has-no_ids}
+use Rattle.states.proofs.JoinLaws.{below_both, clash}
 use Rattle.states.proofs.LeaveLaws.{from_left}
-use Rattle.states.specs.Updates.{Shows}
-use Rattle.node_state.specs.States.{IsBelow, State, holds, retires}
+use Rattle.states.specs.Updates.{IsLeftBy, Shows}
+use Rattle.node_state.specs.States.{IsBelow, IsState, State, holds, nothing, retires}
 use Rattle.gossip_events.specs.declared.event.Event.{Event}
 use Rattle.gossip_events.specs.declared.event.Event.TheVariants.{Make, Retire, Send, Deliver, Merge, Keep, Restart}
 use Rattle.gossip_core.specs.Histories.{Leads}
 use Rattle.gossip_core.specs.Networks.{Network, Sent}
-use Rattle.gossip_core.specs.Steps.{Accepts, WorldWork, held, state_at}
-use Rattle.gossip_core.specs.Taking.{Came, By_delivery, By_merge, By_keep, IsJoinOf, IsPart, IsTaken}
-use Rattle.gossip_core.proofs.Following.{held_live, leads_follows, taken_grown}
+use Rattle.gossip_core.specs.Steps.{Accepts, WorldWork, held, kept, state_at}
+use Rattle.gossip_core.specs.Taking.{Came, CameAtKeep, By_delivery, By_merge, By_keep, HasNo, IsJoinOf, IsPart, IsPartAtKeep, IsTaken}
+use Rattle.gossip_core.proofs.Following.{held_live, kept_live, leads_follows, taken_grown}
 use Rattle.gossip_core.proofs.TakingLaws.{AreSent, sent_behind}
 
 -- ---- of each beginning of the events there is a state that is what a node took
@@ -93,14 +94,17 @@ shown_covers : (s : State) (u : Update) → Shows s u → Covers s u
 shown_covers s (fact f) shows = inl shows
 shown_covers s (retirement i) shows = shows
 
--- what was taken covers all that came
-taken_covers : (ms : List Sent) (h : List Event) (n : ℕ) (s : State) → IsTaken ms h n s → (u : Update) → Came ms u h n → Covers s u
-taken_covers ms h n s is (retirement i) came = (is (retirement i)).1 came
-taken_covers ms h n s is (fact f) came = by (retires s (ids_in f.key)) refl
+-- what updates leave covers all of them
+left_covers : (P : Update → Type 0) (s : State) → IsLeftBy P s → (u : Update) → P u → Covers s u
+left_covers P s is (retirement i) came = (is (retirement i)).1 came
+left_covers P s is (fact f) came = by (retires s (ids_in f.key)) refl
   where
     by : (b : Bool) → retires s (ids_in f.key) ≡ b → Covers s (fact f)
     by true e = inr e
     by false e = inl ((is (fact f)).1 (came, λ gone. clash _ ((is (retirement (ids_in f.key))).1 gone) e))
+
+taken_covers : (ms : List Sent) (h : List Event) (n : ℕ) (s : State) → IsTaken ms h n s → (u : Update) → Came ms u h n → Covers s u
+taken_covers ms h n s is = left_covers (λ u. Came ms u h n) s is
 
 record IsCovered (ms : List Sent) (h : List Event) (n : ℕ) (u : Update) : Type 0 where
   part : State
@@ -168,3 +172,77 @@ join_of_parts u size h accepted w leads n =
           ((from_left (λ x. Came ms x accepted n) (held w n) is).only v shows) in
           covers_more one.part t (all one.part one.is) v one.covers);
     }
+
+-- ---- the same at the last keep
+
+part_at_keep_came : (ms : List Sent) (h : List Event) (n : ℕ) (p : State) → IsPartAtKeep ms h n p → (u : Update) → Shows p u
+    → CameAtKeep ms u h n
+part_at_keep_came ms h n p part u shows =
+    record {
+      between = part.between;
+      before = part.before;
+      parts = part.parts;
+      last = part.last_keep;
+      came = part_came ms part.before n p part.part_then u shows;
+    }
+
+record IsCoveredAtKeep (ms : List Sent) (h : List Event) (n : ℕ) (u : Update) : Type 0 where
+  part : State
+  is : IsPartAtKeep ms h n part
+  covers : Covers part u
+
+covered_at_keep : (ms : List Sent) (u : Update) (h : List Event) (n : ℕ)
+    → ((later before : List Event) (m : ℕ) → h ≡ later ++ before → TakenAt ms before m) → CameAtKeep ms u h n → IsCoveredAtKeep ms h n u
+covered_at_keep ms u h n taken t =
+    let one = covered ms u t.before n
+    (λ later before m same. taken (t.between ++ Keep n ∷ later) before m
+    (t.parts ∙ ap (λ (es : List Event). t.between ++ Keep n ∷ es) same ∙ sym (append_assoc t.between (Keep n ∷ later) before)))
+    t.came in
+    record {
+      part = one.part;
+      is = record { between = t.between; before = t.before; parts = t.parts; last_keep = t.last; part_then = one.is };
+      covers = one.covers;
+    }
+
+pub join_at_keep : (u : WorldWork) (size : ℕ) (h accepted : List Event) (w : Network) → Leads u size h accepted w → (n : ℕ)
+    → IsJoinOf (IsPartAtKeep w.messages accepted n) (kept w n)
+join_at_keep u size h accepted w leads n =
+    let ms = w.messages in
+    let follows = leads_follows u size h accepted w leads in
+    let is = follows.keeps n in
+    record {
+      state = kept_live accepted w n follows;
+      each = λ p part. below_covers p (kept w n)
+          (λ v shows. left_covers (λ x. CameAtKeep ms x accepted n) (kept w n) is v (part_at_keep_came ms accepted n p part v shows));
+      least = λ t all. below_covers (kept w n) t
+          (λ v shows.
+          let one = covered_at_keep ms v accepted n (taken_before u size h accepted w leads)
+          ((from_left (λ x. CameAtKeep ms x accepted n) (kept w n) is).only v shows) in
+          covers_more one.part t (all one.part one.is) v one.covers);
+    }
+
+-- ---- where a node never kept
+
+none_kept : (n : ℕ) (between before h : List Event) → HasNo (Keep n) h → h ≡ between ++ Keep n ∷ before → ⊥
+none_kept n [] before [] none parts = cc
+none_kept n [] before (e ∷ h) none parts = let is : e ≡ Keep n = cc in none.0 is
+none_kept n (x ∷ between) before [] none parts = cc
+none_kept n (x ∷ between) before (e ∷ h) none parts =
+    let rest : h ≡ between ++ Keep n ∷ before = cc in none_kept n between before h none.1 rest
+
+nothing_below : (s : State) → IsBelow nothing s
+nothing_below s = record {
+  retired = λ i has. absurd (true≢false (sym has ∙ has-no_ids i));
+  facts = λ f has. absurd (true≢false (sym has ∙ sets.holds-nothing f));
+}
+
+nothing_live : IsState nothing
+nothing_live f has = absurd (true≢false (sym has ∙ sets.holds-nothing f))
+
+pub keeps_nothing : (u : WorldWork) (size : ℕ) (h accepted : List Event) (w : Network) → Leads u size h accepted w → (n : ℕ)
+    → HasNo (Keep n) accepted → kept w n ≡ nothing
+keeps_nothing u size h accepted w leads n none =
+    let is = join_at_keep u size h accepted w leads n in
+    below_both (kept w n) nothing is.state nothing_live
+    (is.least nothing (λ p part. absurd (none_kept n part.between part.before accepted none part.parts)))
+    (nothing_below (kept w n))

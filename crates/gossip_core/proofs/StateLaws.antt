@@ -1,10 +1,10 @@
 -- What nodes hold and keep after one of them has changed.
-use Rattle.std.proofs.Common.{ap, sym, ◌∙◌, subst, arith}
+use Rattle.std.proofs.Common.{ap, sym, ◌∙◌, arith}
 use Rattle.std.proofs.Math.Dec.{eqb-suc-zero, eqb-zero-suc, eqb-suc-suc}
 use Rattle.std.proofs.lemmas.Bool.{eqb-true}
-use Rattle.std.specs.Prelude.{◌≡◌, ℕ, zero, suc, ◌+◌, ◌<◌, ◌==◌, Bool, true, false, cond, if◌then◌else◌, List, [], ◌∷◌, ◌++◌}
+use Rattle.std.specs.Prelude.{◌≡◌, ℕ, zero, suc, ◌<◌, ◌==◌, Bool, true, false, cond, if◌then◌else◌, List, [], ◌∷◌, ◌++◌}
 use Rattle.std.specs.Prelude.{Some, length, refl, replicate, slice_get, slice_set}
-use Rattle.node_state.specs.States.{State, nothing}
+use Rattle.node_state.specs.States.{State}
 use Rattle.gossip_core.specs.Networks.{Network, NodeStates, Sent}
 use Rattle.gossip_core.specs.Steps.{held, kept, no_states, state_at, states_at, with_held, with_kept}
 

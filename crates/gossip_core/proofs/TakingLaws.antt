@@ -1,8 +1,7 @@
 -- What came to a node, event by event.
 use Rattle.std.proofs.Common.{ap, sym, ◌∙◌, subst, arith, inl, inr}
-use Rattle.std.proofs.lemmas.Bool.{eqb-true, eqb-false}
-use Rattle.std.specs.Prelude.{◌≡◌, ◌≢◌, ℕ, ◌+◌, ◌<◌, ◌==◌, ◌↔◌, ◌⊎◌}
-use Rattle.std.specs.Prelude.{Bool, true, false, cond, if◌then◌else◌, List, [], ◌∷◌, ◌++◌, length, refl}
+use Rattle.std.specs.Prelude.{◌≡◌, ◌≢◌, ℕ, ◌+◌, ◌<◌, ◌⊎◌}
+use Rattle.std.specs.Prelude.{List, [], ◌∷◌, ◌++◌, length, refl}
 use Rattle.tile_fact.specs.declared.update.Update.{Update}
 use Rattle.states.specs.Updates.{Shows}
 use Rattle.gossip_events.specs.declared.event.Event.{Event}

@@ -1,13 +1,12 @@
 -- The events that let a node hold all tiles of a job. For each tile of which it holds nothing there is a making, and the delivery
 -- of what was made.
-use Rattle.std.specs.Prelude.{◌≡◌, ℕ, suc, Bool, Some, None, List, [], ◌∷◌, filter, length, slice_get}
-use Rattle.std.specs.List.{Contains}
+use Rattle.std.specs.Prelude.{◌≡◌, ℕ, suc, Bool, Some, List, [], ◌∷◌, filter, slice_get}
 use Rattle.catalog.specs.Entries.{Entry, ids_of}
 use Rattle.identity.specs.declared.key.Key.{Key}
 use Rattle.held_facts.specs.Answers.{AreHeld}
 use Rattle.held_facts.specs.HeldAnswers.{lacks}
 use Rattle.held_facts.specs.Facts.{FactSet}
-use Rattle.overlap_tiles.specs.Work.{find_key_over_scratch_limit, wanted_keys, work_keys}
+use Rattle.overlap_tiles.specs.Work.{work_keys}
 use Rattle.gossip_events.specs.declared.event.Event.{Event}
 use Rattle.gossip_events.specs.declared.event.Event.TheVariants.{Make, Deliver}
 use Rattle.gossip_core.specs.Histories.{IsRefused}

@@ -7,6 +7,8 @@ use Rattle.accumulators.specs.Answers.{IsAnswer}
 use Rattle.accumulators.specs.declared.answer.Answer.{Answer}
 use Rattle.catalog.specs.Entries.{Entry, ids_of}
 use Rattle.identity.specs.declared.key.Key.{Key}
+use Rattle.job.specs.Answers.{is_result}
+use Rattle.job.specs.Pipeline.{Pipeline}
 use Rattle.overlap_tiles.specs.Work.{wanted_keys}
 use Rattle.tile_fact.specs.declared.update.Update.{Update}
 use Rattle.tile_fact.specs.FactFile.{fact_file}
@@ -33,6 +35,10 @@ pub record IsLeastOfBoth (s t both : State) : Type 0 where
 abbrev pub wanted : Entry → List Key
 wanted entry = wanted_keys (ids_of entry).program entry.pipeline
 
+-- the job has an output or an accumulator
+abbrev pub HasResult : Pipeline → Type 0
+HasResult job = (g : ℕ) × (is_result job g ≡ true)
+
 -- why a state of true facts answers nothing of the job
 abbrev pub IsFaultOfTrueState : State → Entry → AnswerFault → Type 0
 IsFaultOfTrueState s entry fault.Retired = retires s (ids_of entry) ≡ true
@@ -45,6 +51,10 @@ pub record AnswersExactly (s : State) (entry : Entry) : Type 0 where
   pub answer : (answer : Answer)
       → IsHeldAnswer s (ids_of entry).program entry.pipeline answer
       ↔ ((retires s (ids_of entry) ≡ false) × AreHeld s.facts (wanted entry) × IsAnswer entry.pipeline answer)
+  -- A state that holds all wanted tiles of a job with a result has not retired it. So it answers exactly where they are held
+  pub held : HasResult entry.pipeline → (answer : Answer)
+      → IsHeldAnswer s (ids_of entry).program entry.pipeline answer
+      ↔ (AreHeld s.facts (wanted entry) × IsAnswer entry.pipeline answer)
   -- Its fault reports that the job is retired, or names the least wanted tile that is lacked. If none is lacked, only memory is
   -- refused. No tile is disputed or misshapen
   pub fault : (fault : AnswerFault) → IsAnswerFault s (ids_of entry).program entry.pipeline fault ↔ IsFaultOfTrueState s entry fault
@@ -65,5 +75,5 @@ pub record Headline (u : WorldWork) (w : Network) (accepted : List Event) : Type
   -- after a merge a node holds the least state that has what both held, and every other node what it held
   pub merging : (a b : ℕ) (new : Network) → Accepts u w (Merge a b) new
       → IsLeastOfBoth (held w a) (held w b) (held new a) × ((n : ℕ) → n ≢ a → held new n ≡ held w n)
-  -- a node that holds all output tiles of a job that it has not retired answers exactly its image and totals
+  -- a node that holds all output tiles of a job answers exactly its image and totals
   pub answers : (n : ℕ) (entry : Entry) → Contains u.jobs entry → AnswersExactly (held w n) entry

@@ -1,7 +1,7 @@
 -- What each event does to the nodes and the messages of a world, and why it is refused. An event is refused by the first of its
 -- faults, and then changes nothing.
 use Rattle.std.specs.List.{All, Any}
-use Rattle.std.specs.Prelude.{◌≡◌, ◌≢◌, ℕ, ◌<◌, ◌≤◌, Bool, Option, None, Some, List, [], ◌∷◌, ◌++◌, length, slice_get, slice_set, unwrap_or}
+use Rattle.std.specs.Prelude.{◌≡◌, ◌≢◌, ℕ, ◌<◌, ◌≤◌, Bool, Some, List, [], ◌∷◌, ◌++◌, length, slice_get, slice_set, unwrap_or}
 use Rattle.std.specs.Option.{option_map_or}
 use Rattle.catalog.specs.Entries.{Entry, StandsAt, ids_in}
 use Rattle.identity.specs.declared.key.Key.{Key}

@@ -82,6 +82,14 @@ pub record IsBroughtBack (messages : List Sent) (h : List Event) (n : ℕ) (part
 abbrev pub IsPart : List Sent → List Event → ℕ → State → Type 0
 IsPart messages h n part = IsDelivered messages h n part ⊎ (IsMergedIn messages h n part ⊎ IsBroughtBack messages h n part)
 
+-- a part of what it had taken at its last keep; there is none where it never kept
+pub record IsPartAtKeep (messages : List Sent) (h : List Event) (n : ℕ) (part : State) : Type 0 where
+  pub between : List Event
+  pub before : List Event
+  pub parts : h ≡ between ++ Keep n ∷ before
+  pub last_keep : HasNo (Keep n) between
+  pub part_then : IsPart messages before n part
+
 -- the least state that none of the parts exceeds
 pub record IsJoinOf (Part : State → Type 0) (s : State) : Type 0 where
   pub state : IsState s

@@ -4,18 +4,20 @@ ghost use Rattle.std.specs.Prelude.{◌≡◌, ℕ, ◌<◌, ◌↔◌, Bool, No
 ghost use Rattle.catalog.specs.Entries.{AreJobs, Entry, IsCatalog, ids_of};
 ghost use Rattle.fact_audit.specs.TrueFacts.{IsTrueFact};
 ghost use Rattle.gossip_core.specs.Finishing.{GivesAll, IsPlanned, NoneRefused, lacked_work, makings};
-ghost use Rattle.gossip_core.specs.Headline.{Headline};
+ghost use Rattle.gossip_core.specs.Headline.{HasResult, Headline, wanted};
 ghost use Rattle.gossip_core.specs.Histories.{Leads, start};
 ghost use Rattle.gossip_core.specs.Networks.{Network};
 ghost use Rattle.gossip_core.specs.Steps.{Accepts, WorldWork, held, kept};
-ghost use Rattle.gossip_core.specs.Taking.{HasTaken, IsJoinOf, IsPart, IsTaken, IsTakenAtKeep};
+ghost use Rattle.gossip_core.specs.Taking.{HasNo, HasTaken, IsJoinOf, IsPart, IsPartAtKeep, IsTaken, IsTakenAtKeep};
 ghost use Rattle.gossip_core.specs.Truths.{AllTrue};
 ghost use Rattle.gossip_events.specs.declared.event.Event.{Event};
-ghost use Rattle.gossip_events.specs.declared.event.Event.TheVariants.{Merge};
+ghost use Rattle.gossip_events.specs.declared.event.Event.TheVariants.{Keep, Merge};
 ghost use Rattle.tile_boxes.specs.Schedules.{StoresOutputs};
+ghost use Rattle.job.specs.WellFormed.{IsJob};
+ghost use Rattle.held_facts.specs.Answers.{AreHeld};
 ghost use Rattle.held_facts.specs.Facts.{FactSet};
 ghost use Rattle.held_facts.specs.Making.{AreNeedsTrue, IsMade};
-ghost use Rattle.node_state.specs.States.{IsBelow, State, retires};
+ghost use Rattle.node_state.specs.States.{IsBelow, State, nothing, retires};
 ghost use Rattle.overlap_tiles.specs.Work.{find_key_over_scratch_limit, wanted_keys, work_keys};
 ghost use Rattle.tile_fact.specs.declared.fact.Fact.{Fact};
 ghost use Rattle.tile_fact.specs.declared.update.Update.{Update};
@@ -39,6 +41,16 @@ pub fn nodes_hold_the_join_of_what_they_took()
         → (n : ℕ) → IsJoinOf (IsPart w.messages accepted n) (held w n) }
 {}
 
+/// What a node keeps is the join of the parts that had come together in it at its last keep. A node that never kept keeps nothing.
+pub fn nodes_keep_the_join_of_what_they_took_at_the_last_keep()
+    ensures joined { (u : WorldWork) (size : ℕ) (h accepted : List Event) (w : Network)
+        → Leads u size h accepted w
+        → (n : ℕ) → IsJoinOf (IsPartAtKeep w.messages accepted n) (kept w n) }
+    ensures none { (u : WorldWork) (size : ℕ) (h accepted : List Event) (w : Network)
+        → Leads u size h accepted w
+        → (n : ℕ) → HasNo (Keep n) accepted → kept w n ≡ nothing }
+{}
+
 /// So nodes that took the same hold the same.
 pub fn nodes_that_took_the_same_hold_the_same()
     ensures { (u : WorldWork) (size : ℕ) (h accepted : List Event) (w : Network) (n m : ℕ)
@@ -58,6 +70,15 @@ pub fn accepted_merges_give_least_upper_bounds()
         → (s : State) → IsBelow (held w a) s → IsBelow (held w b) s → IsBelow (held new a) s }
     ensures other { (u : WorldWork) (w new : Network) (a b n : ℕ) → Accepts u w (Merge a b) new
         → ¬ (a ≡ n) → held new n ≡ held w n }
+{}
+
+/// A node that holds all tiles from which a job's answer is composed has not retired the job, if this has an output or an
+/// accumulator.
+pub fn nodes_that_took_all_of_a_job_have_not_retired_it()
+    ensures { (u : WorldWork) (size : ℕ) (h accepted : List Event) (w : Network) (n : ℕ)
+        (entry : Entry) → Leads u size h accepted w → IsJob entry.pipeline
+        → HasResult entry.pipeline → AreHeld (held w n).facts (wanted entry)
+        → retires (held w n) (ids_of entry) ≡ false }
 {}
 
 /// What is made of a tile is true, if all held facts of the tiles that it needs are true.

@@ -12,7 +12,7 @@ use Rattle.command_faults.specs.declared.faults.StreamFault.TheVariants as fault
 use Rattle.command_inputs.specs.Faults.{IsCheckLine, blamed}
 use Rattle.command_inputs.specs.Giving.{Given, IsFirstRefused}
 use Rattle.command_inputs.specs.Sections.{IsParted}
-use Rattle.command_inputs.specs.Tables.{AreTableLines, BeginsWithLine, IsFirstLacking, LacksTable}
+use Rattle.command_inputs.specs.Tables.{AreTableLines, BeginsWithLine, HasNextTable, HasTable, IsFirstLacking, LacksTable}
 use Rattle.pipe_checks.specs.Names.{tables_of}
 use Rattle.tables.specs.Lines.{IsTableLine}
 use Rattle.tables.specs.declared.table.Table.{Table}
@@ -50,16 +50,18 @@ pub record IsHeadBefore (input : List ℕ) (tree : List Declaration) (tables : L
   pub lines : AreTableLines last tables (drop start input)
   pub within : start ≤ length input
 
--- ---- faults of the steps: memory may be refused in each
+-- ---- faults of the steps
 
--- the first line is missing, or is no table's
+-- the first line is missing, or is no table's; memory is refused only for one that is a table's
 abbrev pub IsLineRefusal : List ℕ → ℕ → StreamFault → Type 0
-IsLineRefusal section line fault = (fault ≡ faults.Memory) ⊎ ((fault ≡ faults.Tables line) × LacksTable section)
+IsLineRefusal section line fault =
+    ((fault ≡ faults.Memory) × HasTable section) ⊎ ((fault ≡ faults.Tables line) × LacksTable section)
 
--- the first of `count` lines that is missing, or is no table's
+-- the first of `count` lines that is missing, or is no table's; memory is refused only for one that is the next table's
 abbrev pub IsTablesRefusal : List ℕ → ℕ → StreamFault → Type 0
 IsTablesRefusal section count fault =
-    (fault ≡ faults.Memory) ⊎ ((line : ℕ) × (fault ≡ faults.Tables line) × IsFirstLacking section count line)
+    ((fault ≡ faults.Memory) × HasNextTable section count)
+    ⊎ ((line : ℕ) × (fault ≡ faults.Tables line) × IsFirstLacking section count line)
 
 -- a rejected program
 abbrev pub IsRefusal : List Declaration → StreamFault → Type 0
@@ -79,9 +81,9 @@ IsParamRefusal ss given (faults.Param line) = IsFirstRefused ss given line
 IsParamRefusal ss given faults.Memory = Unit {0}
 IsParamRefusal ss given _ = ⊥
 
--- how a fault of binding is reported by the names of these parameters, tables and stages
+-- how a fault of binding is reported by the names of these parameters, tables and stages; only refused memory is as that
 abbrev pub TellsBind : List Symbol → List Symbol → List Symbol → BindFault → StreamFault → Type 0
 TellsBind params tables stages fault (faults.Bind line) =
     (line.fault ≡ fault) × (fault ≢ binding.Memory) × (line.blamed ≡ blamed params tables stages fault)
-TellsBind params tables stages fault faults.Memory = Unit {0}
+TellsBind params tables stages fault faults.Memory = fault ≡ binding.Memory
 TellsBind params tables stages fault _ = ⊥

@@ -1,6 +1,6 @@
-use Rattle.std.proofs.Common.{◌==◌, inr, refl, sym, ◌∙◌, take, arith}
+use Rattle.std.proofs.Common.{◌==◌, inl, inr, refl, sym, ◌∙◌, take, arith}
 use Rattle.pipe_checks.proofs.Places.{position_within}
-use Rattle.command_inputs.proofs.TableLines.{lacks_line, lacks_table}
+use Rattle.command_inputs.proofs.TableLines.{has_table, lacks_line, lacks_table}
 use Rattle.command_inputs.proofs.table_lines.parse_first_input_table_line.Goals as goal
 
 pub returns-in_default-clause-fault : goal.returns-in_default-clause-fault
@@ -23,3 +23,9 @@ pub returns-in-Err-BadLine-clause-fault : goal.returns-in-Err-BadLine-clause-fau
 returns-in-Err-BadLine-clause-fault c =
     let there = sym c.find_end_of_first_input_table_line.ensures ∙ c.in-Some.is in
     inr (refl, lacks_table c.args.section.now c.in-Some.end there (λ t. c.in-Err-BadLine.ensures.fault c.in-Err-BadLine.field-0-is t))
+
+pub returns-in-Err-Memory-clause-fault : goal.returns-in-Err-Memory-clause-fault
+returns-in-Err-Memory-clause-fault c =
+    let there = sym c.find_end_of_first_input_table_line.ensures ∙ c.in-Some.is in
+    let told = c.in-Err-Memory.ensures.memory c.in-Err-Memory.field-0-is in
+    inl (refl, has_table c.args.section.now c.in-Some.end told.0 there told.1)
