@@ -16,9 +16,9 @@ use identity::Key;
 use std::alloc::Global;
 use std::sync::{Mutex, Wait};
 
-/// A desk with its record, which threads share. Calls take turns under a lock. Each answer is what the rules give at that point of
-/// the desk's one history, which the caller has then seen up to there. So no key has two holders at one time, whichever callers
-/// were told of them.
+/// A desk with its record, which threads share. Calls take turns under a lock. Each answer is what the rules give at one point of
+/// the desk's one history. The point is not before what the caller had seen, and the caller has then seen the history up to there.
+/// So no key has two holders at one time, whichever callers were told of them.
 #[derive(Drop)]
 pub struct LiveDesk<J: NamedDesk> {
     log: LeaseLog<J>,
@@ -53,7 +53,7 @@ impl<J: NamedDesk> LiveDesk<J> {
         key: Key,
         ttl: u64,
     ) -> Claim
-        ensures answer { result ≢ ClaimOf.Memory → IsClaimIn seen.new now node key ttl result }
+        ensures answer { result ≢ ClaimOf.Memory → IsClaimIn seen.old seen.new now node key ttl result }
         ensures longer { IsPrefix seen.old seen.new }
     {
         self.desk
@@ -70,7 +70,7 @@ impl<J: NamedDesk> LiveDesk<J> {
         node: u8,
         key: &Key,
     ) -> Release
-        ensures answer { IsReleaseIn seen.new now node key.now result }
+        ensures answer { IsReleaseIn seen.old seen.new now node key.now result }
         ensures longer { IsPrefix seen.old seen.new }
     {
         self.desk
@@ -86,10 +86,10 @@ impl<J: NamedDesk> LiveDesk<J> {
         now: u64,
         key: &Key,
     ) -> Option<u8>
-        ensures answer { IsHolderIn seen.new now key.now result }
+        ensures answer { IsHolderIn seen.old seen.new now key.now result }
         ensures longer { IsPrefix seen.old seen.new }
     {
-        self.desk.lock(rt).holder(seen, now, key)
+        self.desk.lock(rt).holder(rt, seen, now, key)
     }
 }
 
@@ -112,9 +112,10 @@ impl<J: NamedDesk> SharedDesk<J> {
         key: Key,
         ttl: u64,
     ) -> Claim
-        ensures answer { result ≢ ClaimOf.Memory → IsClaimIn seen.new now node key ttl result }
+        ensures answer { result ≢ ClaimOf.Memory → IsClaimIn seen.old seen.new now node key ttl result }
         ensures longer { IsPrefix seen.old seen.new }
     {
+        self.wait_unless_desk_has_entries(rt, seen);
         let claim = self.book.claim(now, node, key, ttl);
         add_lease_entry_of_call(rt, log, &mut self.all, self.book.history());
         *seen = seen.longer(&self.all);
@@ -130,22 +131,41 @@ impl<J: NamedDesk> SharedDesk<J> {
         node: u8,
         key: &Key,
     ) -> Release
-        ensures answer { IsReleaseIn seen.new now node key.now result }
+        ensures answer { IsReleaseIn seen.old seen.new now node key.now result }
         ensures longer { IsPrefix seen.old seen.new }
     {
+        self.wait_unless_desk_has_entries(rt, seen);
         let release = self.book.release(now, node, key);
         add_lease_entry_of_call(rt, log, &mut self.all, self.book.history());
         *seen = seen.longer(&self.all);
         release
     }
 
-    fn holder(&mut self, seen: &mut SeenLeases<J>, now: u64, key: &Key) -> Option<u8>
-        ensures answer { IsHolderIn seen.new now key.now result }
+    fn holder<R: Wait>(
+        &mut self,
+        rt: &R,
+        seen: &mut SeenLeases<J>,
+        now: u64,
+        key: &Key,
+    ) -> Option<u8>
+        ensures answer { IsHolderIn seen.old seen.new now key.now result }
         ensures longer { IsPrefix seen.old seen.new }
     {
+        self.wait_unless_desk_has_entries(rt, seen);
         let holder = self.book.holder(now, key);
         *seen = seen.longer(&self.all);
         holder
+    }
+
+    // Goes on where the desk has all that a caller has seen. A caller that has seen more has seen another desk, and waits forever.
+    fn wait_unless_desk_has_entries<R: Wait>(&self, rt: &R, seen: &SeenLeases<J>)
+        ensures { IsPrefix seen.now self.now.all }
+    {
+        if seen.is_beginning_of(&self.all) {
+            return;
+        }
+        for _ in rt.forever() {}
+        unreachable!()
     }
 }
 

@@ -124,6 +124,15 @@ impl<J: NamedDesk> SeenLeases<J> {
         }
     }
 
+    // Whether the other one has all of these entries: what two callers have seen of one desk begins as what the one has that saw more.
+    pub(crate) fn is_beginning_of(&self, other: &SeenLeases<J>) -> bool
+        ensures { OnTrue result (IsPrefix self.now other.now) }
+    {
+        let mut both = self.seen.again();
+        both.learn(&other.seen);
+        self.count <= other.count
+    }
+
     // Adds an entry to all that was seen, and returns whether it did. It did not where the history is longer.
     pub(crate) fn add_entry(&mut self, log: &LeaseLog<J>, entry: LeaseEntry) -> bool
         requires room { length self.old < 2 ^ 63 }
