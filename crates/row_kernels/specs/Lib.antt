@@ -3,6 +3,7 @@ pub mod Added
 pub mod Finishes
 pub mod Terms
 pub mod Differences
+pub mod Products
 pub mod Extremes
 pub mod Places
 pub mod Columns

@@ -151,6 +151,10 @@ impl Epilogue {
             ≡ epilogue_value self (wrapped (v +ℤ number))) }
     {
         match self {
+            Epilogue::Nothing if number != 0 => Some(Epilogue::Shift(ShiftEpilogue {
+                add: number,
+                count: ShiftCount { bits: 0 },
+            })),
             Epilogue::Shift(shift) => Some(Epilogue::Shift(shift.prepend_addition(number)?)),
             Epilogue::ShiftAndClamping(shift, cut) => {
                 Some(Epilogue::ShiftAndClamping(shift.prepend_addition(number)?, cut))

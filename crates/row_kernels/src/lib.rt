@@ -1,7 +1,7 @@
 //! Rows of numbers and operations on them, place by place: kernels of formulas and guards, independent of stages.
 //!
 //! Words: row span, buffer view, operand, epilogue, with epilogue, mask, gather, divided column, clamped difference, extreme,
-//! remainder, reciprocal, to row, to number, at place, related, dividend.
+//! remainder, reciprocal, to row, to number, at place, related, dividend, factor product.
 #![tactic(auto)]
 
 mod buffer_view;
@@ -18,6 +18,7 @@ mod line_pair;
 mod lookup;
 mod operand;
 mod operand_rows;
+mod products;
 mod reciprocal;
 mod row_operators;
 mod row_span;
@@ -43,6 +44,10 @@ pub use guards::{RowMask, copy_row_where_mask_holds, find_row_mask};
 pub use line_pair::LinePair;
 pub use lookup::write_table_lookups_to_row;
 pub use operand::Operand;
+pub use products::{
+    RowFactor, RowProduct, add_product_to_operand, subtract_product_from_operand,
+    write_product_to_row,
+};
 pub use row_operators::{
     apply_unary_to_number, combine_with_scaled_operand, keep_row_where_operand_relation_holds,
     write_binary_results_to_row, write_literal_op_results_to_row,

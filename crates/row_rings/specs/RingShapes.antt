@@ -7,9 +7,8 @@ use Rattle.narrow_filters.specs.Filters.{filter_formula, IsRightFilter}
 use Rattle.narrow_pieces.specs.Pieces.{AreFunctionPieces}
 use Rattle.narrow_pieces.specs.declared.piece.NarrowPieces.{NarrowPieces}
 use Rattle.wide_divisions.specs.DivisionSteps.{step_formula, IsRightStep}
-use Rattle.wide_products.specs.WideProducts.{products_formula, IsRightProducts}
 use Rattle.row_rings.specs.declared.ring_shapes.RingShape.{RingShape}
-use Rattle.row_rings.specs.declared.ring_shapes.RingShape.TheVariants.{Linear, Pieces, Filter, Division, Products, Decimation, Halves, Other}
+use Rattle.row_rings.specs.declared.ring_shapes.RingShape.TheVariants.{Linear, Pieces, Filter, Division, Decimation, Halves, Other}
 use Rattle.row_rings.specs.NarrowRings.{is_linear_body}
 
 -- a function that is this formula everywhere
@@ -30,7 +29,6 @@ IsShapeOf (Linear row) body = IsFormulaBody (linear_formula row) body × IsRight
 IsShapeOf (Pieces pieces) body = ArePiecesOfBody pieces body × (is_linear_body body ≡ false)
 IsShapeOf (Filter filter) body = IsFormulaBody (filter_formula filter) body × IsRightFilter filter × (is_linear_body body ≡ false)
 IsShapeOf (Division step) body = IsFormulaBody (step_formula step) body × IsRightStep step × (is_linear_body body ≡ false)
-IsShapeOf (Products products) body = IsFormulaBody (products_formula products) body × IsRightProducts products × (is_linear_body body ≡ false)
 IsShapeOf Decimation body = is_linear_body body ≡ false
 IsShapeOf Halves body = is_linear_body body ≡ false
 IsShapeOf Other body = is_linear_body body ≡ false

@@ -8,9 +8,8 @@ use Rattle.narrow_filters.specs.FiltersOnce.{IsRightFilter-prop}
 use Rattle.narrow_pieces.specs.PiecesOnce.{AreFunctionPieces-prop}
 use Rattle.narrow_pieces.specs.declared.piece.NarrowPieces.{NarrowPieces}
 use Rattle.wide_divisions.specs.StepsOnce.{IsRightStep-prop}
-use Rattle.wide_products.specs.ProductsOnce.{IsRightProducts-prop}
 use Rattle.row_rings.specs.declared.ring_shapes.RingShape.{RingShape}
-use Rattle.row_rings.specs.declared.ring_shapes.RingShape.TheVariants.{Linear, Pieces, Filter, Division, Products, Decimation, Halves, Other}
+use Rattle.row_rings.specs.declared.ring_shapes.RingShape.TheVariants.{Linear, Pieces, Filter, Division, Decimation, Halves, Other}
 use Rattle.row_rings.specs.RingShapes.{IsFormulaBody, ArePiecesOfBody, IsShapeOf, AreShapesOf}
 
 IsFormulaBody-prop : (f : Formula) (body : Body) → IsProp (IsFormulaBody f body)
@@ -28,7 +27,6 @@ IsShapeOf-prop (Linear row) body = hlevel (IsFormulaBody-prop, IsRightLinear-pro
 IsShapeOf-prop (Pieces pieces) body = hlevel (ArePiecesOfBody-prop, props)
 IsShapeOf-prop (Filter filter) body = hlevel (IsFormulaBody-prop, IsRightFilter-prop, props)
 IsShapeOf-prop (Division step) body = hlevel (IsFormulaBody-prop, IsRightStep-prop, props)
-IsShapeOf-prop (Products products) body = hlevel (IsFormulaBody-prop, IsRightProducts-prop, props)
 IsShapeOf-prop Decimation body = hlevel props
 IsShapeOf-prop Halves body = hlevel props
 IsShapeOf-prop Other body = hlevel props

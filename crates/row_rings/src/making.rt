@@ -17,7 +17,6 @@ ghost use Rattle.row_rings.specs.inside.Making.{row_area, IsPictureRow, IsRowToW
 ghost use Rattle.tile_eval.specs.Cases.{function_value, IsComputable};
 ghost use Rattle.tile_eval.specs.Reading.{HasFunctionRoom};
 ghost use Rattle.wide_divisions.specs.DivisionSteps.{step_formula, IsRightStep};
-ghost use Rattle.wide_products.specs.WideProducts.{products_formula, IsRightProducts};
 
 use crate::ring::{RowRing, RowRings};
 use crate::ring_shapes::RingShape;
@@ -29,7 +28,6 @@ use row_kernels::convert_samples_to_row;
 use row_plans::RowState;
 use tile_eval::{RowSpan, evaluate_function_area, find_span_number_at_position};
 use wide_divisions::{DivisionStep, write_division_step};
-use wide_products::{WideProducts, write_wide_products};
 
 // Writes a row of a plane, which is counted from the first one of the picture.
 fn write_samples_to_ring(picture: &Picture, plane: usize, row: usize, out: &mut [i32])
@@ -78,29 +76,6 @@ fn write_division_row_to_ring(
     }
 }
 
-// Writes a row of a function that is made of products, on an area of one row. The contents of the operands' buffer have no meaning.
-fn write_products_row_to_ring(
-    known: &RowRings<i32>,
-    function: &Function,
-    products: &WideProducts<'_>,
-    area: &Area,
-    out: &mut [i32],
-    temps: &mut [i32],
-)
-    requires row { IsRowToWrite known.now.rings.items function.now area.now (length out.old)
-        (length temps.old) }
-    requires formula { IsFormulaBody (products_formula products.now)
-        (function_body (map case_view function.now.cases.items)
-        (option_map formula_view function.now.otherwise)) }
-    requires right { IsRightProducts products.now }
-    ensures { IsFunctionRow known.now.rings.items function.now area.now (length out.old) out.new }
-{
-    let points = RowSpan::from_area_top(area);
-    if !write_wide_products(known, products, &points, out) {
-        write_formula_row_to_ring(known, function, area, out, temps);
-    }
-}
-
 // Writes a row of a function from its halves, if it has any, else by its formulas, on an area of one row. The contents of the
 // operands' buffer have no meaning.
 fn write_halved_row_to_ring(
@@ -138,9 +113,6 @@ fn write_shaped_row_to_ring(
     match shape {
         RingShape::Division(step) => {
             write_division_row_to_ring(known, function, step, area, out, temps)
-        }
-        RingShape::Products(products) => {
-            write_products_row_to_ring(known, function, products, area, out, temps)
         }
         RingShape::Halves => write_halved_row_to_ring(known, function, area, out, temps),
         _ => write_formula_row_to_ring(known, function, area, out, temps),

@@ -158,9 +158,6 @@ fn write_shaped_row_to_narrow_ring<S: NarrowSource>(
         RingShape::Division(_) => {
             write_formula_row_to_narrow_ring(source, function, points, out, temps)
         }
-        RingShape::Products(_) => {
-            write_formula_row_to_narrow_ring(source, function, points, out, temps)
-        }
         RingShape::Other => {
             write_formula_row_to_narrow_ring(source, function, points, out, temps)
         }

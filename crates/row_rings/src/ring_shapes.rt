@@ -17,18 +17,16 @@ use narrow_pieces::{NarrowPieces, find_narrow_pieces};
 use row_halves::find_row_halves;
 use std::alloc::{AllocError, Global};
 use wide_divisions::{DivisionStep, find_division_step};
-use wide_products::{WideProducts, find_wide_products};
 
 /// How the rows of a stage are made: as those of a function that is written in one pass or a few, from halves or by decimation where the
-/// row allows it, or by its formulas. Rows of 32 bits are steps of a division or made of products; those of 16 bits have the other
-/// passes. Both may be made of halves or by formulas.
+/// row allows it, or by its formulas. Rows of 32 bits may be steps of a division; those of 16 bits have the other passes. Both may be
+/// made of halves or by formulas.
 #[derive(Drop)]
 pub(crate) enum RingShape<'a> {
     Linear(LinearRow<'a>),
     Pieces(NarrowPieces<'a>),
     Filter(NarrowFilter<'a>),
     Division(DivisionStep<'a>),
-    Products(WideProducts<'a>),
     Decimation,
     Halves,
     Other,
@@ -52,9 +50,6 @@ fn find_ring_shape_besides_linear<'a>(
     }
     if let Some(step) = find_division_step(function) {
         return Ok(RingShape::Division(step));
-    }
-    if let Some(products) = find_wide_products(function) {
-        return Ok(RingShape::Products(products));
     }
     if find_narrow_decimation(function).is_some() {
         return Ok(RingShape::Decimation);

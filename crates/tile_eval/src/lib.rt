@@ -10,6 +10,7 @@ mod differences;
 mod extremes;
 mod finishes;
 mod functions;
+mod products;
 mod reads;
 mod room;
 mod rows;

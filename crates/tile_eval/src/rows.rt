@@ -19,11 +19,12 @@ use crate::source_row::SourceRow;
 use job::{Axis, Formula};
 use operators::BinaryOp;
 use row_kernels::{
-    Addend, Epilogue, Operand, RowSpan, apply_unary_to_number, combine_with_scaled_operand,
-    keep_row_where_operand_relation_holds, write_binary_results_to_row, write_clamped_difference,
+    Addend, Epilogue, Operand, RowSpan, add_product_to_operand, apply_unary_to_number,
+    combine_with_scaled_operand, keep_row_where_operand_relation_holds,
+    subtract_product_from_operand, write_binary_results_to_row, write_clamped_difference,
     write_extremes_of_three_operands, write_literal_op_results_to_row, write_operand_with_epilogue,
-    write_sum_of_operand_and_two_addends, write_table_lookups_to_row, write_ternary_results_to_row,
-    write_unary_results_to_row,
+    write_product_to_row, write_sum_of_operand_and_two_addends, write_table_lookups_to_row,
+    write_ternary_results_to_row, write_unary_results_to_row,
 };
 use row_loops::{fill_row, fill_row_counting_up};
 
@@ -237,6 +238,13 @@ impl<'a, S: RowSource> SourceRow<'a, S> {
             (formula_value (S.samples self.now.source.now) (formula_view right.now)
             self.now.points.row (self.now.points.col +ℤ pos k)))) }
     {
+        if let Some(product) = self.match_product_of_factors(right) {
+            match op {
+                BinaryOp::Add => return add_product_to_operand(out, left, product, finish),
+                BinaryOp::Sub => return subtract_product_from_operand(out, left, product, finish),
+                _ => {}
+            }
+        }
         if let Formula::Binary(BinaryOp::Mul, a, b) = right {
             if let Some(factor) = find_constant_along_row(a, &self.points) {
                 let (_, temps) = temps.split_at_mut(out.len());
@@ -311,6 +319,9 @@ impl<'a, S: RowSource> SourceRow<'a, S> {
         };
         if let Some(it) = self.match_clamped_difference(formula) {
             return write_clamped_difference(out, it, finish);
+        }
+        if let Some(product) = self.match_product_of_factors(formula) {
+            return write_product_to_row(out, product, finish);
         }
         if self.try_sum_ending_in_clamped_differences(formula, finish, out, temps) {
             return;
@@ -421,12 +432,16 @@ impl<'a, S: RowSource> SourceRow<'a, S> {
                 let of = self.borrow_operand_or_write_it_into_row(a, out, temps);
                 write_unary_results_to_row(*op, out, of);
             }
-            Formula::Binary(_, _, _) => self.evaluate_binary_with_epilogue(
-                formula,
-                Epilogue::Nothing,
-                out,
-                temps,
-            ),
+            Formula::Binary(op, a, b) => {
+                if let Some(finish) = fuse_earlier_operator_into_epilogue(
+                    Epilogue::Nothing,
+                    *op,
+                    b,
+                ) {
+                    return self.evaluate_formula_with_epilogue(a, finish, out, temps);
+                }
+                self.evaluate_binary_with_epilogue(formula, Epilogue::Nothing, out, temps)
+            }
             Formula::Ternary(op, a, b, c) => {
                 if let Some(finish) = turn_ternary_into_epilogue(*op, b, c, &self.points) {
                     return self.evaluate_formula_with_epilogue(a, finish, out, temps);

@@ -3,8 +3,8 @@ use Rattle.std.proofs.Common.{arith, ℕ, ℤ, ◌≡◌, Option, Some, None, []
 use Rattle.domains.specs.Index.{index_at}
 use Rattle.job.specs.Formula.{Formula}
 use Rattle.job.specs.Reads.{EachRead, Read as ReadIn, reads_in, point}
-use Rattle.adjacent_reads.specs.Reads.{IsAdjacentRead}
-use Rattle.adjacent_reads.specs.declared.reads.AdjacentRead.{AdjacentRead}
+use Rattle.wide_divisions.specs.Reads.{IsAdjacentRead}
+use Rattle.wide_divisions.specs.declared.reads.DivisionStepRead.{DivisionStepRead}
 use Rattle.wide_divisions.specs.declared.step.DivisionStepRest.{DivisionStepRest}
 use Rattle.wide_divisions.specs.declared.step.DivisionStepRest.TheVariants.{Read, Capped}
 use Rattle.wide_divisions.specs.declared.step.DivisionStep.{DivisionStep}
@@ -16,7 +16,7 @@ shifted_reads None f = refl
 shifted_reads (Some bits) f = refl
 
 -- what a step begins with reads one stage
-abbrev taken : AdjacentRead → ReadIn
+abbrev taken : DivisionStepRead → ReadIn
 taken x = point x.stage x.row.now x.col.now
 
 rest_reads : (rest : DivisionStepRest) → reads_in (rest_formula rest) ≡ taken (read_of_rest rest) ∷ []
@@ -29,7 +29,7 @@ rest_adjacent (Read x) right = right
 rest_adjacent (Capped factor x most) right = right
 
 module _ (has : ℕ → ℤ → ℤ → Type 0) (r c : ℤ) where
-  abbrev IsRead : AdjacentRead → Type 0
+  abbrev IsRead : DivisionStepRead → Type 0
   IsRead x = has x.stage (index_at x.row.now r) (index_at x.col.now c)
 
   -- what it reads is available

@@ -1,6 +1,6 @@
 -- What a step of a division is at a point.
 use Rattle.std.proofs.Common.{ℕ, ℤ, ◌≡◌, Option, Some, None, refl}
-use Rattle.adjacent_reads.specs.Reads.{read_formula}
+use Rattle.wide_divisions.specs.Reads.{read_formula}
 use Rattle.job.specs.Formula.{Formula}
 use Rattle.job.specs.Values.{Valuation, formula_value}
 use Rattle.wide_divisions.specs.declared.step.DivisionStepRest.{DivisionStepRest}

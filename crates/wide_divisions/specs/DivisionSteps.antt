@@ -6,8 +6,8 @@ use Rattle.domains.specs.Arithmetic.{wrapped, floor_rem}
 use Rattle.operators.specs.declared.operator.BinaryOp.TheVariants.{Add, Sub, Mul, Min}
 use Rattle.operators.specs.declared.operator.LiteralOp.TheVariants.{Rem, Shl}
 use Rattle.operators.specs.declared.operator.Relation.TheVariants.{AtMost}
-use Rattle.adjacent_reads.specs.Reads.{read_formula, IsAdjacentRead}
-use Rattle.adjacent_reads.specs.declared.reads.AdjacentRead.{AdjacentRead}
+use Rattle.wide_divisions.specs.Reads.{read_formula, IsAdjacentRead}
+use Rattle.wide_divisions.specs.declared.reads.DivisionStepRead.{DivisionStepRead}
 use Rattle.job.specs.Formula.{Formula, number, binary, literal, select}
 use Rattle.wide_divisions.specs.declared.step.DivisionStepRest.{DivisionStepRest}
 use Rattle.wide_divisions.specs.declared.step.DivisionStepRest.TheVariants.{Read, Capped}
@@ -42,7 +42,7 @@ step_formula s =
 -- ---- what can be computed of them
 
 -- the read of what a step begins with
-abbrev pub read_of_rest : DivisionStepRest → AdjacentRead
+abbrev pub read_of_rest : DivisionStepRest → DivisionStepRead
 read_of_rest (Read x) = x
 read_of_rest (Capped factor x most) = x
 

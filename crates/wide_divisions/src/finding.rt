@@ -3,7 +3,7 @@
 
 ghost use Rattle.std.specs.Prelude.{◌≡◌, ◌<◌, ◌^◌, ℤ, [], Some, map, IfSome, IsTrue};
 ghost use Rattle.std.specs.Option.{option_map, ForSome};
-ghost use Rattle.adjacent_reads.specs.Reads.{read_formula, IsAdjacentRead};
+ghost use Rattle.wide_divisions.specs.Reads.{read_formula, IsAdjacentRead};
 ghost use Rattle.job.specs.Formula.{binary, literal, number};
 ghost use Rattle.job.specs.Views.{case_view, formula_view};
 ghost use Rattle.operators.specs.declared.operator.BinaryOp.TheVariants.{Add, Sub, Min};
@@ -12,8 +12,8 @@ ghost use Rattle.wide_divisions.specs.DivisionSteps.{rest_formula, shifted_formu
 ghost use Rattle.wide_divisions.specs.DivisionSteps.{IsRightRest, IsRightStep};
 ghost use Rattle.wide_divisions.specs.declared.step.DivisionStepRest.TheVariants.{Capped};
 
+use crate::reads::{DivisionStepRead, match_division_step_read};
 use crate::step::{DivisionStep, DivisionStepRest};
-use adjacent_reads::{AdjacentRead, match_adjacent_read};
 use domains::Index;
 use job::{Formula, Function};
 use operators::{BinaryOp, LiteralOp, Relation};
@@ -26,7 +26,7 @@ fn is_same_division_step_index(a: &Index, b: &Index) -> bool
 }
 
 // Whether a formula is this read.
-fn is_division_step_read(formula: &Formula, read: &AdjacentRead<'_>) -> bool
+fn is_division_step_read(formula: &Formula, read: &DivisionStepRead<'_>) -> bool
     ensures { IsTrue result → formula_view formula.now ≡ read_formula read.now }
 {
     match formula {
@@ -40,21 +40,21 @@ fn is_division_step_read(formula: &Formula, read: &AdjacentRead<'_>) -> bool
 }
 
 // A read, and by how many bits it is shifted to the left, if it is.
-fn match_division_step_divisor(formula: &Formula) -> Option<(AdjacentRead<'_>, Option<u32>)>
+fn match_division_step_divisor(formula: &Formula) -> Option<(DivisionStepRead<'_>, Option<u32>)>
     ensures some { IfSome result (λ it. formula_view formula.now ≡ shifted_formula it.1 (read_formula it.0)) }
     ensures right { IfSome result (λ it. IsAdjacentRead it.0) }
     ensures few { IfSome result (λ it. ForSome it.1 (λ bits. bits < 32)) }
 {
     match formula {
         Formula::Literal(LiteralOp::Shl, of, bits) if *bits < 32 => {
-            Some((match_adjacent_read(of)?, Some(*bits)))
+            Some((match_division_step_read(of)?, Some(*bits)))
         }
-        _ => Some((match_adjacent_read(formula)?, None)),
+        _ => Some((match_division_step_read(formula)?, None)),
     }
 }
 
 // The lesser of a read and a number.
-fn match_division_step_cap(formula: &Formula) -> Option<(AdjacentRead<'_>, i32)>
+fn match_division_step_cap(formula: &Formula) -> Option<(DivisionStepRead<'_>, i32)>
     ensures some { IfSome result
         (λ it. formula_view formula.now ≡ binary Min (read_formula it.0) (number it.1)) }
     ensures right { IfSome result (λ it. IsAdjacentRead it.0) }
@@ -63,7 +63,7 @@ fn match_division_step_cap(formula: &Formula) -> Option<(AdjacentRead<'_>, i32)>
         return None;
     };
     match &**most {
-        Formula::Number(most) => Some((match_adjacent_read(of)?, *most)),
+        Formula::Number(most) => Some((match_division_step_read(of)?, *most)),
         _ => None,
     }
 }
@@ -74,7 +74,7 @@ fn match_division_step_rest(formula: &Formula) -> Option<DivisionStepRest<'_>>
     ensures right { IfSome result IsRightRest }
 {
     let Formula::Binary(BinaryOp::Mul, factor, capped) = formula else {
-        return Some(DivisionStepRest::Read(match_adjacent_read(formula)?));
+        return Some(DivisionStepRest::Read(match_division_step_read(formula)?));
     };
     match &**factor {
         Formula::Number(factor) => {
@@ -90,7 +90,7 @@ fn match_division_step_rest(formula: &Formula) -> Option<DivisionStepRest<'_>>
 }
 
 // Whether a formula is this read, at most a number.
-fn is_division_step_cap(formula: &Formula, read: &AdjacentRead<'_>, most: i32) -> bool
+fn is_division_step_cap(formula: &Formula, read: &DivisionStepRead<'_>, most: i32) -> bool
     ensures { IsTrue result → formula_view formula.now ≡ binary Min (read_formula read.now) (number most) }
 {
     let Formula::Binary(BinaryOp::Min, of, other) = formula else {
@@ -106,7 +106,7 @@ fn is_division_step_cap(formula: &Formula, read: &AdjacentRead<'_>, most: i32) -
 fn is_capped_division_step_rest(
     formula: &Formula,
     factor: i32,
-    read: &AdjacentRead<'_>,
+    read: &DivisionStepRead<'_>,
     most: i32,
 ) -> bool
     ensures { IsTrue result
@@ -134,7 +134,11 @@ fn is_division_step_rest(formula: &Formula, rest: &DivisionStepRest<'_>) -> bool
 }
 
 // Whether a formula is this read, shifted to the left by this many bits, if it is shifted.
-fn is_division_step_divisor(formula: &Formula, read: &AdjacentRead<'_>, shift: Option<u32>) -> bool
+fn is_division_step_divisor(
+    formula: &Formula,
+    read: &DivisionStepRead<'_>,
+    shift: Option<u32>,
+) -> bool
     ensures { IsTrue result → formula_view formula.now ≡ shifted_formula shift (read_formula read.now) }
 {
     match (formula, shift) {

@@ -6,9 +6,11 @@
 
 mod digits;
 mod finding;
+mod reads;
 mod step;
 mod writing;
 
 pub use finding::find_division_step;
+pub use reads::DivisionStepRead;
 pub use step::{DivisionStep, DivisionStepRest};
 pub use writing::write_division_step;

@@ -1,17 +1,17 @@
 #![tactic(auto)]
 //! Steps of restoring divisions.
 
-use adjacent_reads::AdjacentRead;
+use crate::reads::DivisionStepRead;
 
 /// What a step begins with: the partial remainder and the quotient, in one number.
 #[derive(Clone, Copy)]
 pub enum DivisionStepRest<'a> {
     /// What an earlier step has left.
-    Read(AdjacentRead<'a>),
+    Read(DivisionStepRead<'a>),
     /// The dividend of the first step: `factor * min(read, most)`.
     Capped {
         factor: i32,
-        read: AdjacentRead<'a>,
+        read: DivisionStepRead<'a>,
         most: i32,
     },
 }
@@ -23,7 +23,7 @@ pub struct DivisionStep<'a> {
     /// The partial remainder and the quotient.
     pub rest: DivisionStepRest<'a>,
     /// The divisor before it is shifted.
-    pub divisor: AdjacentRead<'a>,
+    pub divisor: DivisionStepRead<'a>,
     /// By how many bits the divisor is shifted to the left, if it is, from 0 to 31.
     pub shift: Option<u32>,
     /// How many bits the partial remainder has, from 0 to 31.

@@ -8,14 +8,13 @@ ghost use Rattle.row_loops.specs.Rows.{EachPlace, at};
 ghost use Rattle.wide_divisions.specs.DivisionSteps.{read_of_rest, step_formula, IsRightStep};
 
 use crate::digits::write_division_step_results;
+use crate::reads::{DivisionStepRead, borrow_division_step_read};
 use crate::step::{DivisionStep, DivisionStepRest};
-use adjacent_reads::AdjacentRead;
 use row_kernels::RowSpan;
 use tile_eval::RowSource;
-use wide_reads::borrow_wide_read;
 
 // The read of what a step begins with.
-fn find_read_of_division_step_rest<'a>(rest: &DivisionStepRest<'a>) -> AdjacentRead<'a>
+fn find_read_of_division_step_rest<'a>(rest: &DivisionStepRest<'a>) -> DivisionStepRead<'a>
     ensures { result ≡ read_of_rest rest.now }
 {
     match rest {
@@ -43,10 +42,10 @@ pub fn write_division_step<S: RowSource>(
         (points.now.col +ℤ pos k)) }
 {
     let read = find_read_of_division_step_rest(&step.rest);
-    let Some(samples) = borrow_wide_read(source, &read, points) else {
+    let Some(samples) = borrow_division_step_read(source, &read, points) else {
         return false;
     };
-    let Some(divisors) = borrow_wide_read(source, &step.divisor, points) else {
+    let Some(divisors) = borrow_division_step_read(source, &step.divisor, points) else {
         return false;
     };
     write_division_step_results(out, samples, divisors, step);

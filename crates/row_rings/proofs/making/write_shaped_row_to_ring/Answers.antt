@@ -17,15 +17,3 @@ write_division_row_to_ring-requires-clause-right c =
     let f = c.args.function.now in
     (subst (λ (shape : RingShape). IsShapeOf shape (function (map case_view f.cases.items) (option_map formula_view f.otherwise)))
     c.in-Division.is c.requires.shape).1
-
-pub write_products_row_to_ring-requires-clause-formula : goal.write_products_row_to_ring-requires-clause-formula
-write_products_row_to_ring-requires-clause-formula c =
-    let f = c.args.function.now in
-    (subst (λ (shape : RingShape). IsShapeOf shape (function (map case_view f.cases.items) (option_map formula_view f.otherwise)))
-    c.in-Products.is c.requires.shape).0
-
-pub write_products_row_to_ring-requires-clause-right : goal.write_products_row_to_ring-requires-clause-right
-write_products_row_to_ring-requires-clause-right c =
-    let f = c.args.function.now in
-    (subst (λ (shape : RingShape). IsShapeOf shape (function (map case_view f.cases.items) (option_map formula_view f.otherwise)))
-    c.in-Products.is c.requires.shape).1

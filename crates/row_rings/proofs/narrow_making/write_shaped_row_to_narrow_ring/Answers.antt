@@ -113,7 +113,7 @@ write_halved_row_to_narrow_ring-requires-clause-function g c =
     (subst (λ (shape : RingShape). IsShapeOf shape (function (map case_view f.cases.items) (option_map formula_view f.otherwise)))
     c.in-Halves.is c.requires.shape)
 
--- ---- a step of a division, products, and any other
+-- ---- a step of a division, and any other
 
 pub write_formula_row_to_narrow_ring-requires-clause-function : goal.write_formula_row_to_narrow_ring-requires-clause-function
 write_formula_row_to_narrow_ring-requires-clause-function g c =
@@ -121,13 +121,6 @@ write_formula_row_to_narrow_ring-requires-clause-function g c =
     c.requires.function
     (subst (λ (shape : RingShape). IsShapeOf shape (function (map case_view f.cases.items) (option_map formula_view f.otherwise)))
     c.in-Division.is c.requires.shape).2
-
-pub write_formula_row_to_narrow_ring-requires-in-Products-clause-function : goal.write_formula_row_to_narrow_ring-requires-in-Products-clause-function
-write_formula_row_to_narrow_ring-requires-in-Products-clause-function g c =
-    let f = c.args.function.now in
-    c.requires.function
-    (subst (λ (shape : RingShape). IsShapeOf shape (function (map case_view f.cases.items) (option_map formula_view f.otherwise)))
-    c.in-Products.is c.requires.shape).2
 
 pub write_formula_row_to_narrow_ring-requires-in-Other-clause-function : goal.write_formula_row_to_narrow_ring-requires-in-Other-clause-function
 write_formula_row_to_narrow_ring-requires-in-Other-clause-function g c =

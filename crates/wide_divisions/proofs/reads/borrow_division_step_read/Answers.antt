@@ -3,7 +3,7 @@ use Rattle.std.proofs.lemmas.Int.{to_z-of_z}
 use Rattle.std.proofs.lemmas.Option.{IfSome_then}
 use Rattle.domains.specs.Index.{index_at}
 use Rattle.row_kernels.proofs.Columns.{columns_follow}
-use Rattle.wide_reads.proofs.reads.borrow_wide_read.Goals as goal
+use Rattle.wide_divisions.proofs.reads.borrow_division_step_read.Goals as goal
 
 pub borrow_row-requires : goal.borrow_row-requires
 borrow_row-requires g c = λ k h.

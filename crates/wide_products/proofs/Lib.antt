@@ -1,2 +1,0 @@
-pub mod ProductReads
-pub mod ProductValues

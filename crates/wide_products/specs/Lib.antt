@@ -1,3 +1,0 @@
-pub mod WideProducts
-pub mod ProductsOnce
-pub mod inside
