@@ -1,3 +1,4 @@
 pub mod Gathering
 pub mod Crossing
 pub mod Ends
+pub mod NodeReceipts

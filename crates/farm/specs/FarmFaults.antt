@@ -8,16 +8,16 @@ use Rattle.live_nodes.specs.declared.fault.CloseFault.TheVariants as closes
 abbrev pub farm_fault_number : FarmFault → ℕ
 farm_fault_number (SpawnFailed refusal) = 1
 farm_fault_number Memory = 2
-farm_fault_number (Close number) = 3
+farm_fault_number (Close refusal) = 3
 
 abbrev pub farm_fault_name : FarmFault → List ℕ
 farm_fault_name (SpawnFailed refusal) = codes "SpawnFailed"
 farm_fault_name Memory = codes "Memory"
-farm_fault_name (Close number) = codes "Close"
+farm_fault_name (Close refusal) = codes "Close"
 
 -- why a node does not close
 abbrev pub fault_of_close : CloseFault → FarmFault
-fault_of_close (closes.ReceiptMismatch number) = Close number
+fault_of_close (closes.ReceiptMismatch number) = Close (record { number = number })
 fault_of_close closes.Memory = Memory
 
 -- the result of closing all nodes: why one does not close, or else that some worker ran out of memory

@@ -1,2 +1,3 @@
 pub mod FarmFaults
 pub mod Reports
+pub mod NodeEnds

@@ -1,20 +1,22 @@
 //! The nodes of a farm after it has run.
 
 ghost use Rattle.std.specs.List.{list_any};
-ghost use Rattle.std.specs.Prelude.{◌≡◌, false, All, IfErr, IfOk, length};
-ghost use Rattle.farm.specs.FarmFaults.{fault_of_close, result_of_closing};
+ghost use Rattle.std.specs.Prelude.{◌≡◌, drop, false, take, All, IfErr, IfOk, OnOk, length, map};
+ghost use Rattle.std.specs.Vec.Iter.{into_iter_items, into_iter_len};
+ghost use Rattle.farm.specs.FarmFaults.{result_of_closing};
+ghost use Rattle.farm.specs.NodeEnds.{HaveClosed, IsClosingFault, end_of};
 ghost use Rattle.farm.specs.Reports.{IsSoundEnd, all_held};
 ghost use Rattle.held_facts.specs.Facts.{lent};
-ghost use Rattle.live_nodes.specs.Ends.{HaveAllReceipts, IsSomeCloseFault};
-ghost use Rattle.live_nodes.specs.declared.fault.CloseFault.{CloseFault};
+ghost use Rattle.live_nodes.specs.Ends.{HaveAllReceipts};
 
 use crate::fault::FarmFault;
 use crate::hand::WorkerReceipts;
 use crate::node::{FarmNode, WORKERS};
+use crate::refusal::close_farm_node;
 use catalog::NamedCatalog;
 use held_facts::{HeldFacts, LendFault};
 use identity::Key;
-use live_nodes::{ClosedNode, LiveNode, Receipt, Seat};
+use live_nodes::{ClosedNode, Receipt, Seat};
 use std::alloc::{AllocError, Global};
 use std::vec;
 
@@ -22,7 +24,7 @@ use std::vec;
 ///
 /// # Errors
 ///
-/// `Close` where receipts do not match a node's history, before `Memory` of a worker.
+/// `Close` only where the receipts of a node's workers do not match its history, before `Memory` of a worker.
 pub fn close_farm_nodes_to_list_or_memory_fault<C: NamedCatalog>(
     alloc: Global,
     nodes: Vec<FarmNode<C>>,
@@ -30,6 +32,8 @@ pub fn close_farm_nodes_to_list_or_memory_fault<C: NamedCatalog>(
 ) -> Result<Vec<ClosedNode>, FarmFault>
     ensures sound { IfOk result (λ closed. All (IsSoundEnd C.catalog) closed.items) }
     ensures count { IfOk result (λ closed. length closed.items ≡ length nodes.items) }
+    ensures receipts { IfOk result (λ closed. HaveClosed closed.items ends.items) }
+    ensures fault { IfErr result (IsClosingFault (length nodes.items) ends.items) }
     ensures memory { IfOk result (λ _. list_any (λ end. end.memory) ends.items ≡ false) }
 {
     let memory = has_any_farm_worker_lacked_memory(&ends);
@@ -66,6 +70,8 @@ fn close_each_farm_node<C: NamedCatalog>(
 ) -> Result<Vec<ClosedNode>, FarmFault>
     ensures sound { IfOk result (λ closed. All (IsSoundEnd C.catalog) closed.items) }
     ensures count { IfOk result (λ closed. length closed.items ≡ length nodes.items) }
+    ensures receipts { IfOk result (λ closed. HaveClosed closed.items ends.items) }
+    ensures fault { IfErr result (IsClosingFault (length nodes.items) ends.items) }
 {
     let mut closed: Vec<ClosedNode> = Vec::new(alloc);
     let mut rest = ends.into_iter();
@@ -83,7 +89,13 @@ fn take_worker_receipts_of_next_node(
     alloc: Global,
     rest: &mut vec::IntoIter<WorkerReceipts>,
 ) -> Result<Vec<(Seat, Vec<Receipt>)>, AllocError>
-    ensures { IfOk result (λ mine. HaveAllReceipts mine.items) }
+    ensures all { IfOk result (λ mine. HaveAllReceipts mine.items) }
+    ensures taken { into_iter_len rest.old ≡ length (into_iter_items rest.old) → IfOk result
+        (λ mine. mine.items ≡ map end_of (take 2 (into_iter_items rest.old))) }
+    ensures rest { into_iter_len rest.old ≡ length (into_iter_items rest.old) → OnOk result
+        (into_iter_items rest.new ≡ drop 2 (into_iter_items rest.old)) }
+    ensures whole { into_iter_len rest.old ≡ length (into_iter_items rest.old)
+        → into_iter_len rest.new ≡ length (into_iter_items rest.new) }
 {
     let mut mine: Vec<(Seat, Vec<Receipt>)> = Vec::new(alloc);
     for _ in 0..WORKERS {
@@ -94,21 +106,6 @@ fn take_worker_receipts_of_next_node(
         }
     }
     Ok(mine)
-}
-
-fn close_farm_node<C: NamedCatalog>(
-    node: LiveNode<C>,
-    ends: Vec<(Seat, Vec<Receipt>)>,
-) -> Result<ClosedNode, FarmFault>
-    requires { HaveAllReceipts ends.items }
-    ensures sound { IfOk result (IsSoundEnd C.catalog) }
-    ensures told { IfErr result (λ fault. (why : CloseFault)
-        × IsSomeCloseFault ends.items why × (fault ≡ fault_of_close why)) }
-{
-    match node.close(ends) {
-        Ok(closed) => Ok(closed),
-        Err((_, _, fault)) => Err(FarmFault::from(fault)),
-    }
 }
 
 /// The facts of the keys that any of the nodes holds at the end. A retirement at one node excludes no fact of another.

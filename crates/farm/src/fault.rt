@@ -2,9 +2,9 @@
 
 ghost use Rattle.std.specs.Prelude.{◌≡◌};
 
+use crate::refusal::FarmNodeRefusal;
 use crate::start::ThreadRefusal;
 use fault_rows::{Fault, FaultRow, fault_row};
-use live_nodes::CloseFault;
 use std::alloc::AllocError;
 use thiserror::Error;
 
@@ -17,9 +17,9 @@ pub enum FarmFault {
     /// 2: memory ran out.
     #[error("out of memory")]
     Memory,
-    /// 3: the number of a receipt that does not match its node's history.
+    /// 3: the number of a receipt that does not match its node's history. Only the closing of a node makes what it holds.
     #[error("receipt {0} does not match the history")]
-    Close(u64),
+    Close(FarmNodeRefusal),
 }
 
 impl Fault for FarmFault {
@@ -31,29 +31,6 @@ impl Fault for FarmFault {
 
     fn row(&self) -> FaultRow {
         fault_row!(self, FarmFault { SpawnFailed(_) = 1, Memory = 2, Close(_) = 3 })
-    }
-}
-
-impl From<ThreadRefusal> for FarmFault {
-    ghost use Rattle.farm.specs.declared.fault.FarmFault.TheVariants.{SpawnFailed};
-
-    ghost from_gives = { λ refusal fault. fault ≡ SpawnFailed refusal };
-
-    fn from(refusal: ThreadRefusal) -> FarmFault {
-        FarmFault::SpawnFailed(refusal)
-    }
-}
-
-impl From<CloseFault> for FarmFault {
-    ghost use Rattle.farm.specs.FarmFaults.{fault_of_close};
-
-    ghost from_gives = { λ fault told. told ≡ fault_of_close fault };
-
-    fn from(fault: CloseFault) -> FarmFault {
-        match fault {
-            CloseFault::ReceiptMismatch(number) => FarmFault::Close(number),
-            CloseFault::Memory => FarmFault::Memory,
-        }
     }
 }
 

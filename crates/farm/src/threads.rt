@@ -47,7 +47,10 @@ fn start_farm_threads<'s, E, T: FarmThreadTask + Send + Drop + 's, G: Gate + Syn
     let mut handles = Vec::new(alloc);
     for task in tasks {
         handles.reserve(1)?;
-        handles.push_reserved(start_farm_worker_thread(scope, move || task.run(rt, alloc, gate))?);
+        match start_farm_worker_thread(scope, move || task.run(rt, alloc, gate)) {
+            Ok(handle) => handles.push_reserved(handle),
+            Err((_, refusal)) => return Err(FarmFault::SpawnFailed(refusal)),
+        }
     }
     Ok(handles)
 }
