@@ -1,5 +1,5 @@
 -- Totals over rows, and over rows that follow, join to the totals over all of them.
-use Rattle.std.proofs.Common.{ℕ, zero, suc, ◌+◌, ◌-◌, ◌<◌, ◌≤◌, ◌≡◌, ℤ, pos, ◌+ℤ◌, ◌-ℤ◌, arith, refl, sym, ap, ◌∙◌, subst, List, [], ◌∷◌, ◌++◌, length, Some, slice_get}
+use Rattle.std.proofs.Common.{ℕ, zero, suc, ◌+◌, ◌≡◌, ℤ, pos, ◌+ℤ◌, ◌-ℤ◌, arith, sym, ap, ◌∙◌, List, [], ◌∷◌, ◌++◌, Some, slice_get}
 use Rattle.std.specs.Prelude.{Option, filter, map}
 use Rattle.std.specs.Int.{int_gap}
 use Rattle.std.specs.List.{flat_map}
@@ -14,7 +14,7 @@ use Rattle.domains.specs.declared.area.Area.{Area}
 use Rattle.operators.specs.declared.operator.ReductionOp.{ReductionOp}
 use Rattle.job.proofs.TotalLaws.{map_same}
 use Rattle.job.specs.Formula.{Formula}
-use Rattle.job.specs.Pipeline.{Body, accumulator, Stage, Pipeline}
+use Rattle.job.specs.Pipeline.{accumulator, Stage, Pipeline}
 use Rattle.job.specs.Totals.{joined, total_of, values_in_bin, body_totals, totals_over}
 use Rattle.job.specs.Values.{Valuation, formula_value, value}
 use Rattle.reductions.proofs.JoinInto.{joined_maps}

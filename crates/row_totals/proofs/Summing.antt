@@ -1,5 +1,5 @@
 -- The bins of an accumulator, and one row more of it.
-use Rattle.std.proofs.Common.{arith, ℕ, ℤ, pos, ◌≡◌, ◌+◌, ◌-◌, ◌<◌, ◌≤◌, ◌+ℤ◌, ◌-ℤ◌, ◌≤ℤ◌, List, [], Some, length, refl, sym, ap, ◌∙◌, subst, slice_get}
+use Rattle.std.proofs.Common.{arith, ℕ, ℤ, pos, ◌≡◌, ◌+◌, ◌-◌, ◌<◌, ◌≤◌, ◌+ℤ◌, ◌-ℤ◌, List, [], Some, length, true, false, true≢false, refl, sym, ap, ◌∙◌, subst, slice_get}
 use Rattle.std.specs.Prelude.{Option, None, filter, map}
 use Rattle.std.specs.Option.{option_map, option_map_or}
 use Rattle.std.specs.Ordering.{int_eq}
@@ -15,7 +15,7 @@ use Rattle.domains.specs.Span.{Ends, Holds, len_of, numbers_from, numbers_of}
 use Rattle.domains.specs.declared.area.Area.{Area}
 use Rattle.job.proofs.Solving.{BodyReads-both}
 use Rattle.job.proofs.TotalLaws.{body_totals-agrees, map_same}
-use Rattle.job.specs.Answers.{height_of}
+use Rattle.job.specs.Answers.{height_of, is_accumulator}
 use Rattle.job.specs.Pipeline.{Body, accumulator, Stage, Pipeline}
 use Rattle.job.specs.Reads.{Read, point, window, BodyReads, EachTaken, SameAt}
 use Rattle.job.specs.Totals.{start_of, total_of, values_in_bin, body_totals, totals, totals_over}
@@ -29,7 +29,7 @@ use Rattle.reductions.proofs.TotalsInAnyOrder.{total_of-none}
 use Rattle.reductions.proofs.WholeTotals.{stage_totals}
 use Rattle.reductions.specs.Accumulating.{AreBins}
 use Rattle.reductions.specs.Bins.{joined_bins, starts}
-use Rattle.row_totals.specs.RowTotals.{rows_from, totals_from, AreValues, IsRowRead, IsSummedBy}
+use Rattle.row_totals.specs.RowTotals.{rows_from, totals_from, is_summed, AreValues, IsRowRead, IsSummedBy}
 use Rattle.row_totals.proofs.RowsJoin.{all_rows, rows_join, rows_numbers, totals_from_is}
 
 -- ---- what is read
@@ -196,3 +196,22 @@ whole_of_area job g well area is = by (slice_get job.stages g) refl
         ∙ ap (λ (o : Option Stage). option_map_or (λ t. totals_over job (rows_from t.domain 0 (len_of s.domain.rows)) g) o []) e
         ∙ ap (λ (x : Area). totals_over job x g) (all_rows s.domain (well.stages g s e).rows.span)
         ∙ stage_totals job g s e
+
+-- an accumulator has a domain
+pub summed_domain : (job : Pipeline) (g : ℕ) → is_summed job g ≡ true → option_map (λ s. s.domain) (slice_get job.stages g) ≡ None → ⊥
+summed_domain job g summed none = by (slice_get job.stages g) refl
+  where
+    by : (o : Option Stage) → slice_get job.stages g ≡ o → ⊥
+    by None e = true≢false (sym summed ∙ ap (λ (o : Option Stage). option_map_or (λ t. is_accumulator t.body) o false) e)
+    by (Some s) e = none-some s.domain (sym none ∙ ap (option_map (λ (s : Stage). s.domain)) e)
+
+-- its height is that of the domain
+pub height_at : (job : Pipeline) (g : ℕ) (area : Area) → option_map (λ s. s.domain) (slice_get job.stages g) ≡ Some area
+    → height_of job g ≡ len_of area.rows
+height_at job g area is = by (slice_get job.stages g) refl
+  where
+    by : (o : Option Stage) → slice_get job.stages g ≡ o → height_of job g ≡ len_of area.rows
+    by None e = absurd (none-some area (ap (option_map (λ (s : Stage). s.domain)) (sym e) ∙ is))
+    by (Some s) e =
+        ap (λ (o : Option Stage). option_map_or (λ t. len_of t.domain.rows) o 0) e
+        ∙ ap (λ (a : Area). len_of a.rows) (same_Some s.domain area (ap (option_map (λ (s : Stage). s.domain)) (sym e) ∙ is))

@@ -1,1 +1,2 @@
 pub mod RowTotals
+pub mod Spans

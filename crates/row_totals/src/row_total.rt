@@ -1,7 +1,7 @@
 #![tactic(auto)]
 //! What an accumulator has in its bins, row by row.
 
-ghost use Rattle.std.specs.Prelude.{◌≡◌, ◌<◌, ◌≤◌, ◌+◌, ◌-◌, true, false, IfOk, IfSome, IfNone, OnOk};
+ghost use Rattle.std.specs.Prelude.{◌≡◌, ◌<◌, ◌≤◌, ◌+◌, ◌-◌, ◌↔◌, IsTrue, true, false, IfOk, IfSome, IfNone, OnOk};
 ghost use Rattle.job.specs.Answers.{height_of};
 ghost use Rattle.job.specs.Kept.{pipeline_in};
 ghost use Rattle.job.specs.Totals.{totals};
@@ -147,16 +147,18 @@ impl<'a> RowTotal<'a> {
 
     /// Whether another total is of the same accumulator, and over the rows that follow.
     pub fn is_followed_by_row_total(&self, others: &RowTotal<'_>) -> bool
-        ensures stage { result ≡ true → others.now.stage ≡ self.now.stage }
-        ensures follows { result ≡ true → others.now.first ≡ self.now.next }
+        ensures { IsTrue result ↔ (others.now.stage ≡ self.now.stage)
+            × (others.now.first ≡ self.now.next) }
     {
         others.stage == self.stage && others.first == self.next
     }
 
     /// The bins, rising, if all rows of the domain are there.
     pub fn borrow_summed_bins_if_whole(&self) -> Option<&[i64]>
-        ensures { IfSome result (λ bins. bins.now
+        ensures some { IfSome result (λ bins. bins.now
             ≡ totals (pipeline_in self.now.job.now) self.now.stage) }
+        ensures none { IfNone result (self.now.first ≡ 0
+            → ¬ (self.now.next ≡ height_of (pipeline_in self.now.job.now) self.now.stage)) }
     {
         let domain = self.job.domain(self.stage)?;
         if self.first == 0 && self.next == domain.rows.len() as usize {

@@ -1,6 +1,5 @@
 use Rattle.std.proofs.Common.{rules, arith, ◌≡◌, ℤ, pos, ◌+ℤ◌, ◌-◌, FitsSigned, w32, List, length, refl, sym, ap, ◌∙◌}
 use Rattle.std.proofs.lemmas.Int.{to_z-of_z}
-use Rattle.domains.specs.Span.{Ends}
 use Rattle.domains.specs.declared.area.Area.{Area}
 use Rattle.job.specs.Kept.{pipeline_in}
 use Rattle.job.specs.Pipeline.{accumulator}
@@ -9,7 +8,7 @@ use Rattle.job.specs.Views.{formula_view, stage_view}
 use Rattle.reductions.specs.Bins.{joined_bins}
 use Rattle.reductions.proofs.TilesJoinInTurn.{written}
 use Rattle.reductions.proofs.WholeTotals.{has_formulas}
-use Rattle.row_totals.proofs.Summing.{bins_of, height_short, row_within, rows_near, cols_near, row_reads, row_more}
+use Rattle.row_totals.proofs.Summing.{bins_of, height_short, rows_near, cols_near, row_reads, row_more}
 use Rattle.row_totals.proofs.row_total.RowTotal.accumulate_next_summed_row.Goals as goal
 
 pub overflow_cast-self : goal.overflow_cast-self

@@ -1,16 +1,12 @@
-use Rattle.std.proofs.Common.{rules, arith, ◌≡◌, ◌-◌, Option, Some, None, sym, subst, ap, ◌∙◌, slice_get}
-use Rattle.std.specs.Option.{option_map, option_map_or}
-use Rattle.std.proofs.lemmas.Bool.{eqb-true}
+use Rattle.std.proofs.Common.{rules, arith, ◌≡◌, ◌-◌, sym, ◌∙◌}
 use Rattle.domains.specs.Span.{len_of}
-use Rattle.domains.specs.declared.area.Area.{Area}
 use Rattle.job.specs.Kept.{pipeline_in}
-use Rattle.job.specs.Pipeline.{Stage}
 use Rattle.row_totals.specs.RowTotals.{totals_from}
 use Rattle.row_totals.proofs.Summing.{whole_of_area}
 use Rattle.row_totals.proofs.row_total.RowTotal.borrow_summed_bins_if_whole.Goals as goal
 
-pub returns-then-self-len : goal.returns-then-self-len
-returns-then-self-len c =
+pub returns-then-self-len-clause-some : goal.returns-then-self-len-clause-some
+returns-then-self-len-clause-some c =
     let self = c.args.self.now in
     let job = pipeline_in self.job.now in
     let first : self.first ≡ 0 = search rules in

@@ -1,4 +1,4 @@
-use Rattle.std.proofs.Common.{rules, arith, ◌≡◌, ◌-◌, length, sym, subst, ap, ◌∙◌}
+use Rattle.std.proofs.Common.{arith, ◌≡◌, ◌-◌, length, sym, ap, ◌∙◌}
 use Rattle.job.specs.Kept.{pipeline_in}
 use Rattle.reductions.specs.Bins.{joined_bins}
 use Rattle.reductions.proofs.TilesJoinInTurn.{written}

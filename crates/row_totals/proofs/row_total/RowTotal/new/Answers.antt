@@ -1,6 +1,4 @@
-use Rattle.std.proofs.Common.{arith, ◌≡◌, ◌-◌, sym, ap, ◌∙◌}
-use Rattle.domains.specs.Span.{Ends}
-use Rattle.operators.specs.declared.operator.ReductionOp.{ReductionOp}
+use Rattle.std.proofs.Common.{arith, ◌≡◌, ◌-◌, ◌∙◌}
 use Rattle.job.specs.Kept.{pipeline_in}
 use Rattle.job.specs.Views.{stage_view}
 use Rattle.reductions.specs.Bins.{starts}
