@@ -175,11 +175,18 @@ class Formats(InRoom):
             self.assertEqual(self.tf(f"eval p.pipe p.{ending} --print")[:2], wanted[:2])
             self.assertNotEqual(self.tf(f"eval p.pipe p.{ending} --page 2")[0], 0)
 
+    def test_standard_input_of_a_format_that_tf_reads(self):
+        self.taken_from_standard_input("mask.pbm")
+
+    @wants_vips
     def test_standard_input_of_any_format(self):
-        for name, head in (("grey8.tif", b"P5\n24 16\n255\n"), ("mask.pbm", b"P5\n24 16\n255\n"), ("equal.jpg", b"P5\n24 16\n255\n")):
+        for name in ("grey8.tif", "equal.jpg"):
             with self.subTest(name):
-                status, written, told = self.tf("eval p.pipe -", content(f"{PICTURES}/{name}"))
-                self.assertEqual((status, written[:13], told), (0, head, ""))
+                self.taken_from_standard_input(name)
+
+    def taken_from_standard_input(self, name: str) -> None:
+        status, written, told = self.tf("eval p.pipe -", content(f"{PICTURES}/{name}"))
+        self.assertEqual((status, written[:13], told), (0, b"P5\n24 16\n255\n", ""))
 
     @wants_vips
     def test_names_with_marks_of_vips(self):

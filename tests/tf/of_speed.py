@@ -198,10 +198,11 @@ class RoundTheProgram(InRoom):
         self.assertEqual(png.read(self.content("out.png"), "out.png")[0], self.picture(700, 900))
 
     @wants_vips
-    def test_a_jpeg_to_a_jpeg_takes_no_process_of_vips(self):
+    def test_a_jpeg_to_a_jpeg_takes_two_processes_of_vips(self):
         self.write("in.ppm", self.picture(70, 90).raw())
         subprocess.run(["vips", "copy", "in.ppm", "in.jpg"], cwd=self.room, check=True)
-        self.assertEqual([it.split()[:2] for it in self.started("eval p.pipe in.jpg -o out.jpg")], [["program", "eval"]])
+        started = [it.split()[:2] for it in self.started("eval p.pipe in.jpg -o out.jpg")]
+        self.assertEqual(sorted(started), [["program", "eval"], ["vips", "copy"], ["vips", "copy"]])
 
     def test_no_line_is_run_for_each_point(self):
         """As many lines for a picture of sixteen times the points, but for some for each block of rows."""
