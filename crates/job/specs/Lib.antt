@@ -17,4 +17,5 @@ pub mod Kept
 pub mod ReadViews
 pub mod Identity
 pub mod TileSides
+pub mod OtherStages
 pub mod inside

@@ -8,6 +8,7 @@ ghost use Rattle.job.specs.Identity.{input_bytes, input_id, HasTileAt};
 ghost use Rattle.job.specs.Readers.{kind_of, grid_at, stage_fold, stage_bins};
 ghost use Rattle.job.specs.WellFormed.{IsJob};
 ghost use Rattle.job.specs.WellFormedOnce.{IsJob-prop};
+ghost use Rattle.job.specs.OtherStages.{with_stages};
 ghost use Rattle.job.specs.TileSides.{HasFewTiles, with_sides};
 ghost use Rattle.job.specs.Views.{stage_view, output_view, parameter_view, pipeline_of};
 
@@ -92,6 +93,28 @@ impl Job {
             program,
             input: None,
         })
+    }
+
+    /// The same job with these stages in place of its own, if they make one. Its text and its identities are as they were.
+    pub fn with_stages(self, stages: Vec<Stage>) -> Job
+        requires { IsJob (with_stages (map stage_view stages.items) (pipeline_in self)) }
+        ensures pipeline { pipeline_in result
+            ≡ with_stages (map stage_view stages.items) (pipeline_in self) }
+        ensures text { program_text_in result ≡ program_text_in self }
+        ensures program { program_id_in result ≡ program_id_in self }
+    {
+        let Job {
+            parts,
+            text,
+            program,
+            input,
+        } = self;
+        Job {
+            parts: BoundPipeline { stages, ..parts },
+            text,
+            program,
+            input,
+        }
     }
 
     /// The stages, in the order in which the text declares their names. A stage's number is its place here.
