@@ -133,7 +133,7 @@ class Arrays(unittest.TestCase):
         check = program.check((20, 30))
         self.assertEqual(check, program.check(picture(20, 30) * 0))
         self.assertEqual(check.stages["across"], tilefarm.Domain("func", (1, 18), (1, 28), 1, (-4 * 255, 4 * 255), False))
-        self.assertEqual((check.stages["I"].values, check.stages["edges"].values), ((0, 255), (0, 255)))
+        self.assertEqual((check.stages["I"].values, check.stages["edges"].values), ((0, 255), (0, 8 * 255 // 4)))
         self.assertEqual(program.check(picture(20, 30, dtype=np.uint16)).stages["I"].values, (0, 65535))
         wraps = Program(COPY.replace("I(x, y)", "I(x, y) * 8421505")).check((3, 3)).stages["f"]
         self.assertEqual((wraps.values, wraps.can_wrap), ((-2**31, 2**31 - 1), True))

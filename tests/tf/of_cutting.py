@@ -6,7 +6,10 @@ from .shared import COPY, PROGRAM, InRoom
 
 from _tf.netpbm import Header
 from _tf.parser import known_program
+from _tf.ranges import can_be_above
 from _tf.settings import settings, with_greatest
+from _tf.tables import Line
+from _tf.text import Text
 
 # the second half of this picture of ten by ten is brighter than a byte
 DEEP = b"P5 10 10 65535 " + b"\0\x07" * 50 + b"\x01\x00" * 50
@@ -71,6 +74,15 @@ class CutResults(InRoom):
         for value in ("I(x, y) / 257", "min(I(x, y), 255)", "select(I(x, y) >= 256, 255, 0)"):
             self.write("p.pipe", COPY.replace("I(x, y)", value).encode())
             self.assertEqual(self.tf("eval p.pipe deep.pgm")[2], "")
+
+    def test_ranges_show_what_cannot_be_cut(self):
+        table, head = [Line("t", b"t 0..1: 1 127", Text("t.table", b""))], Header(True, 1, 4, 4, 255, 0)
+        for value, can_be in (("I(x, y)", False), ("I(x, y) + 1", True), ("min(9 * I(x, y), 255)", False), ("I(x, y) - 900", False),
+                              ("I(x, y) + t[x]", True), ("I(x, y) / 2 + t[x]", False), ("M", True), ("I(x+1, y)", True)):
+            text = COPY.replace("image", "table t[0 .. 1];\nimage").replace("I(x, y)", value).encode()
+            self.assertEqual(can_be_above(text, {"R": 4, "C": 4}, head, table), can_be, value)
+        deep = head._replace(most=256)
+        self.assertTrue(can_be_above(COPY.encode(), {"R": 4, "C": 4}, deep))
 
     def test_a_hundredth_is_not_told(self):
         self.write("one.pgm", b"P5 10 10 65535 " + b"\0\x07" * 99 + b"\x01\x00")

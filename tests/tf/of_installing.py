@@ -81,6 +81,14 @@ class Installed(Prefix):
                      "fish/vendor_completions.d/tf.fish"):
             self.assertGreater(os.path.getsize(f"{self.prefix}/share/{path}"), 100)
 
+    def test_modules_are_compiled(self):
+        """Python tells where the code of each module comes from. Who calls tf may not write beside it."""
+        ran = self.run_installed(sys.executable, "-S", "-B", "-v", f"{self.prefix}/bin/tf", "eval", "p.pipe", "p.pgm")
+        told = [it.removeprefix("# code object from ").strip("'") for it in ran.stderr.decode().splitlines() if it.startswith("# code object from ")]
+        own = [it for it in told if it.startswith(self.prefix)]
+        self.assertEqual((ran.returncode, [it for it in own if it.endswith(".py")]), (0, []))
+        self.assertGreater(len(own), 20)
+
     def test_it_may_be_moved(self):
         moved = f"{self.room}/moved"
         shutil.copytree(self.prefix, moved, symlinks=True)

@@ -204,6 +204,14 @@ class RoundTheProgram(InRoom):
         started = [it.split()[:2] for it in self.started("eval p.pipe in.jpg -o out.jpg")]
         self.assertEqual(sorted(started), [["program", "eval"], ["vips", "copy"], ["vips", "copy"]])
 
+    @wants_vips
+    def test_what_cannot_be_cut_is_not_counted(self):
+        """A white picture, of which the ranges of the program's values show that no sample was more. To count takes one more run."""
+        self.write("in.ppm", Picture(70, 90, 3, 255, b"\xff" * (3 * 70 * 90)).raw())
+        subprocess.run(["vips", "copy", "in.ppm", "in.jpg"], cwd=self.room, check=True)
+        for form, wanted in (("ppm", ["program"]), ("jpg", ["program", "vips", "vips"])):
+            self.assertEqual(sorted(it.split()[0] for it in self.started(f"eval p.pipe in.{form} -o out.{form}")), wanted)
+
     def test_no_line_is_run_for_each_point(self):
         """As many lines for a picture of sixteen times the points, but for some for each block of rows."""
         counts = []

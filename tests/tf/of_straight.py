@@ -56,6 +56,12 @@ class Straight(InRoom):
         self.both("eval c.pipe in.jpg --quality 40", ".jpeg")
         self.both(f"eval p.pipe {OWN}/grey.jpg", ".jpg")
 
+    def test_vips_reads_from_the_program_where_nothing_can_be_cut(self):
+        self.write("doubled.pipe", DOUBLED.encode())
+        with mock.patch.object(straight, "passed_on", return_value=None):
+            self.both("eval c.pipe in.jpg", ".jpg")
+            self.assertFalse(self.is_straight("eval", "doubled.pipe", "in.jpg", "-o", "out.jpg"))
+
     def test_values_are_supplied_and_handed_on(self):
         self.write("asking.pipe", ASKING.encode())
         self.write("grey.jpg", content(f"{OWN}/grey.jpg"))

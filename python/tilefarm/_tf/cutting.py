@@ -1,12 +1,15 @@
 """How much of a result is cut: what is above the greatest sample of the output comes out as that."""
 from collections import Counter
-from typing import BinaryIO, NamedTuple
+from typing import TYPE_CHECKING, BinaryIO, NamedTuple
 
 from .joining import Input
 from .netpbm import HEAD, Header, header_of
 from .program import Program
-from .stage_pictures import TOTAL, Stages
+from .settings import given_values, settings
 from .text import Refused
+
+if TYPE_CHECKING:
+    from .stage_pictures import Stages
 
 # a greater share of cut samples is told
 MOST_SHARE = 0.01
@@ -28,13 +31,27 @@ def head_if_cut(written: bytes) -> Header | None:
 
 
 def share_cut(head: Header, given: Input, program: Program, words: list[str]) -> float:
-    """The share of cut samples of a result, which the program counts over the same input; 0 where it has no place for the counts."""
+    """The share of cut samples of a result, which the program counts over the same input; 0 where it has no place for the counts.
+    Where the ranges of its values show that none is cut, nothing is counted."""
+    if not can_be_above(given, program, words):
+        return 0.0
+    from .stage_pictures import Stages
+
     stages = Stages(given, program, words)
     counting = counting_of(stages)
     try:
         return counting.share(stages.totals(counting.items), head.rows * head.cols * head.parts)
     except Refused:
         return 0.0
+
+
+def can_be_above(given: Input, program: Program, words: list[str]) -> bool:
+    """Whether the ranges of a program's values leave room above the greatest sample of its output."""
+    from . import ranges
+
+    head = given.header()
+    values = settings(program, given_values(words), head)
+    return head is None or ranges.can_be_above(given.sections["program"].data, values, head, given.tables)
 
 
 class Counting(NamedTuple):
@@ -51,7 +68,7 @@ class Counting(NamedTuple):
         return sum(times * count for times, count in zip(self.times, counts)) / samples
 
 
-def counting_of(stages: Stages) -> Counting:
+def counting_of(stages: "Stages") -> Counting:
     output = stages.program.output()
     names = Counter(it.text for it in output.names)
     items = [stages.total(f"cut{at}", name, f"sum select({stages.read(name)} >= {output.most.value + 1}, 1, 0)") for at, name in enumerate(names)]

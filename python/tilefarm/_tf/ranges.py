@@ -3,12 +3,14 @@
 Sums, differences, products and shifts to the left are exact here, and wrapped only where something else uses them. So does the program, as it
 wraps modulo 2^32. A value whose exact numbers leave 32 bits can wrap: then it may be any number of 32 bits.
 """
-from typing import Callable, Iterator, NamedTuple
+import functools
+from typing import Callable, Iterable, Iterator, NamedTuple
 
 from .demands import Area, Ends
 from .joining import Input
+from .netpbm import Header
 from .parser import known_program
-from .parts.whole import Stage, Whole, WholeCase
+from .parts.whole import Fault, Stage, Whole, WholeCase
 from .program import Node, Span
 from .settings import settings
 from .tables import Line
@@ -30,9 +32,9 @@ class Table(NamedTuple):
     entries: tuple[int, ...]
 
     @classmethod
-    def from_line(cls, line: Line) -> "Table":
+    def from_line(cls, line: bytes) -> "Table":
         """The table of a line that is well formed: its entries are clamped to 32 bits."""
-        head, _, entries = line.data.decode("ascii").partition(":")
+        head, _, entries = line.decode("ascii").partition(":")
         numbers = (min(max(int(it), FULL.least), FULL.most) for it in entries.split())
         return cls(int(head.split()[1].partition("..")[0]), tuple(numbers))
 
@@ -219,7 +221,24 @@ def ranges_of(given: Input, values: dict[str, int]) -> Ranges:
     if program is None or head is None:
         raise Refused("tf does not read this job as tilefarm does")
     whole = Whole(text, settings(program, values, head), (head.rows, head.cols), head.parts)
-    return Ranges(whole, head.most, {it.name: Table.from_line(it) for it in given.tables})
+    return Ranges(whole, head.most, {it.name: Table.from_line(it.data) for it in given.tables})
+
+
+def can_be_above(text: bytes, values: dict[str, int], head: Header, tables: Iterable[Line] = ()) -> bool:
+    """Whether the output of a program can have values above its greatest sample, over pictures with this head. What is not known can."""
+    try:
+        found = found_ranges(text, tuple(values.items()), head, tuple((it.name, it.data) for it in tables))
+    except (Refused, Fault, KeyError, RecursionError):
+        return True
+    output = known_program(text).output()
+    return any(found[it.text].most > output.most.value for it in output.names)
+
+
+@functools.lru_cache(8)
+def found_ranges(text: bytes, values: tuple[tuple[str, int], ...], head: Header, tables: tuple[tuple[str, bytes], ...]) -> dict[str, Ends]:
+    """The ranges of all stages, which are found once for pictures of the same sides and samples."""
+    whole = Whole(text, dict(values), (head.rows, head.cols), head.parts)
+    return Ranges(whole, head.most, {name: Table.from_line(line) for name, line in tables}).found
 
 
 def wrapped_one(value: int) -> Ends:

@@ -1,4 +1,5 @@
 """From JPEG to a file that vips writes, straight on: vips reads, the program computes and vips writes side by side, and no picture is held here.
+Where the ranges of the program's values show that no sample of the result is cut, vips reads from the program itself.
 
 This is tried where nothing but the result is asked for. Nothing is told or written before all of it went well: what fails, and what there is
 to be said of, is left to the usual way.
@@ -10,7 +11,7 @@ import subprocess
 import threading
 from typing import Iterator, NamedTuple
 
-from . import converters, cutting, leaving
+from . import converters, cutting, leaving, ranges
 from .call import Call
 from .joining import SEPARATOR, ended
 from .netpbm import HEAD, MOST_SIDE, Header, Picture, header_of
@@ -18,7 +19,8 @@ from .output import ending, put, tell
 from .parser import known_program
 from .progress import doing
 from .running import program
-from .settings import given_values, supplied, with_greatest
+from .settings import given_values, settings, supplied, with_greatest
+from .sides import sides_of_output
 from .text import content
 from .words import Asked
 from .writing import JPEG, TIFF, WEBP, writing
@@ -30,13 +32,15 @@ GREATEST, PIECE = 255, 1 << 20
 
 
 class Job(NamedTuple):
-    """The program's text, its words, the bytes of the picture's file, and how many planes this and the result have."""
+    """The program's text, its words, the bytes of the picture's file, how many planes it has, what the head of the result says, and whether
+    samples of that can be cut."""
 
     text: bytes
     words: list[str]
     given: bytes
     planes: int
-    parts: int
+    result: Header
+    can_be_cut: bool
 
 
 class Counted(NamedTuple):
@@ -55,7 +59,7 @@ def is_done(asked: Asked, all_words: list[str]) -> bool:
     if job is None:
         return False
     how = writing(job.given, asked.own, target, ending(target))
-    fitting, said = how.fitting(Picture(1, 1, job.parts, GREATEST, b""))
+    fitting, said = how.fitting(Picture(1, 1, job.result.parts, GREATEST, b""))
     counted = None
     # (what does not even start is told by the usual way too)
     with contextlib.suppress(OSError, RuntimeError), leaving.room() as room, doing(f"tilefarm eval {' '.join(asked.files)}"):
@@ -68,7 +72,7 @@ def is_done(asked: Asked, all_words: list[str]) -> bool:
         Call(all_words).judge_counted(counted.head)
     for it in said:
         tell(f"{target}: {it}")
-    put(target, how.fitting(Picture(counted.head.cols, counted.head.rows, job.parts, GREATEST, b""))[0].finished(data))
+    put(target, how.fitting(Picture(counted.head.cols, counted.head.rows, counted.head.parts, GREATEST, b""))[0].finished(data))
     return True
 
 
@@ -88,13 +92,17 @@ def job_of(asked: Asked) -> Job | None:
         return None
     values, sides = given_values(asked.words), Header(True, head.bands, head.cols, head.rows, GREATEST, 0)
     text = with_greatest(text, found, values, sides)
-    items = {it.kind: it for it in known_program(text).items}
+    whole = known_program(text)
+    items = {it.kind: it for it in whole.items}
     if not {"image", "output"} <= items.keys() or {"accum", "table"} & items.keys():
         return None
     if len(items["image"].names) != head.bands or items["output"].most.value != GREATEST:
         return None
-    more = [f"{name}={value}" for name, value in supplied(found, values, sides).items()]
-    return Job(text, [*asked.words, *more], content(asked.files[1]), head.bands, len(items["output"].names))
+    more = supplied(found, values, sides)
+    rows, cols = sides_of_output(whole, settings(whole, values, sides))
+    result = Header(True, len(items["output"].names), cols, rows, GREATEST, 0)
+    can_be_cut = not rows * cols or ranges.can_be_above(text, settings(whole, values, sides), sides)
+    return Job(text, [*asked.words, *(f"{name}={value}" for name, value in more.items())], content(asked.files[1]), head.bands, result, can_be_cut)
 
 
 def counted_in(room: str, job: Job, writes: list[str]) -> Counted | None:
@@ -107,10 +115,11 @@ def counted_in(room: str, job: Job, writes: list[str]) -> Counted | None:
             if source is None:
                 return None
             children = [start(reads, stdin=subprocess.DEVNULL, stdout=sink, stderr=told[0], cwd=room, env={**env, **converters.HARDENED}),
-                        start([program(), "eval", *job.words], stdin=source, stdout=subprocess.PIPE),
-                        start(writes, stdin=subprocess.PIPE, stdout=subprocess.DEVNULL, stderr=told[1], cwd=room, env=env)]
+                        start([program(), "eval", *job.words], stdin=source, stdout=subprocess.PIPE)]
+            given = subprocess.PIPE if job.can_be_cut else children[1].stdout
+            children.append(start(writes, stdin=given, stdout=subprocess.DEVNULL, stderr=told[1], cwd=room, env=env))
         with killed_after(converters.SECONDS, children):
-            counted = passed_on(children[1], children[2])
+            counted = passed_on(children[1], children[2]) if job.can_be_cut else left_to(children[1], job.result)
             statuses = [it.wait() for it in children] if counted else [1]
         return counted if not any(statuses) and not any(os.fstat(it.fileno()).st_size for it in told) else None
 
@@ -158,6 +167,12 @@ def passed_on(source: subprocess.Popen, sink: subprocess.Popen) -> Counted | Non
             count, greatest = count + length, greatest + room.count(GREATEST, 0, length)
             give(sink, view[:length])
     return Counted(head, greatest) if count == head.end + head.length() else None
+
+
+def left_to(source: subprocess.Popen, result: Header) -> Counted:
+    """Leaves the result to the process that reads it: none of its samples is cut."""
+    source.stdout.close()
+    return Counted(result, 0)
 
 
 def give(sink: subprocess.Popen, data: bytes | memoryview) -> None:
