@@ -2,8 +2,9 @@
 from __future__ import annotations
 
 import functools
+import operator
 from dataclasses import dataclass, field, replace
-from typing import Mapping
+from typing import Any, Mapping
 
 import numpy as np
 import numpy.typing as npt
@@ -16,7 +17,7 @@ from ._tf.parser import known_program
 from ._tf.program import Affine
 from ._tf.program import Program as Parsed
 from ._tf.ranges import Ranges, ranges_of
-from ._tf.settings import settings, supplied, with_greatest
+from ._tf.settings import LEAST, MOST, settings, supplied, with_greatest
 from ._tf.sides import sides_of_output
 from ._tf.tables import Line
 from ._tf.text import Refused as RefusedByTf
@@ -50,7 +51,7 @@ class Job:
 
     def words(self) -> list[str]:
         """The values of parameters, as the command line takes them."""
-        return [f"{name}={int(value)}" for name, value in self.values.items()]
+        return [f"{name}={value}" for name, value in self.values.items()]
 
     def table_bytes(self) -> bytes:
         return b"".join(it.data + b"\n" for it in self.lines)
@@ -100,6 +101,21 @@ class Job:
     def fault_of_line(self, line: str, status: int) -> Fault:
         built_at = next((self.places[it] for it in line.split() if it in self.places), "")
         return fault_of(line, status, self.situation(), built_at)
+
+
+def values_of(params: Params) -> dict[str, int]:
+    """The values of parameters as numbers of Python. Raises Refused for one that is no whole number of 32 bits."""
+    return {name: value_of(name, value) for name, value in params.items()}
+
+
+def value_of(name: str, given: Any) -> int:
+    try:
+        value = operator.index(given)
+    except TypeError:
+        raise Refused(f"the parameter {name} is {given!r}, and a parameter is a whole number") from None
+    if not LEAST <= value <= MOST:
+        raise Refused(f"the parameter {name} is {value}, and a parameter is a number from {LEAST} to {MOST}")
+    return value
 
 
 def lines_of(text: bytes, tables: Tables, values: dict[str, int]) -> tuple[Line, ...]:

@@ -1,7 +1,7 @@
 """Pictures larger than one run takes: in parts that the planner of `tf eval --parts` makes exactly, here or by Dask."""
 from __future__ import annotations
 
-from typing import TYPE_CHECKING, Any, NamedTuple
+from typing import Any, NamedTuple
 
 import numpy as np
 import numpy.typing as npt
@@ -13,16 +13,16 @@ from ._tf.parts import Output, Part, Plan
 from ._tf.text import Refused as RefusedByTf
 from .errors import Refused
 from .jobs import Job, Params, Tables
-from .pictures import Array, Samples, Shape, samples_of
+from .pictures import MOST_SAMPLE, Array, Samples, Shape, refuse_other_pictures, samples_of
 from .processes import run as run_process
+from .program import Program
 from .results import Result, Totals, result_of
-
-if TYPE_CHECKING:
-    from .program import Program
 
 SIDE = 2048
 # the side below which no grid of parts is looked for
 LEAST_SIDE = 16
+# the types whose samples are never above 255
+NARROW = (np.dtype(np.bool_), np.dtype(np.int8), np.dtype(np.uint8))
 # the status of the program where it refuses a program
 REFUSED = 3
 JOINED: dict[str, np.ufunc] = {"sum": np.add, "min": np.minimum, "max": np.maximum}
@@ -83,19 +83,36 @@ def dtype_of(output: Output) -> type[np.uint8] | type[np.uint16]:
 # Dask
 
 
-def map_parts(program: Program, array: Any, *, tables: Tables | None = None, params: Params | None = None, side: int = SIDE) -> Any:
+def map_parts(program: Program | str, array: Any, *, tables: Tables | None = None, params: Params | None = None, side: int = SIDE) -> Any:
     """The picture of a program over a dask.array, as a dask.array: lazy, part by part, exactly what one run over the whole would write.
 
     The array is (H, W) or (H, W, 3), of whole numbers from 0 to 65535, with sides of any length and chunks of any shape. The chunks of the
     result are the parts, of at most `side` by `side` points. Each part reads the box of the array that it needs, however the program's
-    positions, remainders and scales are. A default client of Dask's runs the parts; its workers need this package.
+    positions, remainders and scales are. A default client of Dask's runs the parts; its workers need this package. Raises Refused for what
+    is no picture by its shape and type, before anything is computed, and Fault where the program is refused.
     """
     import dask.array as da
 
-    shape: Shape = (array.shape[0], array.shape[1])
-    job = program.job(shape, 1 if array.ndim == 2 else array.shape[2], tables=tables, params=params)
+    known = Program(program) if isinstance(program, str) else program
+    job = job_over_lazy(known, array, tables, params)
     rows = ([piece_of(it, array, job.name) for it in row] for row in pieces_of(job, side))
     return da.concatenate([da.concatenate(row, axis=1) for row in rows], axis=0)
+
+
+def job_over_lazy(program: Program, array: Any, tables: Tables | None, params: Params | None) -> Job:
+    """The job over an array whose samples are not known yet. Raises Refused where one of them would have to be: the array's type does not say
+    whether the greatest sample is 255 or 65535, and the program asks for it."""
+    if np.isnan(array.shape).any():
+        raise Refused(f"the array has the shape {array.shape}, whose sides are not known: take array.compute_chunk_sizes()")
+    refuse_other_pictures(array.shape, array.dtype)
+    shape: Shape = (array.shape[0], array.shape[1])
+    narrow, wide = (program.job(shape, 1 if array.ndim == 2 else 3, most, tables, params) for most in (255, MOST_SAMPLE))
+    if array.dtype in NARROW:
+        return narrow
+    if array.dtype != np.uint16 and (narrow.text, narrow.values) != (wide.text, wide.values):
+        raise Refused(f"the program asks for the greatest sample, which an array of {array.dtype} does not tell before it is computed: take "
+                      "array.astype(np.uint8) or np.uint16")
+    return wide
 
 
 class Piece(NamedTuple):

@@ -54,28 +54,31 @@ def head_of(shape: Shape, planes: int, most: int = 255) -> bytes:
 def samples_of(given: npt.ArrayLike) -> Samples:
     """The samples of an array (H, W) or (H, W, 3) of whole numbers from 0 to 65535. Raises Refused for any other."""
     array = np.asarray(given)
-    if array.ndim not in (2, 3) or (array.ndim == 3 and array.shape[2] != 3):
-        raise Refused(f"the array has the shape {array.shape}, and a picture has (H, W), or (H, W, 3) in colours{shape_cure(array)}")
-    if 0 in array.shape:
-        raise Refused(f"the array has the shape {array.shape}, which has no sample")
+    refuse_other_pictures(array.shape, array.dtype)
     return Samples(whole_samples(array))
 
 
-def shape_cure(array: Array) -> str:
+def refuse_other_pictures(shape: tuple[int, ...], dtype: np.dtype[Any]) -> None:
+    """Raises Refused where no array of this shape and type is a picture, whatever its samples are."""
+    if len(shape) not in (2, 3) or (len(shape) == 3 and shape[2] != 3):
+        raise Refused(f"the array has the shape {shape}, and a picture has (H, W), or (H, W, 3) in colours{shape_cure(shape)}")
+    if 0 in shape:
+        raise Refused(f"the array has the shape {shape}, which has no sample")
+    if dtype.kind not in "iub":
+        raise Refused(f"the array has samples of {dtype}, and a picture has whole numbers from 0 to {MOST_SAMPLE}: scale it, round it, "
+                      "and take array.astype(np.uint8) or np.uint16")
+
+
+def shape_cure(shape: tuple[int, ...]) -> str:
     """What to write for arrays that are nearly pictures."""
     of_planes = {1: ": take array[..., 0]", 4: ": take array[..., :3], without transparency"}
-    return of_planes.get(array.shape[2], "") if array.ndim == 3 else ""
+    return of_planes.get(shape[2], "") if len(shape) == 3 else ""
 
 
 def whole_samples(array: Array) -> Array:
     """The array in uint8, or in uint16 where a sample needs that."""
     if array.dtype in (np.dtype(np.uint8), np.dtype(np.uint16)):
         return array
-    if array.dtype == np.bool_:
-        return array.astype(np.uint8)
-    if array.dtype.kind not in "iu":
-        raise Refused(f"the array has samples of {array.dtype}, and a picture has whole numbers from 0 to {MOST_SAMPLE}: scale it, round it, "
-                      "and take array.astype(np.uint8) or np.uint16")
     least, most = int(array.min()), int(array.max())
     if least < 0 or most > MOST_SAMPLE:
         raise Refused(f"the array has samples from {least} to {most}, and a picture has those from 0 to {MOST_SAMPLE}")

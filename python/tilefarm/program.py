@@ -13,10 +13,11 @@ import numpy.typing as npt
 
 from ._tf import graph
 from ._tf.joining import ended, refuse_separator
+from ._tf.netpbm import MOST_SIDE
 from ._tf.stages import PLAN, STAGE, stages_of
 from ._tf.text import Refused as RefusedByTf
 from .errors import Refused, TilefarmError
-from .jobs import Job, Params, Tables, lines_of, parsed
+from .jobs import Job, Params, Tables, lines_of, parsed, values_of
 from .pictures import MOST_SAMPLE, Array, Samples, Shape, samples_of
 from .processes import run as run_process
 from .results import Result, result_of
@@ -138,7 +139,7 @@ class Program:
 
     def job(self, shape: Shape, planes: int, most: int = 255, tables: Tables | None = None, params: Params | None = None) -> Job:
         """The job over a picture of these sides, with the program's own values and those that are given here."""
-        values = {**self.params, **(params or {})}
+        values = values_of({**self.params, **(params or {})})
         draft = Job(self.name, one_section(self.name, self.text_for(shape)), values, (), shape, planes, most, self.places()).with_supplied()
         return replace(draft, lines=lines_of(draft.text, {**self.tables, **(tables or {})}, draft.settings()))
 
@@ -149,6 +150,9 @@ class Program:
             raise Refused(f"{shape} is no shape of a picture: (rows, columns), or (rows, columns, 3)")
         most = MOST_SAMPLE if isinstance(sides, np.ndarray) and sides.dtype == np.uint16 else 255
         rows, cols = shape[:2]
+        if max(rows, cols) > MOST_SIDE:
+            raise Refused(f"{shape} is more than one run takes, and check and plan tell of one run: its sides are up to {MOST_SIDE}. run and map_parts "
+                          "take larger pictures, in parts")
         return self.job((rows, cols), planes_of(self.text_for((rows, cols)), len(shape)), most, tables, params)
 
     def __repr__(self) -> str:

@@ -120,6 +120,14 @@ class Arrays(unittest.TestCase):
         with self.assertRaises(OSError):
             Program.from_file(f"{path}.none")
 
+    def test_parameters_are_whole_numbers(self):
+        text = COPY.replace("param C;", "param C; param T;").replace("I(x, y)", "I(x, y) + T")
+        for value in (3, np.uint8(3), np.int64(-2)):
+            assert_array_equal(tilefarm.run(text, np.uint8([[9]]), params={"T": value}).image, [[9 + int(value)]])
+        for value, why in ((1.5, "T is 1.5"), ("3", "T is '3'"), (None, "T is None"), (2**31, "to 2147483647"), (-2**31 - 1, "from -2147483648")):
+            with self.subTest(value=value), self.assertRaisesRegex(Refused, why):
+                Program(text, params={"T": value}).run(np.uint8([[9]]))
+
     def test_what_comments_ask_for(self):
         text = COPY.replace("param C;", "param C;\nparam M; # greatest sample\nparam H; # R / 2, rounded up").replace("I(x, y)", "M - I(x, y) + H")
         text = text.replace("max 255;", "max 255; # greatest sample")
@@ -141,6 +149,9 @@ class Arrays(unittest.TestCase):
         for wrong in ((3,), (0, 3), (1, 2, 3, 4)):
             with self.assertRaisesRegex(Refused, "no shape"):
                 program.check(wrong)
+        for told in (program.check, program.plan):
+            with self.assertRaisesRegex(Refused, "its sides are up to 4096"):
+                told((9, 4097))
         self.assertEqual(len(check.program + check.input), 128)
         plan = program.plan((20, 30))
         self.assertEqual((plan["across"], plan["edges"]), (tilefarm.Cost(True, None), tilefarm.Cost(False, 20 * 30 + 2 * 18 * 28)))

@@ -71,6 +71,17 @@ class Texts(unittest.TestCase):
         self.assertRegex(told, r"f: func, rows 1\.\.7, columns 0\.\.19: the largest domain on which its reads are inside \(of_builder\.py:\d+\)")
         self.assertRegex(told, r"stages 2 of 64, nodes 3 of 4096, bytes \d+ of 65536")
 
+    def test_the_greatest_sample_is_a_whole_number(self):
+        program = tf.output(tf.func("f", here), max=np.uint8(200))
+        self.assertTrue(program.text.endswith("output f max 200;\n"))
+        for wrong in (200.0, "200", None):
+            with self.assertRaisesRegex(BuildError, r"of_builder\.py:\d+: .* is no whole number"):
+                tf.output(tf.func("f", here), max=wrong)
+
+    def test_the_line_is_the_callers_where_numpy_is_between(self):
+        with self.assertRaisesRegex(BuildError, rf"of_builder\.py:{sys._getframe().f_lineno + 1}: a condition"):
+            np.clip(here, 0, 9)
+
     def test_numbers_of_numpy(self):
         given = picture(3, 3)
         assert_array_equal(output(here * np.int8(2) + np.uint64(1)).run(given).image, np.minimum(given * 2.0 + 1, 255))
@@ -214,6 +225,13 @@ class Refusals(unittest.TestCase):
         wrong, line = I[x + 1, y], sys._getframe().f_lineno
         with self.assertRaisesRegex(BuildError, f":{line}: last reads rows 1"):
             tf.output(tf.func("last", wrong, domain=I))
+
+    def test_the_line_of_a_read_is_not_that_of_its_variables(self):
+        row, col = tf.vars("row col")
+        for make, why in ((lambda: I[y, x], "transposed"), (lambda: I[here, y], "does not depend"),
+                          (lambda: tf.func("f", here + I[row, col]), "both variables")):
+            with self.assertRaisesRegex(BuildError, f"of_builder.py:{make.__code__.co_firstlineno}: .*{why}"):
+                make()
 
 
 class Limits(unittest.TestCase):

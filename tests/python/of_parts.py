@@ -26,6 +26,8 @@ accum most [0 .. 0] over (x in [0 .. R-1], y in [0 .. C-1]) max f(x, y) at 0;
 output f max 65535;
 """
 PICTURE_ALONE = "\n".join(it for it in MOVED.splitlines() if not it.startswith("accum"))
+GREATEST = COPY.replace("param C;", "param C;\nparam M; # greatest sample").replace("I(x, y)", "M - I(x, y)")
+GREATEST = GREATEST.replace("max 255;", "max 255; # greatest sample")
 TALL = COPY.replace("image", "table tone[0 .. 255];\nimage").replace("I(x, y)", "tone[I(x, y)] + x % 2")
 
 
@@ -99,6 +101,26 @@ class ByDask(unittest.TestCase):
         given = self.of_dask(picture(64, 64), 16).map_blocks(note, dtype=np.uint8)
         map_parts(Program(COPY), given, side=16)[:16, 16:32].compute(scheduler="synchronous")
         self.assertEqual(read, [(0, 1)])
+
+    def test_a_program_that_asks_for_the_greatest_sample(self):
+        """The array's type says it, where that does; an array of numbers that may be either is refused."""
+        for dtype in (np.uint8, np.uint16, np.bool_, np.int8):
+            given = picture(40, 30, dtype=dtype) if np.dtype(dtype).kind == "u" else (picture(40, 30) % 2).astype(dtype)
+            found, wanted = map_parts(Program(GREATEST), self.of_dask(given, 11), side=16), tf.run(GREATEST, given).image
+            with self.subTest(dtype=dtype):
+                self.assertEqual(found.dtype, wanted.dtype)
+                assert_array_equal(found.compute(), wanted)
+        with self.assertRaisesRegex(Refused, "an array of int64 does not tell"):
+            map_parts(Program(GREATEST), self.of_dask(picture(40, 30).astype(np.int64), 11))
+        given = picture(40, 30, dtype=np.uint16).astype(np.int64)
+        assert_array_equal(map_parts(PICTURE_ALONE, self.of_dask(given, 11), side=16).compute(), tf.run(PICTURE_ALONE, given).image)
+
+    def test_what_is_no_picture_is_refused_before_it_is_computed(self):
+        grey = self.of_dask(picture(20, 20), 8)
+        for given, why in ((grey * 1.0, "float64"), (grey[0], r"\(20,\)"), (grey[..., None], r"\[\.\.\., 0\]"), (grey[:0], "no sample"),
+                           (grey[grey[:, 0] > 9], "compute_chunk_sizes")):
+            with self.subTest(why), self.assertRaisesRegex(Refused, why):
+                map_parts(COPY, given)
 
     def test_colours_and_tables(self):
         given = picture(40, 30, 3)

@@ -215,6 +215,16 @@ class DrawnWorlds(InRoom):
         lives = [it.get("d").count("M") for it in self.svg.iter(f"{SVG}path") if it.get("class") == "life"]
         self.assertEqual(lives, [2, 1])
 
+    def test_long_words_end_inside_the_drawing(self):
+        """(A letter of DejaVu Sans takes 0.6 of the font's size, in the mean of English words.)"""
+        self.write("p.pipe", SOFT.replace(b"soft", b"softened_twice"))
+        self.write("p.script", DRAWN.replace(b"make 0 0:2:0:0", b"merge 1 0\nmake 1 0:2:0:0"))
+        self.drawn()
+        words = [it for it in self.svg.iter(f"{SVG}text") if it.get("class") == "word"]
+        ends = [float(it.get("x")) + 0.6 * float(it.get("font-size")) * len(it.text) for it in words]
+        self.assertIn("makes softened_…", [it.text for it in words])
+        self.assertLessEqual(max(ends), float(self.svg.get("width")))
+
     def test_a_node_shows_the_tiles_that_it_holds(self):
         # after its restart node 0 holds the two tiles of `wide` that it kept, each of two rows and four columns
         clips = [it.find(f"{SVG}path").get("d") for it in self.drawn()[18].iter(f"{SVG}clipPath")]

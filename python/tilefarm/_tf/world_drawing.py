@@ -12,8 +12,8 @@ from .world_view import Shown, shown_stages
 from .world_words import said
 
 GUTTER, COLUMN, HEAD, ROW, THUMB, GAP = 30, 122, 30, 24, 40, 6
-# how far the line of a node is from the left of its column, and how many letters stand to its right
-LIFE, LETTERS = 20, 16
+# how far the line of a node is from the left of its column, how many letters stand to its right and how far from it, and how wide a letter is
+LIFE, LETTERS, ASIDE, LETTER = 20, 16, 10, 7
 MOST_THUMBS = 3
 LABELS = {"keep": "keeps", "restart": "restarts", "retire": "retires"}
 STYLE = """
@@ -66,7 +66,9 @@ class WorldDrawing:
         self.tops = [HEAD]
         for at in range(len(self.steps)):
             self.tops.append(self.tops[-1] + ROW + (THUMB + GAP if self.changed(at) is not None else 0))
-        self.width, self.height = GUTTER + self.nodes * self.column, self.tops[-1] + GAP
+        # (what stands beside the last node has nothing to its right that it may go over)
+        self.width = max(GUTTER + self.nodes * self.column, int(self.x(self.nodes - 1)) + ASIDE + LETTERS * LETTER)
+        self.height = self.tops[-1] + GAP
 
     def state(self, at: int, node: int) -> State:
         """What a node holds before an event."""
@@ -114,7 +116,7 @@ class WorldDrawing:
             self.cross(self.x(node), self.y(at), "refused")
         else:
             self.mark(at, step)
-        self.text(self.x(node) + 10, self.y(at) + 4, short(self.label(step)), 11)
+        self.text(self.x(node) + ASIDE, self.y(at) + 4, short(self.label(step)), 11)
         changed = self.changed(at)
         if changed is not None:
             self.thumbnails(at, changed)
@@ -174,7 +176,7 @@ class WorldDrawing:
 
     def thumbnails(self, at: int, node: int) -> None:
         """What a node holds after an event, stage by stage."""
-        state, x, y = self.state(at + 1, node), self.x(node) + 10, self.tops[at] + ROW
+        state, x, y = self.state(at + 1, node), self.x(node) + ASIDE, self.tops[at] + ROW
         if state.is_retired:
             self.text(x, y + THUMB / 2, "holds nothing", 11)
             self.text(x, y + THUMB / 2 + 14, "of the job", 11)

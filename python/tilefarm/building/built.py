@@ -6,7 +6,7 @@ from typing import Any, Mapping, Union
 from ..pictures import Shape
 from ..program import Program
 from .ends import Range
-from .expressions import MOST_NODES
+from .expressions import MOST_NODES, whole
 from .layout import AXES, Layout
 from .sites import site
 from .stages import Accum, Func
@@ -74,9 +74,9 @@ def output(*functions: Func, max: int = 255, totals: Union[Accum, list[Accum], t
         site().refuse(f"an output has one function, or three in colours, and not {len(functions)}")
     for it in functions:
         refuse_other(it, Func, "an output has functions: tf.func(name, value) makes one")
-    if not 1 <= max <= MOST_SAMPLE:
+    if not 1 <= whole(max) <= MOST_SAMPLE:
         site().refuse(f"the greatest sample is 1 to {MOST_SAMPLE}, and not {max}")
-    return Built([*functions], listed(totals), max, shape)
+    return Built([*functions], listed(totals), whole(max), shape)
 
 
 def totals(*accums: Accum, shape: Shape = USUAL_SHAPE) -> Built:

@@ -5,6 +5,7 @@ from typing import NamedTuple, NoReturn
 
 from .._tf.demands import Way
 from .expressions import Binary, ByNumber, Expr, Number, Side, Unary, Variable
+from .sites import site
 
 MOST_FACTOR = MOST_DIVISOR = 16
 MOST_ADDEND = 4096
@@ -54,12 +55,13 @@ def joined(word: str, parts: list[Linear]) -> Linear | None:
 
 
 def way_of(it: Expr, axis: int) -> Way:
-    """How an index goes along an axis: (factor * v + more) / divisor. Refuses an index of another form, and numbers past their limits."""
+    """How an index goes along an axis: (factor * v + more) / divisor. Refuses an index of another form, and numbers past their limits, with the line
+    that reads."""
     factor, more, divisor = parts_of(it, axis)
     for number, least, most, what in ((factor, 1, MOST_FACTOR, "factor"), (divisor, 1, MOST_DIVISOR, "divisor"),
                                       (more, -MOST_ADDEND, MOST_ADDEND, "addend")):
         if not least <= number <= most:
-            it.site.refuse(f"the {what} of an index is {least} to {most}, and not {number}")
+            site().refuse(f"the {what} of an index is {least} to {most}, and not {number}")
     return Way(factor, more, divisor)
 
 
@@ -69,7 +71,7 @@ def parts_of(it: Expr, axis: int) -> tuple[int, int, int]:
     if found is None:
         return parts_of_quotient(it, axis)
     if (found.rows, found.cols) != (0, 0) or found[1 - axis] or not found[axis]:
-        refuse_index(it, found, axis)
+        refuse_index(found, axis)
     return found[axis], found.number, 1
 
 
@@ -84,14 +86,14 @@ def parts_of_quotient(it: Expr, axis: int) -> tuple[int, int, int]:
         if number is not None and number.is_number():
             factor, more, divisor = parts_of(quotient, axis)
             return factor, more + divisor * number.number * (-1 if it.word == "-" else 1), divisor
-    refuse_index(it, None, axis)
+    refuse_index(None, axis)
 
 
-def refuse_index(it: Expr, found: Linear | None, axis: int) -> NoReturn:
+def refuse_index(found: Linear | None, axis: int) -> NoReturn:
     """Refuses an index that is no multiple of its variable, plus a number, divided by a number."""
     names = ("row", "column")
     if found is not None and found[1 - axis] and not found[axis]:
-        it.site.refuse(f"the first index is of the row and the second of the column: nothing is read transposed (here the {names[axis]} index has the "
-                       f"variable of the {names[1 - axis]}s)")
-    it.site.refuse(f"the {names[axis]} index is no (factor * variable + number) // number: what is read at a point does not depend on data, and "
-                   "tf.where chooses among reads")
+        site().refuse(f"the first index is of the row and the second of the column: nothing is read transposed (here the {names[axis]} index has the "
+                      f"variable of the {names[1 - axis]}s)")
+    site().refuse(f"the {names[axis]} index is no (factor * variable + number) // number: what is read at a point does not depend on data, and "
+                  "tf.where chooses among reads")

@@ -214,11 +214,11 @@ def histogram(name: str, at: Given, bins: int = 256) -> Accum:
 def variables_of(*given: Expr) -> tuple[Variable, Variable]:
     """The two variables of expressions; the usual ones where they have none."""
     found: list[Variable | None] = [None, None]
-    for it in (part for top in given for part in top.walk()):
+    for top, it in ((top, part) for top in given for part in top.walk()):
         if isinstance(it, Variable):
             known = found[it.axis]
             if known is not None and known.name != it.name:
-                it.site.refuse(f"{known.name} and {it.name} are both variables of the {('rows', 'columns')[it.axis]}, and a function has one")
+                top.site.refuse(f"{known.name} and {it.name} are both variables of the {('rows', 'columns')[it.axis]}, and a function has one")
             found[it.axis] = it
     first, second = (Variable(USUAL[axis], axis) if known is None else known for axis, known in enumerate(found))
     return first, second
