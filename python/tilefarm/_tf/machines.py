@@ -100,10 +100,12 @@ def sent_by_value() -> Callable:
     return names["work"]
 
 
-def machines_for(asked: Asked) -> "Machines":
-    """The workers that the words of a command line ask for."""
+def machines_for(asked: Asked, left_out: frozenset[str] = frozenset()) -> "Machines":
+    """The workers that the words of a command line ask for, without those that were left out before."""
     title = escaped(os.path.basename(asked.files[0])) if asked.files[0] != "-" else "program"
-    return Machines(address_of(asked.own), title, seconds_of(asked, "--task-seconds", SECONDS), seconds_of(asked, "--wait", PATIENCE))
+    found = Machines(address_of(asked.own), title, seconds_of(asked, "--task-seconds", SECONDS), seconds_of(asked, "--wait", PATIENCE))
+    found.left_out |= left_out
+    return found
 
 
 def address_of(own: dict[str, str]) -> str:
@@ -172,7 +174,9 @@ class Machines:
         self.work, self.ended = sent_by_value(), queue.Queue()
         self.flights: dict[str, Flight] = {}
         self.again: deque[Attempt] = deque()
+        # the workers that are left out, and those of them of which nobody has heard yet (left_out_since)
         self.left_out: set[str] = set()
+        self.untold: list[str] = []
         self.seen = self.looked = time.monotonic()
         # how long tasks took, when each worker answered last, and which worker a slow task is with, since when
         self.took: deque[float] = deque(maxlen=1000)
@@ -379,6 +383,7 @@ class Machines:
         if worker in self.left_out:
             return
         self.left_out.add(worker)
+        self.untold.append(worker)
         tell(f"worker {escaped(worker)} is left out: {why}")
         if not self.threads():
             raise Refused(f"no worker of the scheduler {self.address} is left", 4)
@@ -386,6 +391,11 @@ class Machines:
             if other == worker:
                 self.again.append(self.flights[key].attempt)
                 self.call_off(self.flights[key])
+
+    def left_out_since(self) -> list[str]:
+        """The workers that were left out since this was asked last. Whoever took their answers takes none of them for good any more."""
+        found, self.untold = self.untold, []
+        return found
 
     def look_after(self) -> None:
         """Sends tasks again whose workers are all gone or slow, and gives up where there has been no worker for long."""

@@ -1,6 +1,6 @@
-"""Makes a worker odd, as ODD_WORKER says: it lies, babbles, is slow, lacks memory at first, stops its second program, answers in the form of
-its name (forms.py), answers nothing, or dies in the middle of its second task, or of its first one. A noisy one is tf itself, with an engine that tells things, and so is
-one that draws late: of what it gets it compares all but the first two.
+"""Makes a worker odd, as ODD_WORKER says: it lies, babbles, lies once and then babbles, is slow, lacks memory at first, stops its second
+program, answers in the form of its name (forms.py), answers nothing, or dies in the middle of its second task, or of its first one. A noisy one is
+tf itself, with an engine that tells things, and so is one that draws late: of what it gets it compares all but the first two.
 
 A patient one ends nothing before others were odd, ODD_COUNT of them, or one: else the patient ones might do all tasks before. Each of the
 others says that it was, by a file that begins with ODD_FILE.
@@ -64,12 +64,20 @@ class Behind(bytes):
         return forms.FORMS[name][0](head, bytes(self))
 
 
+def lied(answer):
+    """What a run wrote, with another last digit."""
+    return answer[:-2] + (b"1" if answer[-2:-1] == b"0" else b"0") + answer[-1:]
+
+
 def changed(ran):
     if KIND == "forms":
         ran.stdout = Behind(ran.stdout)
     if KIND == "lies":
-        ran.stdout = ran.stdout[:-2] + (b"1" if ran.stdout[-2:-1] == b"0" else b"0") + ran.stdout[-1:]
+        ran.stdout = lied(ran.stdout)
         was_odd(f"lies-{len(runs)}")
+    if KIND == "lies-and-babbles":
+        ran.stdout = lied(ran.stdout) if len(runs) == 1 else bytes(1 << 24)
+        was_odd(f"{KIND}-{len(runs)}")
     if KIND == "babbles":
         ran.stdout = b"node 1 00\n"
     if KIND == "fails" and len(runs) == 1:
