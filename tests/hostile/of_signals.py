@@ -89,6 +89,9 @@ class Signals(InRoom):
         for name, data in self.files.items():
             self.write(name, data)
         os.mkdir(f"{self.room}/tmp")
+        # (a shell starts what runs behind it with signals that are ignored, and tf goes on to ignore them)
+        for it in WATCHED:
+            self.addCleanup(signal.signal, it, signal.signal(it, signal.default_int_handler if it == signal.SIGINT else signal.SIG_DFL))
 
     def ended(self, process: int) -> int:
         """The status of a process, which ends soon."""
@@ -136,6 +139,23 @@ class Signals(InRoom):
         *before, last = map(int, ran.stdout.split())
         self.assertEqual((ran.returncode, ran.stderr, set(before), last), (0, "", {130}, 0))
         self.assertGreater(len(before), 10)
+
+    def test_no_half_of_a_part_is_left_where_parts_are_kept(self):
+        def ends_before_the_name() -> None:
+            usual = os.replace
+
+            def replace(*words) -> None:
+                # (parts are done by a thread beside that which ends tf)
+                os.kill(os.getpid(), signal.SIGTERM)
+                time.sleep(LONGEST)
+                usual(*words)
+
+            os.replace = replace
+
+        line = "eval p.pipe p.pgm --parts 40 --resume made -o made.pgm".split()
+        self.assertEqual(call(line, self.room, first=ends_before_the_name).status, 143)
+        self.assertEqual(os.listdir(f"{self.room}/made"), [])
+        self.assertEqual(call(line, self.room).status, 0)
 
     def test_a_result_is_whole_or_not_there(self):
         self.assertEqual(call("eval p.pipe p.pgm -o made.pgm".split(), self.room).status, 0)

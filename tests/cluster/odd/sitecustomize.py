@@ -18,7 +18,7 @@ import warnings
 KIND, FILE, COUNT = os.environ.get("ODD_WORKER", ""), os.environ.get("ODD_FILE", ""), int(os.environ.get("ODD_COUNT", "1"))
 usual, runs = subprocess.run, []
 # when a patient worker waits no more
-UNTIL = time.monotonic() + 200
+UNTIL = time.monotonic() + 1500
 
 
 def odd(words, **more):
