@@ -362,7 +362,8 @@ class Machines:
         self.again.append(attempt)
 
     def forget_copies(self, task: Task) -> None:
-        """Calls off what else is on its way of a task that has ended."""
+        """Calls off what else is on its way, or was to be sent, of a task that has ended."""
+        self.again = deque(it for it in self.again if it.task is not task)
         for it in [it for it in self.flights.values() if it.task is task]:
             self.call_off(it)
 
