@@ -24,7 +24,7 @@ from .text import Refused, content, escaped
 from .words import Asked
 
 TASK = f"{os.path.dirname(os.path.realpath(__file__))}/cluster_task.py"
-# seconds: between two looks at the workers, without any worker before tf gives up, and for the scheduler's first answer
+# seconds: between two looks at the workers, without any worker before tf gives up, and for the scheduler's first answer at least
 EACH, PATIENCE, FIRST = 1.0, 30.0, 10.0
 # the variables of Dask's configuration that name certificates and a key, as files of PEM
 CERTIFICATES = "DASK_DISTRIBUTED__COMM__TLS__CA_FILE, DASK_DISTRIBUTED__COMM__TLS__CLIENT__CERT and DASK_DISTRIBUTED__COMM__TLS__CLIENT__KEY"
@@ -168,7 +168,7 @@ class Machines:
         self.digest = hashlib.sha256(content(program())).hexdigest()
         refuse_bare_tls(address)
         try:
-            self.client = distributed.Client(address, timeout=FIRST, set_as_default=False)
+            self.client = distributed.Client(address, timeout=max(FIRST, patience), set_as_default=False)
         except Exception as error:  # (of many kinds: what an address has that is none, and what packages lack)
             raise Refused(f"--scheduler {address}: no scheduler answers ({in_words(error)})", 4) from error
         self.work, self.ended = sent_by_value(), queue.Queue()

@@ -1,6 +1,7 @@
 """Makes a worker odd, as ODD_WORKER says: it lies, babbles, lies once and then babbles, is slow, lacks memory at first, stops its second
 program, answers in the form of its name (forms.py), answers nothing, or dies in the middle of its second task, or of its first one. A noisy one is
-tf itself, with an engine that tells things, and so is one that draws late: of what it gets it compares all but the first two.
+tf itself, with an engine that tells things, and so are two others: one that draws late compares all that it gets but the first two, and to one that is
+unhurried no task is slow.
 
 A patient one ends nothing before others were odd, ODD_COUNT of them, or one: else the patient ones might do all tasks before. Each of the
 others says that it was, by a file that begins with ODD_FILE.
@@ -10,6 +11,7 @@ import logging
 import os
 import random
 import signal
+import statistics
 import subprocess
 import threading
 import time
@@ -107,6 +109,8 @@ def draw(_, count, drawn=[]):
 
 if KIND == "draws-late":
     random.SystemRandom.randrange = draw
+elif KIND == "unhurried":
+    statistics.median = lambda _: float("inf")
 elif KIND == "noisy":
     threading.Thread(target=noise, daemon=True).start()
 elif KIND:
