@@ -22,6 +22,28 @@ LINES = ("eval p.pipe p.pgm -o made.pgm", "eval p.pipe p.pgm -o made.png", "eval
 SLOW = ("image I(2, 3);\nfunc f(x in [0 .. 16000], y in [0 .. 16000]) { else : " + " + ".join(["x * y % 7"] * 600)
         + "; }\naccum a [0 .. 0] over (x in [0 .. 16000], y in [0 .. 16000]) sum f(x, y) at 0;\n")
 
+# tf, which gets Ctrl-C when it loads its first module, its fourth one and so on; the statuses are written, until one has loaded all
+INTERRUPTED = """import posix, sys
+with open(sys.argv[1]) as file:
+    text = compile(file.read(), sys.argv[1], "exec")
+loads, status = -2, None
+while status != 0 and loads < 400:
+    loads += 3
+    child = posix.fork()
+    if not child:
+        left = loads
+        def hook(event, _):
+            global left
+            left -= event == "import"
+            if event == "import" and not left:
+                posix.kill(posix.getpid(), 2)
+        sys.addaudithook(hook)
+        sys.argv = sys.argv[1:]
+        exec(text, {"__name__": "__main__", "__file__": sys.argv[0]})
+    status = posix.waitstatus_to_exitcode(posix.waitpid(child, 0)[1])
+    print(status, flush=True)
+"""
+
 
 def line_of_status(process: int, name: str) -> str:
     """A line of what the system tells of a process, or nothing where it is gone."""
@@ -67,6 +89,9 @@ class Signals(InRoom):
         for name, data in self.files.items():
             self.write(name, data)
         os.mkdir(f"{self.room}/tmp")
+        # (a shell starts what runs behind it with signals that are ignored, and tf goes on to ignore them)
+        for it in WATCHED:
+            self.addCleanup(signal.signal, it, signal.signal(it, signal.default_int_handler if it == signal.SIGINT else signal.SIG_DFL))
 
     def ended(self, process: int) -> int:
         """The status of a process, which ends soon."""
@@ -105,6 +130,32 @@ class Signals(InRoom):
             counts[number] += status != 0
             subprocess.run(["sh", "-c", "rm -rf made* tmp/*"], cwd=self.room, check=True)
         self.assertGreater(min(counts.values()), 10, counts)
+
+    def test_while_tf_loads_its_modules(self):
+        words = [sys.executable, "-S", "-c", INTERRUPTED, f"{TOP}/tools/tf", *"check p.pipe p.pgm -o said".split()]
+        # (what was compiled once is not compiled at each start)
+        env = {**os.environ, "PYTHONDONTWRITEBYTECODE": "", "PYTHONPYCACHEPREFIX": f"{self.room}/compiled"}
+        ran = subprocess.run(words, cwd=self.room, env=env, stdin=subprocess.DEVNULL, capture_output=True, text=True)
+        *before, last = map(int, ran.stdout.split())
+        self.assertEqual((ran.returncode, ran.stderr, set(before), last), (0, "", {130}, 0))
+        self.assertGreater(len(before), 10)
+
+    def test_no_half_of_a_part_is_left_where_parts_are_kept(self):
+        def ends_before_the_name() -> None:
+            usual = os.replace
+
+            def replace(*words) -> None:
+                # (parts are done by a thread beside that which ends tf)
+                os.kill(os.getpid(), signal.SIGTERM)
+                time.sleep(LONGEST)
+                usual(*words)
+
+            os.replace = replace
+
+        line = "eval p.pipe p.pgm --parts 40 --resume made -o made.pgm".split()
+        self.assertEqual(call(line, self.room, first=ends_before_the_name).status, 143)
+        self.assertEqual(os.listdir(f"{self.room}/made"), [])
+        self.assertEqual(call(line, self.room).status, 0)
 
     def test_a_result_is_whole_or_not_there(self):
         self.assertEqual(call("eval p.pipe p.pgm -o made.pgm".split(), self.room).status, 0)

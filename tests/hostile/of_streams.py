@@ -93,6 +93,13 @@ class Streams(InRoom):
         for line in (EVAL, "--help", "check p.pipe p.pgm", "tune p.pipe p.pgm --rounds 1"):
             self.assertEqual(self.shell(f"tf {line} > /dev/full"), (4, b"", "tf: standard output: No space left on device\n"), line)
 
+    def test_pythons_own_end_tells_nothing_of_standard_output(self):
+        """From Python 3.13 on, and before that where it is told to, it tells what it cannot write at its end."""
+        for line in (EVAL, "--help", "check p.pipe p.pgm"):
+            for output, said in ((">&-", "Bad file descriptor"), ("> /dev/full", "No space left on device")):
+                told = self.shell(f"tf {line} {output}", PYTHONDEVMODE="1", PYTHONWARNINGS="ignore")
+                self.assertEqual(told, (4, b"", f"tf: standard output: {said}\n"), line)
+
     def test_standard_output_without_a_buffer(self):
         """What does not go out in one piece is written or told, also where Python itself holds nothing back."""
         program = f"import sys; sys.path.insert(0, {TOP + '/python/tilefarm'!r}); from _tf import output, streams; streams.prepare(); output.give(b'x' * 100)"

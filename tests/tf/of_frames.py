@@ -104,6 +104,17 @@ class Frames(InRoom):
         self.assertEqual(status, 1)
         self.assertIn("as another frame has", told)
 
+    def test_no_frame_is_replaced_by_the_result_of_another(self):
+        os.symlink("in/f5.pgm", f"{self.room}/g3.pgm")
+        os.link(f"{self.room}/in/f6.pgm", f"{self.room}/h3.pgm")
+        # (the frames of a folder are numbered from 1: the result of the third one would be the first one's file)
+        for line, path, done in (("frames p.pipe in/f%d.pgm -o g%d.pgm", "g3.pgm", 0), ("frames p.pipe in/f%d.pgm -o h%d.pgm --jobs 3", "h3.pgm", 0),
+                                 ("frames p.pipe in -o in/f%d.pgm", "in/f3.pgm", 2)):
+            status, _, told = self.tf(line)
+            said = f"tf: {path}: another frame is read from this file, which -o would replace; name another one\n"
+            self.assertEqual((status, told), (1, f"{said}tf: {done} frames were done before this one failed\n"))
+            self.assertEqual([self.content(f"in/f{number}.pgm") for number in range(3, 15)], self.frames)
+
     def test_cut_results_are_counted(self):
         self.write("p.pipe", COPY.encode())
         given = pgm(1, 2, most=300) + pgm(299, 300, most=300) + pgm(298, 2, most=300)

@@ -163,6 +163,14 @@ class Targets(InRoom):
                 self.refused(line, 1, f"the {kind} is read from this file")
         self.assertEqual(self.content("p.pgm"), GREY.encode())
 
+    def test_a_file_that_is_standard_input_is_not_replaced(self):
+        for line, kind in (("eval p.pipe - -o p.pgm < p.pgm", "picture"), ("eval - p.pgm -o p.pgm < p.pipe", "picture"), ("graph - p.pgm -o s.svg < s.svg", "program")):
+            self.write("s.svg", COPY.encode())
+            ran = subprocess.run(["sh", "-c", f"{TOP}/tools/tf {line}"], cwd=self.room, env={**os.environ, "TILEFARM": PROGRAM}, capture_output=True, text=True)
+            self.assertEqual((ran.returncode, ran.stdout), (1, ""), ran.stderr)
+            self.assertIn(f"the {kind} is read from this file", ran.stderr)
+            self.assertEqual((self.content("p.pgm"), self.content("s.svg")), (GREY.encode(), COPY.encode()))
+
     def test_what_other_commands_read_is_not_replaced(self):
         self.write("t.txt", b"h 0..1: 3 4\n")
         self.write("a.pgm", GREY.encode())

@@ -41,6 +41,21 @@ def count_of(source: str) -> int | None:
     return None if source == "-" else sum(1 for _ in frames_of(source))
 
 
+def files_of(source: str) -> frozenset[tuple[int, int]]:
+    """The files of all frames that have some, each by what the system knows it by, under whatever name."""
+    found = frozenset() if source == "-" else frozenset(identity(it.name) for it in frames_of(source))
+    return found - {None}
+
+
+def identity(path: str) -> tuple[int, int] | None:
+    """The device of a file and its number there; nothing where there is no file."""
+    try:
+        it = os.stat(path)
+    except OSError:
+        return None
+    return it.st_dev, it.st_ino
+
+
 def in_folder(folder: str) -> Iterator[Frame]:
     """The pictures of a folder, in the order of their names; numbers in names count as numbers."""
     names = sorted((it for it in os.listdir(folder) if ending(it) in READ), key=order)

@@ -5,13 +5,14 @@ import sys
 from collections import deque
 from concurrent.futures import Future, ThreadPoolExecutor
 from contextlib import contextmanager
+from functools import cached_property
 from typing import Iterator, NamedTuple
 
 from . import cutting, memory_runs, png
 from .blame import Situation
 from .call import CUT, picture_in, wanted, without_a_line
 from .faults import explained
-from .frame_files import Frame, Targets, count_of, frames_of
+from .frame_files import Frame, Targets, count_of, files_of, frames_of, identity
 from .joining import SEPARATOR, Input, Section, fitted, handed_in, is_foreign, own_picture, picture_section, planes_of, section, table_bytes
 from .many import jobs_of
 from .netpbm import Picture
@@ -176,8 +177,14 @@ class Frames:
         if fault:
             raise fault
 
+    @cached_property
+    def read(self) -> frozenset[tuple[int, int]]:
+        """The files of all frames, by what the system knows them by."""
+        return files_of(self.source)
+
     def judge(self, frame: Frame) -> None:
-        """Refuses a result that would replace what is read or what another frame has become, and makes the folder of one."""
+        """Refuses a result that would replace what is read, by this frame or another one, or what another frame has become, and makes the folder
+        of one."""
         path = self.targets.path(frame)
         if path is None:
             return
@@ -185,6 +192,8 @@ class Frames:
             raise Refused(f"{frame.name} would become {path}, as another frame has: number the results, as out-%05d.png", 1)
         if os.path.lexists(path):
             judge(Asked("eval", [self.asked.files[0], frame.name], own={"-o": path}, tables=self.asked.tables))
+            if identity(path) in self.read:
+                raise Refused(f"{path}: another frame is read from this file, which -o would replace; name another one", 1)
             return
         refuse_ending("eval", path)
         try:

@@ -8,7 +8,7 @@ import os
 import signal
 import threading
 import time
-from typing import TYPE_CHECKING, BinaryIO, Iterator
+from typing import TYPE_CHECKING, BinaryIO, Callable, Iterator
 
 if TYPE_CHECKING:
     import subprocess
@@ -19,11 +19,12 @@ PATIENCE, TRIES = 2.0, 20
 
 
 class Held:
-    """The children and the own files of this process, and the signal that waits while one of them is made."""
+    """The children and the own files of this process, what clears the terminal, and the signal that waits while one of them is made."""
 
     def __init__(self):
         self.children: set[int] = set()
         self.paths: set[str] = set()
+        self.clear: Callable[[], None] = lambda: None
         self.guard, self.depth, self.waiting, self.is_over = threading.RLock(), 0, 0, False
 
 
@@ -54,7 +55,8 @@ def held() -> Iterator[None]:
 
 
 def leave(number: int) -> None:
-    """Ends children, removes own files, and leaves. It runs in the main thread, and waits for what that holds."""
+    """Ends children, removes own files, and leaves. It runs in the main thread, and waits for what that holds. It loads no module of tf, since
+    one may be half loaded."""
     if mine.depth:
         mine.waiting = number
         return
@@ -65,10 +67,9 @@ def leave(number: int) -> None:
     end([*mine.children])
     for path in [*mine.paths]:
         remove(path)
-    from . import progress
-
-    with contextlib.suppress(OSError):
-        progress.clear()
+    # (the signal may have come while standard error was written to, which Python does not take twice)
+    with contextlib.suppress(OSError, RuntimeError):
+        mine.clear()
     os._exit(128 + number)
 
 

@@ -24,7 +24,7 @@ from .text import Refused, content, escaped
 from .words import Asked
 
 TASK = f"{os.path.dirname(os.path.realpath(__file__))}/cluster_task.py"
-# seconds: between two looks at the workers, without any worker before tf gives up, and for the scheduler's first answer
+# seconds: between two looks at the workers, without any worker before tf gives up, and for the scheduler's first answer at least
 EACH, PATIENCE, FIRST = 1.0, 30.0, 10.0
 # the variables of Dask's configuration that name certificates and a key, as files of PEM
 CERTIFICATES = "DASK_DISTRIBUTED__COMM__TLS__CA_FILE, DASK_DISTRIBUTED__COMM__TLS__CLIENT__CERT and DASK_DISTRIBUTED__COMM__TLS__CLIENT__KEY"
@@ -100,10 +100,12 @@ def sent_by_value() -> Callable:
     return names["work"]
 
 
-def machines_for(asked: Asked) -> "Machines":
-    """The workers that the words of a command line ask for."""
+def machines_for(asked: Asked, left_out: frozenset[str] = frozenset()) -> "Machines":
+    """The workers that the words of a command line ask for, without those that were left out before."""
     title = escaped(os.path.basename(asked.files[0])) if asked.files[0] != "-" else "program"
-    return Machines(address_of(asked.own), title, seconds_of(asked, "--task-seconds", SECONDS), seconds_of(asked, "--wait", PATIENCE))
+    found = Machines(address_of(asked.own), title, seconds_of(asked, "--task-seconds", SECONDS), seconds_of(asked, "--wait", PATIENCE))
+    found.left_out |= left_out
+    return found
 
 
 def address_of(own: dict[str, str]) -> str:
@@ -166,13 +168,15 @@ class Machines:
         self.digest = hashlib.sha256(content(program())).hexdigest()
         refuse_bare_tls(address)
         try:
-            self.client = distributed.Client(address, timeout=FIRST, set_as_default=False)
+            self.client = distributed.Client(address, timeout=max(FIRST, patience), set_as_default=False)
         except Exception as error:  # (of many kinds: what an address has that is none, and what packages lack)
             raise Refused(f"--scheduler {address}: no scheduler answers ({in_words(error)})", 4) from error
         self.work, self.ended = sent_by_value(), queue.Queue()
         self.flights: dict[str, Flight] = {}
         self.again: deque[Attempt] = deque()
+        # the workers that are left out, and those of them of which nobody has heard yet (left_out_since)
         self.left_out: set[str] = set()
+        self.untold: list[str] = []
         self.seen = self.looked = time.monotonic()
         # how long tasks took, when each worker answered last, and which worker a slow task is with, since when
         self.took: deque[float] = deque(maxlen=1000)
@@ -358,7 +362,8 @@ class Machines:
         self.again.append(attempt)
 
     def forget_copies(self, task: Task) -> None:
-        """Calls off what else is on its way of a task that has ended."""
+        """Calls off what else is on its way, or was to be sent, of a task that has ended."""
+        self.again = deque(it for it in self.again if it.task is not task)
         for it in [it for it in self.flights.values() if it.task is task]:
             self.call_off(it)
 
@@ -379,6 +384,7 @@ class Machines:
         if worker in self.left_out:
             return
         self.left_out.add(worker)
+        self.untold.append(worker)
         tell(f"worker {escaped(worker)} is left out: {why}")
         if not self.threads():
             raise Refused(f"no worker of the scheduler {self.address} is left", 4)
@@ -386,6 +392,11 @@ class Machines:
             if other == worker:
                 self.again.append(self.flights[key].attempt)
                 self.call_off(self.flights[key])
+
+    def left_out_since(self) -> list[str]:
+        """The workers that were left out since this was asked last. Whoever took their answers takes none of them for good any more."""
+        found, self.untold = self.untold, []
+        return found
 
     def look_after(self) -> None:
         """Sends tasks again whose workers are all gone or slow, and gives up where there has been no worker for long."""

@@ -10,7 +10,7 @@ from typing import Iterable
 
 from . import aside, leaving, progress
 from .netpbm import Picture
-from .streams import printable
+from .streams import drop, printable
 from .text import Refused
 
 CONVERTED = (".png", ".jpg", ".jpeg", ".tif", ".tiff", ".gif", ".webp")
@@ -82,6 +82,7 @@ def give_all(blocks: Iterable[bytes]) -> None:
             sys.stdout.buffer.write(it)
         sys.stdout.buffer.flush()
     except OSError as error:
+        drop(sys.stdout)
         sys.stdout = None
         raise Refused(f"standard output: {error.strerror}", 4) from error
 

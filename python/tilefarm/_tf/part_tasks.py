@@ -9,7 +9,7 @@ from typing import NamedTuple
 from . import cutting, listing
 from .cutting import Counting
 from .finding_dask import go_on_with_dask
-from .machines import Done, Task, machines_for
+from .machines import Done, Machines, Task, machines_for
 from .output import give, tell
 from .parts import Fault, Joiner, Part, Picture, Plan, plan, read_part
 from .parts.performing import KEPT, InParts, is_of_text, numbers_in, refuse_words, samples_of
@@ -42,25 +42,36 @@ class ByDask(ForEngine):
     """The parts are run by workers; some of a hundred, as many as `share`, are run here too, and compared."""
 
     share = 0
+    # the workers that were left out of this call
+    left_out: frozenset[str] = frozenset()
 
     def run_parts(self, found: Plan, picture: Picture, joiner: Joiner) -> int:
         parts = {f"part {it.number}": it for it in found.parts}
         self.compared, self.keys = 0, {}
         tasks = deque(self.task(it, found, picture) for it in self.not_kept(found, picture, joiner))
-        with machines_for(self.asked) as machines, doing("parts by workers", lambda: 1 - len(joiner.missing) / len(parts)):
-            for done in machines.results(tasks):
-                part = parts[done.task.name]
-                if done.status and done.is_so_here():
-                    return self.explain_part(found, part, subprocess.CompletedProcess([], done.status, done.written))
-                wrong = self.wrong(done, part, joiner)
-                if wrong:
-                    machines.leave_out(done.worker, f"{wrong}; what it gave is made again by others")
-                    again = self.taken_back(joiner, done.worker, part)
-                    tasks += [self.task(it, found, picture) for it in found.parts if it.number in again]
+        with machines_for(self.asked, self.left_out) as machines, doing("parts by workers", lambda: 1 - len(joiner.missing) / len(parts)):
+            while tasks:
+                for done in machines.results(tasks):
+                    part = parts[done.task.name]
+                    if done.status and done.is_so_here():
+                        return self.explain_part(found, part, subprocess.CompletedProcess([], done.status, done.written))
+                    wrong = self.wrong(done, part, joiner)
+                    if wrong:
+                        machines.leave_out(done.worker, f"{wrong}; what it gave is made again by others")
+                        tasks.append(done.task)
+                    tasks += self.again(machines, found, picture, joiner)
+                # (the last answer may have shown a worker to be at fault)
+                tasks += self.again(machines, found, picture, joiner)
+            self.left_out = frozenset(machines.left_out)
         self.tell_kept(joiner)
         if "--quiet" not in self.asked.own and not self.is_counting:
             tell(f"{len(parts)} parts by workers; {self.compared} compared with a run here")
         return 0
+
+    def again(self, machines: Machines, found: Plan, picture: Picture, joiner: Joiner) -> list[Task]:
+        """The tasks of all parts that were given by workers which are left out since."""
+        numbers = {number for it in machines.left_out_since() for number in self.taken_back(joiner, it)}
+        return [self.task(it, found, picture) for it in found.parts if it.number in numbers]
 
     def wrong(self, done: Done, part: Part, joiner: Joiner) -> str:
         """What is wrong with a part, or nothing; then it is put in."""
@@ -91,14 +102,15 @@ class ByDask(ForEngine):
             if known is not None and is_believed and self.is_drawn() and not Done(task, KEPT, 0, known).is_so_here():
                 is_believed = False
                 tell(f"{self.asked.own['--resume']}: {task.name} there is not what the program here makes of it; all its parts are made again")
-                self.taken_back(joiner, KEPT, part)
+                self.taken_back(joiner, KEPT)
+                self.kept.drop(key)
             if known is not None and is_believed:
                 joiner.put(part, known, KEPT)
         return [it for it in found.parts if it.number in joiner.missing]
 
-    def taken_back(self, joiner: Joiner, source: str, part: Part) -> list[int]:
-        """The numbers of a part and of all others that a source gave, none of which is kept any more."""
-        numbers = [part.number, *joiner.take_back(source)]
+    def taken_back(self, joiner: Joiner, source: str) -> list[int]:
+        """The numbers of the parts that a source gave, none of which is kept any more."""
+        numbers = joiner.take_back(source)
         for number in numbers:
             self.kept.drop(self.keys[number])
         return numbers

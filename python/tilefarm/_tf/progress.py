@@ -5,7 +5,7 @@ import threading
 import time
 from typing import Callable, Iterator
 
-from . import aside
+from . import aside, leaving
 from .streams import printable
 
 FIRST, EACH = 1.0, 0.25
@@ -74,3 +74,6 @@ def clear() -> None:
         shown.clear()
         sys.stderr.write(CLEAR)
         sys.stderr.flush()
+
+
+leaving.mine.clear = clear

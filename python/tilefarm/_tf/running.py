@@ -53,8 +53,11 @@ class Ended(NamedTuple):
 # starts tf by the folder that its modules are in, which is the first word
 BY_FOLDER = """import sys
 sys.path.insert(0, sys.argv.pop(1))
-from _tf import leaving
-leaving.watch()
+try:
+    from _tf import leaving
+    leaving.watch()
+except KeyboardInterrupt:
+    sys.exit(130)
 from _tf.main import main
 sys.exit(main())"""
 

@@ -65,20 +65,23 @@ class Sharing:
             for done in machines.results(tasks):
                 wrong = self.wrong(done)
                 if wrong:
-                    tasks += [self.task(self.groups[done.task.name]), *self.without(done.worker, wrong, machines)]
+                    leave_out(done.worker, wrong, machines)
+                    tasks.append(done.task)
+                tasks += self.again(machines)
             for worker, wrong in self.audited():
-                tasks += self.without(worker, wrong, machines)
+                leave_out(worker, wrong, machines)
+            tasks += self.again(machines)
         self.answer.take(self.merged())
         return self.answer.written()
 
-    def without(self, worker: str, wrong: str, machines: Machines) -> list[Task]:
-        """Leaves a worker out and throws away what it gave, which is to be made again."""
-        again = [name for name, it in self.given.items() if it.worker == worker]
-        machines.leave_out(worker, f"{wrong}; what it gave is made again by others")
-        for name in again:
+    def again(self, machines: Machines) -> list[Task]:
+        """The tasks of all that workers gave which are left out since: it is thrown away."""
+        workers = machines.left_out_since()
+        names = [name for name, it in self.given.items() if it.worker in workers]
+        for name in names:
             del self.given[name]
             self.seen.discard(name)
-        return [self.task(self.groups[it]) for it in again]
+        return [self.task(self.groups[it]) for it in names]
 
     def wrong(self, done: Done) -> str:
         """What is wrong with the form of what a task gave, or nothing; then its facts are held."""
@@ -138,6 +141,11 @@ class Sharing:
     def summary(self) -> str:
         workers = {it.worker for it in self.given.values()}
         return f"{len(self.tiles)} tiles by {counted(len(workers), 'worker')}; {counted(self.count, 'fact')} audited"
+
+
+def leave_out(worker: str, wrong: str, machines: Machines) -> None:
+    """Leaves a worker out that gave what is wrong."""
+    machines.leave_out(worker, f"{wrong}; what it gave is made again by others")
 
 
 def counted(count: int, what: str) -> str:

@@ -71,13 +71,15 @@ def read_by(asked: Asked) -> dict[str, str]:
         return {f"{folder}/{name}": "list of parts" for folder in asked.files for name in OF_LISTS}
     named = asked.command().files
     kinds = [*named, *named[-1:] * len(asked.files)]
-    return {**dict.fromkeys(asked.tables, "table"), **dict(zip(asked.files, kinds))}
+    schedulers = {path: "scheduler's address" for name, path in asked.own.items() if name == "--scheduler-file"}
+    return {**schedulers, **dict.fromkeys(asked.tables, "table"), **dict(zip(asked.files, kinds))}
 
 
 def is_same(path: str, other: str) -> bool:
-    """Whether two paths lead to one regular file. A terminal or a pipe can be both read and written."""
+    """Whether two paths, of which the first may be - for standard input, lead to one regular file. A terminal or a pipe can be both read and
+    written."""
     try:
-        first, second = os.stat(path), os.stat(other)
+        first, second = os.fstat(0) if path == "-" else os.stat(path), os.stat(other)
     except OSError:
         return False
     return stat.S_ISREG(first.st_mode) and os.path.samestat(first, second)

@@ -12,4 +12,4 @@ if __name__ == "__main__":
     with open(f"{sys.argv[1]}.new", "w", encoding="utf-8") as file:
         json.dump({"address": cluster.scheduler_address}, file)
     os.replace(f"{sys.argv[1]}.new", sys.argv[1])
-    time.sleep(600)
+    time.sleep(3600)

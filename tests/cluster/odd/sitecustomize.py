@@ -1,6 +1,7 @@
-"""Makes a worker odd, as ODD_WORKER says: it lies, babbles, is slow, lacks memory at first, stops its second program, answers in the form of
-its name (forms.py), answers nothing, or dies in the middle of its second task, or of its first one. A noisy one is tf itself, with an engine that tells things, and so is
-one that draws late: of what it gets it compares all but the first two.
+"""Makes a worker odd, as ODD_WORKER says: it lies, babbles, lies once and then babbles, is slow, lacks memory at first, stops its second
+program, answers in the form of its name (forms.py), answers nothing, or dies in the middle of its second task, or of its first one. A noisy one is
+tf itself, with an engine that tells things, and so are two others: one that draws late compares all that it gets but the first two, and to one that is
+unhurried no task is slow.
 
 A patient one ends nothing before others were odd, ODD_COUNT of them, or one: else the patient ones might do all tasks before. Each of the
 others says that it was, by a file that begins with ODD_FILE.
@@ -10,6 +11,7 @@ import logging
 import os
 import random
 import signal
+import statistics
 import subprocess
 import threading
 import time
@@ -18,7 +20,7 @@ import warnings
 KIND, FILE, COUNT = os.environ.get("ODD_WORKER", ""), os.environ.get("ODD_FILE", ""), int(os.environ.get("ODD_COUNT", "1"))
 usual, runs = subprocess.run, []
 # when a patient worker waits no more
-UNTIL = time.monotonic() + 200
+UNTIL = time.monotonic() + 1500
 
 
 def odd(words, **more):
@@ -64,12 +66,20 @@ class Behind(bytes):
         return forms.FORMS[name][0](head, bytes(self))
 
 
+def lied(answer):
+    """What a run wrote, with another last digit."""
+    return answer[:-2] + (b"1" if answer[-2:-1] == b"0" else b"0") + answer[-1:]
+
+
 def changed(ran):
     if KIND == "forms":
         ran.stdout = Behind(ran.stdout)
     if KIND == "lies":
-        ran.stdout = ran.stdout[:-2] + (b"1" if ran.stdout[-2:-1] == b"0" else b"0") + ran.stdout[-1:]
+        ran.stdout = lied(ran.stdout)
         was_odd(f"lies-{len(runs)}")
+    if KIND == "lies-and-babbles":
+        ran.stdout = lied(ran.stdout) if len(runs) == 1 else bytes(1 << 24)
+        was_odd(f"{KIND}-{len(runs)}")
     if KIND == "babbles":
         ran.stdout = b"node 1 00\n"
     if KIND == "fails" and len(runs) == 1:
@@ -99,6 +109,8 @@ def draw(_, count, drawn=[]):
 
 if KIND == "draws-late":
     random.SystemRandom.randrange = draw
+elif KIND == "unhurried":
+    statistics.median = lambda _: float("inf")
 elif KIND == "noisy":
     threading.Thread(target=noise, daemon=True).start()
 elif KIND:

@@ -1,13 +1,17 @@
 """Finished parts in a folder, so that a run that was ended goes on: the result of each by the digest of all that it hangs on."""
+import contextlib
 import hashlib
 import os
 import re
 from typing import Callable
 
+from .. import leaving
+from ..output import umask
 from ..running import program
 from ..text import Refused, content
 
-NAME = re.compile(r"[0-9a-f]{64}\.part|\.[0-9a-f]{64}\.\d+")
+# (what begins with a dot is left by a call that was killed)
+NAME = re.compile(r"[0-9a-f]{64}\.part|\.[0-9a-f]{64}\.\w+")
 
 
 class Kept:
@@ -39,16 +43,17 @@ class Kept:
 
     def put(self, key: str, result: bytes) -> None:
         """Keeps a result. It takes its name when all of it is there."""
-        made = f"{self.folder}/.{key}.{os.getpid()}"
         try:
-            with open(made, "wb") as file:
-                file.write(head(key, result) + result)
-            os.replace(made, self.path(key))
+            with leaving.new_file(f".{key}.", self.folder) as (handle, made):
+                with os.fdopen(handle, "wb") as file:
+                    file.write(head(key, result) + result)
+                os.chmod(made, 0o666 & ~umask())
+                os.replace(made, self.path(key))
         except OSError as error:
             raise Refused(f"--resume {self.folder}: {error.strerror}", 4) from error
 
     def drop(self, key: str) -> None:
-        if os.path.exists(self.path(key)):
+        with contextlib.suppress(FileNotFoundError):
             os.unlink(self.path(key))
 
     def path(self, key: str) -> str:
