@@ -1,6 +1,6 @@
 -- Formulas that may stand for others: in steps, and part by part.
 use Rattle.std.proofs.Common.{ℕ, ℤ, ◌≡◌, FitsSigned, w32, List, ◌++◌, ap, refl, sym, subst, ◌∙◌}
-use Rattle.std.specs.Prelude.{All, if◌then◌else◌}
+use Rattle.std.specs.Prelude.{All, if◌then◌else◌, Result, Ok, Err, OnOk}
 use Rattle.std.proofs.lemmas.List.Elements.{All-append}
 use Rattle.operators.specs.declared.operator.UnaryOp.{UnaryOp}
 use Rattle.operators.specs.declared.operator.BinaryOp.{BinaryOp}
@@ -210,3 +210,11 @@ pub select_parts : (relation : Relation) (a b p q u v m n : Formula) → Rewrite
 select_parts relation a b p q u v m n x y z t =
     rewrites (select a relation p u m) (select b relation q v n)
     (in_select relation a b p q u v m n (stands a b x) (stands p q y) (stands u v z) (stands m n t))
+
+pub from_same : (f g h : Formula) → f ≡ g → Rewrites g h → Rewrites f h
+from_same f g h e x = subst (λ (y : Formula). Rewrites y h) (sym e) x
+
+-- what follows from what a clause says of an Ok with no value
+pub on_ok_then : {X Y : Type 0} {P Q : Type 0} (r : Result X Y) → OnOk r P → (P → Q) → OnOk r Q
+on_ok_then (Ok x) p f = f p
+on_ok_then (Err e) p f = tt
