@@ -1,0 +1,69 @@
+//! Normal forms that were found by hand.
+
+use crate::normalize_formula;
+use domains::Index;
+use job::{Axis, Formula};
+use operators::{BinaryOp, LiteralOp};
+use std::alloc::{AllocError, Global};
+use std::test::Fail;
+
+fn join(alloc: Global, op: BinaryOp, left: Formula, right: Formula) -> Result<Formula, AllocError> {
+    Ok(Formula::Binary(op, Box::new(alloc, left)?, Box::new(alloc, right)?))
+}
+
+#[test]
+fn a_quotient_by_sixteen_is_a_shift(rt: HostRuntime) -> Result<(), Fail> {
+    let alloc = rt.alloc();
+    let row = Box::new(alloc, Formula::Coordinate(Axis::Row))?;
+    let made = normalize_formula(alloc, &Formula::Literal(LiteralOp::Div, row, 16))?;
+    assert_eq!(rt;
+        format!(in alloc; "{made:?}")?.as_str(),
+        "Literal(Shr, Coordinate(Row), 4)"
+    );
+    Ok(())
+}
+
+#[test]
+fn bounds_on_both_sides_are_a_clamp(rt: HostRuntime) -> Result<(), Fail> {
+    let alloc = rt.alloc();
+    let row = Formula::Coordinate(Axis::Row);
+    let inner = join(alloc, BinaryOp::Min, Formula::Number(255), row)?;
+    let outer = join(alloc, BinaryOp::Max, inner, Formula::Number(0))?;
+    let made = normalize_formula(alloc, &outer)?;
+    assert_eq!(rt;
+        format!(in alloc; "{made:?}")?.as_str(),
+        "Ternary(Clamp, Coordinate(Row), Number(0), Number(255))"
+    );
+    Ok(())
+}
+
+// 3 * v - (2 - v) is 4 * v - 2.
+#[test]
+fn one_read_is_one_term(rt: HostRuntime) -> Result<(), Fail> {
+    let alloc = rt.alloc();
+    let here = Index::new(1, 0, 1).ok_or("index")?;
+    let product = join(
+        alloc,
+        BinaryOp::Mul,
+        Formula::Number(3),
+        Formula::Read(0, here, here),
+    )?;
+    let rest = join(
+        alloc,
+        BinaryOp::Sub,
+        Formula::Number(2),
+        Formula::Read(0, here, here),
+    )?;
+    let made = normalize_formula(alloc, &join(alloc, BinaryOp::Sub, product, rest)?)?;
+    match made {
+        Formula::Binary(BinaryOp::Add, left, right) => {
+            assert_eq!(rt; matches!(&*right, Formula::Number(-2)), true);
+            assert_eq!(rt;
+                matches!(&*left, Formula::Binary(BinaryOp::Mul, _, _)),
+                true
+            );
+        }
+        _ => assert_eq!(rt; false, true),
+    }
+    Ok(())
+}
