@@ -7,7 +7,12 @@ use operators::{BinaryOp, LiteralOp};
 use std::alloc::{AllocError, Global};
 use std::test::Fail;
 
-fn join(alloc: Global, op: BinaryOp, left: Formula, right: Formula) -> Result<Formula, AllocError> {
+fn spell_normal_formula(
+    alloc: Global,
+    op: BinaryOp,
+    left: Formula,
+    right: Formula,
+) -> Result<Formula, AllocError> {
     Ok(Formula::Binary(op, Box::new(alloc, left)?, Box::new(alloc, right)?))
 }
 
@@ -27,8 +32,8 @@ fn a_quotient_by_sixteen_is_a_shift(rt: HostRuntime) -> Result<(), Fail> {
 fn bounds_on_both_sides_are_a_clamp(rt: HostRuntime) -> Result<(), Fail> {
     let alloc = rt.alloc();
     let row = Formula::Coordinate(Axis::Row);
-    let inner = join(alloc, BinaryOp::Min, Formula::Number(255), row)?;
-    let outer = join(alloc, BinaryOp::Max, inner, Formula::Number(0))?;
+    let inner = spell_normal_formula(alloc, BinaryOp::Min, Formula::Number(255), row)?;
+    let outer = spell_normal_formula(alloc, BinaryOp::Max, inner, Formula::Number(0))?;
     let made = normalize_formula(alloc, &outer)?;
     assert_eq!(rt;
         format!(in alloc; "{made:?}")?.as_str(),
@@ -42,19 +47,22 @@ fn bounds_on_both_sides_are_a_clamp(rt: HostRuntime) -> Result<(), Fail> {
 fn one_read_is_one_term(rt: HostRuntime) -> Result<(), Fail> {
     let alloc = rt.alloc();
     let here = Index::new(1, 0, 1).ok_or("index")?;
-    let product = join(
+    let product = spell_normal_formula(
         alloc,
         BinaryOp::Mul,
         Formula::Number(3),
         Formula::Read(0, here, here),
     )?;
-    let rest = join(
+    let rest = spell_normal_formula(
         alloc,
         BinaryOp::Sub,
         Formula::Number(2),
         Formula::Read(0, here, here),
     )?;
-    let made = normalize_formula(alloc, &join(alloc, BinaryOp::Sub, product, rest)?)?;
+    let made = normalize_formula(
+        alloc,
+        &spell_normal_formula(alloc, BinaryOp::Sub, product, rest)?,
+    )?;
     match made {
         Formula::Binary(BinaryOp::Add, left, right) => {
             assert_eq!(rt; matches!(&*right, Formula::Number(-2)), true);
