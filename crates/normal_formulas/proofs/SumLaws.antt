@@ -22,7 +22,7 @@ use Rattle.normal_formulas.specs.declared.sums.NormalTerm.{NormalTerm}
 use Rattle.normal_formulas.proofs.Standing.{Stands, stands, rewrites}
 use Rattle.normal_formulas.proofs.Rewriting.{as_it_is, in_steps, in_binary, both_lists}
 use Rattle.normal_formulas.proofs.Laws.{by_value, exchanged_lists}
-use Rattle.normal_formulas.proofs.SumValues.{exchanged, number_added, merged, sum_spread, difference_spread, negation_spread, left_spread, right_spread, alone, without_number, first_of_one, first_of_minus_one, behind_one, behind_minus_one, behind_product, behind_negation}
+use Rattle.normal_formulas.proofs.SumValues.{exchanged, number_added, merged, sum_spread, difference_spread, negation_spread, left_spread, right_spread, alone, without_number, first_of_one, first_of_minus_one, behind_one, behind_minus_one, behind_product, behind_negation, number_away, with_nothing_more}
 
 -- ---- lists of reads in another order
 
@@ -360,3 +360,35 @@ drop_past (t ∷ ts) (suc n) h = drop_past ts n (omega (arith, h))
 pub taken_factor : (f : ℤ) (a s t : Formula) → FitsSigned w32 f → Rewrites (binary Add (product (to_z w32 (of_z w32 f)) a) s) t
     → Rewrites (binary Add (product f a) s) t
 taken_factor f a s t fits x = subst (λ (z : ℤ). Rewrites (binary Add (product z a) s) t) (to_z-of_z w32 f fits) x
+
+-- a number that is taken away
+pub number_taken : (a : Formula) (c d : ℤ) → d ≡ wrapped (neg_ℤ c) → Rewrites (binary Add a (number c)) (binary Sub a (number d))
+number_taken a c d e =
+    subst (λ (z : ℤ). Rewrites (binary Add a (number c)) (binary Sub a (number z))) (sym e)
+    (rewrites (binary Add a (number c)) (binary Sub a (number (wrapped (neg_ℤ c))))
+    (by_value (binary Add a (number c)) (binary Sub a (number (wrapped (neg_ℤ c)))) (λ is. (is.0, SFits-int_wrap w32 _))
+    (λ env r col. number_away (formula_value env a r col) c) (λ Q each. each) (λ Q each. each)))
+
+-- the number first
+alone_first : (c : ℤ) → Stands (number c) (binary Add (number c) (number (pos 0)))
+alone_first c =
+    record {
+      formula = λ is. (is, omega (arith, ints));
+      value = λ env r col is rows columns fit. with_nothing_more c is;
+      reads = λ P r col each. each;
+      stages = λ P is each. each;
+      back = λ P is each. each;
+    }
+
+first_of : (c : ℤ) (ts : List NormalTerm) → Stands (terms_over (number c) ts) (binary Add (number c) (terms_over (number (pos 0)) ts))
+first_of c [] = alone_first c
+first_of c (t ∷ ts) =
+    in_steps (binary Add (term_formula t) (terms_over (number c) ts))
+    (binary Add (term_formula t) (binary Add (number c) (terms_over (number (pos 0)) ts)))
+    (binary Add (number c) (binary Add (term_formula t) (terms_over (number (pos 0)) ts)))
+    (in_binary Add (term_formula t) (term_formula t) (terms_over (number c) ts) (binary Add (number c) (terms_over (number (pos 0)) ts))
+    (as_it_is (term_formula t)) (first_of c ts))
+    (exchange (term_formula t) (number c) (terms_over (number (pos 0)) ts))
+
+pub number_first : (c : ℤ) (ts : List NormalTerm) → Rewrites (terms_over (number c) ts) (binary Add (number c) (terms_over (number (pos 0)) ts))
+number_first c ts = rewrites (terms_over (number c) ts) (binary Add (number c) (terms_over (number (pos 0)) ts)) (first_of c ts)

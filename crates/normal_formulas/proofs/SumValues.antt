@@ -194,3 +194,24 @@ taken_negation f r g e = wrapped_taken r (neg_ℤ (to_z w32 (of_z w32 f))) e ∙
 pub taken_shift : (f r : ℤ) (n : ℕ) → FitsSigned w32 f → r ≡ wrapped (to_z w32 (of_z w32 f) *ℤ pos (2 ^ n))
     → to_z w32 (of_z w32 r) ≡ wrapped (f *ℤ pos (2 ^ n))
 taken_shift f r n g e = wrapped_taken r (to_z w32 (of_z w32 f) *ℤ pos (2 ^ n)) e ∙ ap (λ (z : ℤ). wrapped (z *ℤ pos (2 ^ n))) (taken f g)
+
+-- ---- a number that is taken away
+
+pub number_away : (a c : ℤ) → wrapped (a -ℤ wrapped (neg_ℤ c)) ≡ wrapped (a +ℤ c)
+number_away a c =
+    ap wrapped (to_difference a (wrapped (neg_ℤ c))) ∙ sym (last a (neg_ℤ (wrapped (neg_ℤ c)))) ∙ ap (λ (z : ℤ). wrapped (a +ℤ z)) twice
+    ∙ last a c
+  where
+    again : (z : ℤ) → neg_ℤ (neg_ℤ z) ≡ z
+    again z = omega (arith, ints)
+
+    twice : wrapped (neg_ℤ (wrapped (neg_ℤ c))) ≡ wrapped c
+    twice =
+        ap wrapped (sym (minus_one_times (wrapped (neg_ℤ c)))) ∙ int_wrap-mul_right w32 (negsuc 0) (neg_ℤ c)
+        ∙ ap wrapped (minus_one_times (neg_ℤ c) ∙ again c)
+
+pub with_nothing_more : (c : ℤ) → FitsSigned w32 c → wrapped (c +ℤ pos 0) ≡ c
+with_nothing_more c fits = ap wrapped (nothing_more c) ∙ int_wrap_fits w32 c fits
+  where
+    nothing_more : (z : ℤ) → z +ℤ pos 0 ≡ z
+    nothing_more z = omega (arith, ints)

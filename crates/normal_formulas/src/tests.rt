@@ -64,8 +64,8 @@ fn one_read_is_one_term(rt: HostRuntime) -> Result<(), Fail> {
         &spell_normal_formula(alloc, BinaryOp::Sub, product, rest)?,
     )?;
     match made {
-        Formula::Binary(BinaryOp::Add, left, right) => {
-            assert_eq!(rt; matches!(&*right, Formula::Number(-2)), true);
+        Formula::Binary(BinaryOp::Sub, left, right) => {
+            assert_eq!(rt; matches!(&*right, Formula::Number(2)), true);
             assert_eq!(rt;
                 matches!(&*left, Formula::Binary(BinaryOp::Mul, _, _)),
                 true
@@ -73,5 +73,25 @@ fn one_read_is_one_term(rt: HostRuntime) -> Result<(), Fail> {
         }
         _ => assert_eq!(rt; false, true),
     }
+    Ok(())
+}
+
+#[test]
+fn a_complement_stays_as_it_is(rt: HostRuntime) -> Result<(), Fail> {
+    let alloc = rt.alloc();
+    let row = Formula::Coordinate(Axis::Row);
+    let given = spell_normal_formula(alloc, BinaryOp::Sub, Formula::Number(255), row)?;
+    let made = normalize_formula(alloc, &given)?;
+    assert_eq!(rt;
+        format!(in alloc; "{made:?}")?.as_str(),
+        "Binary(Sub, Number(255), Coordinate(Row))"
+    );
+    let row = Formula::Coordinate(Axis::Row);
+    let given = spell_normal_formula(alloc, BinaryOp::Sub, row, Formula::Number(3))?;
+    let made = normalize_formula(alloc, &given)?;
+    assert_eq!(rt;
+        format!(in alloc; "{made:?}")?.as_str(),
+        "Binary(Sub, Coordinate(Row), Number(3))"
+    );
     Ok(())
 }
