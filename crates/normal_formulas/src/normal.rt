@@ -30,6 +30,42 @@ fn find_normal_number(formula: &Formula) -> Option<i32>
     }
 }
 
+// The number by which a formula is multiplied. A product by 1 of what is no read is a term as it is.
+fn find_normal_factor(number: &Formula, of: &Formula) -> Option<i32>
+    ensures { IfSome result (λ it. Rewrites (formula_view number.now) (constant it)) }
+{
+    let found = find_normal_number(number)?;
+    if found == 1 && !is_normal_read(of) {
+        return None;
+    }
+    Some(found)
+}
+
+// Whether a formula is a read.
+fn is_normal_read(formula: &Formula) -> bool {
+    matches!(formula, Formula::Read(_, _, _))
+}
+
+// How many terms a sum has beside its number.
+fn count_normal_terms(formula: &Formula) -> usize {
+    match formula {
+        Formula::Number(_) => 0,
+        Formula::Unary(UnaryOp::Neg, of) | Formula::Literal(LiteralOp::Shl, of, _) => {
+            count_normal_terms(of)
+        }
+        Formula::Binary(BinaryOp::Add | BinaryOp::Sub, left, right) => {
+            count_normal_terms(left).saturating_add(count_normal_terms(right))
+        }
+        Formula::Binary(BinaryOp::Mul, left, right) if find_normal_number(left).is_some() => {
+            count_normal_terms(right)
+        }
+        Formula::Binary(BinaryOp::Mul, left, right) if find_normal_number(right).is_some() => {
+            count_normal_terms(left)
+        }
+        _ => 1,
+    }
+}
+
 // Whether a formula is gathered as a sum.
 fn is_normal_sum(formula: &Formula) -> bool {
     match formula {
@@ -70,7 +106,7 @@ fn add_normal_formula(
             add_normal_formula(alloc, sum, wrapping_neg(factor), right)
         }
         Formula::Binary(BinaryOp::Mul, left, right) => {
-            match (find_normal_number(left), find_normal_number(right)) {
+            match (find_normal_factor(left, right), find_normal_number(right)) {
                 (Some(number), _) => {
                     add_normal_formula(alloc, sum, wrapping_mul(factor, number), right)
                 }
@@ -131,7 +167,7 @@ fn normalize_formula_in_box(alloc: Global, formula: &Formula) -> Result<Box<Form
 pub fn normalize_formula(alloc: Global, formula: &Formula) -> Result<Formula, AllocError>
     ensures { IfOk result (λ made. Rewrites (formula_view formula.now) (formula_view made)) }
 {
-    if is_normal_sum(formula) {
+    if is_normal_sum(formula) && count_normal_terms(formula) > 2 {
         normalize_sum(alloc, formula)
     } else {
         normalize_formula_parts(alloc, formula)

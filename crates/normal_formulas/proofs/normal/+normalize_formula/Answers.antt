@@ -81,10 +81,10 @@ add_normal_formula-returns-in-None-Some t c =
     let made = sum_formula c.add_normal_formula-in-None-Some.new.sum in
     let fits : FitsSigned w32 c.args.factor = search rules in
     let number_fits : FitsSigned w32 c.in-None-Some.number = search rules in
-    let is : formula_view c.args.formula.now ≡ binary Mul (formula_view c.deref-in-None-Some.result.now) (formula_view c.deref-in-Binary-Mul-default-default-2.result.now) = search rules in
+    let is : formula_view c.args.formula.now ≡ binary Mul (formula_view c.deref-in-None-Some.result.now) (formula_view c.deref-in-Binary-Mul-default-default-3.result.now) = search rules in
     on_ok_then c.add_normal_formula-in-None-Some.result c.add_normal_formula-in-None-Some.ensures (λ next.
     subst (λ (y : Formula). Rewrites (binary Add (product c.args.factor y) sum) made) (sym is)
-    (right_product_more c.args.factor (to_z w32 (of_z w32 c.wrapping_mul-in-None-Some.result)) c.in-None-Some.number (formula_view c.deref-in-None-Some.result.now) (formula_view c.deref-in-Binary-Mul-default-default-2.result.now) sum made
+    (right_product_more c.args.factor (to_z w32 (of_z w32 c.wrapping_mul-in-None-Some.result)) c.in-None-Some.number (formula_view c.deref-in-None-Some.result.now) (formula_view c.deref-in-Binary-Mul-default-default-3.result.now) sum made
     c.in-None-Some.ensures' (taken_product c.args.factor c.in-None-Some.number c.wrapping_mul-in-None-Some.result fits number_fits c.wrapping_mul-in-None-Some.ensures) next))
 
 pub add_normal_formula-returns-in-Literal-Shl-default-default : goal.add_normal_formula-returns-in-Literal-Shl-default-default
