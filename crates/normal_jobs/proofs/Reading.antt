@@ -1,0 +1,81 @@
+-- What stands for a stage reads what that reads.
+use Rattle.std.proofs.Common.{ℕ, ◌<◌, ◌≡◌, ℤ, List, [], ◌∷◌, Option, Some, None, length, slice_get, subst, sym, ◌∙◌, refl}
+use Rattle.std.specs.Prelude.{All}
+use Rattle.std.specs.List.{AllZip}
+use Rattle.std.specs.Option.{ForSome}
+use Rattle.std.proofs.lemmas.Option.{none-some, same_Some}
+use Rattle.domains.specs.Area.{HoldsPoint}
+use Rattle.domains.specs.Index.{index_at}
+use Rattle.domains.specs.declared.area.Area.{Area}
+use Rattle.job.specs.Formula.{Formula}
+use Rattle.job.specs.Pipeline.{JobCase, Body, plane, function, accumulator, Stage}
+use Rattle.job.specs.Values.{kernel_row, kernel_column}
+use Rattle.job.specs.Reads.{Read, point, window, EachRead, EachTaken, CaseReads, BodyReads, reads_of}
+use Rattle.job.specs.WellFormed.{IsReadable, IsValued}
+use Rattle.job.proofs.Solving.{BodyReads-both}
+use Rattle.normal_formulas.proofs.Standing.{stands}
+use Rattle.normal_jobs.specs.StandIns.{StandsForCase, StandsForOther, StandsForBody, StandsForStage, StandForStages}
+use Rattle.normal_jobs.proofs.Zipped.{Before, After, find_before, find_after, zip_all}
+
+-- ---- stages that can be read
+
+pub valued_stays : (b d : Body) → StandsForBody b d → IsValued b → IsValued d
+valued_stays (plane n) (plane m) z is = tt
+valued_stays (plane n) (function others other) z is = absurd z
+valued_stays (plane n) (accumulator other ends amount place) z is = absurd z
+valued_stays (function cases otherwise) (plane m) z is = absurd z
+valued_stays (function cases otherwise) (function others other) z is = tt
+valued_stays (function cases otherwise) (accumulator other ends amount place) z is = absurd z
+valued_stays (accumulator fold bins value bin) d z is = absurd is
+
+pub readable_stays : (ss ts : List Stage) → StandForStages ss ts → (g : ℕ) (r c : ℤ) → IsReadable ss g r c → IsReadable ts g r c
+readable_stays ss ts z g r c x =
+    let found : After StandsForStage ts g x.stage = find_after StandsForStage ss ts z g x.stage x.there in
+    record {
+      stage = found.item;
+      there = found.there;
+      valued = valued_stays x.stage.body found.item.body found.related.body x.valued;
+      within = subst (λ (a : Area). HoldsPoint a r c) (sym found.related.domain) x.within;
+    }
+
+-- ---- what is read
+
+taken_weaker : (P Q : ℕ → ℤ → ℤ → Type 0) → ((g : ℕ) (r c : ℤ) → P g r c → Q g r c) → (r c : ℤ) (x : Read) → EachTaken P x r c
+    → EachTaken Q x r c
+taken_weaker P Q f r c (point g i j) taken = f g (index_at i r) (index_at j c) taken
+taken_weaker P Q f r c (window g kernel) taken =
+    λ a b la lb. f g (kernel_row kernel r a) (kernel_column kernel c b) (taken a b la lb)
+
+-- what follows from what holds of a point holds of all that is read
+pub reads_weaker : (P Q : ℕ → ℤ → ℤ → Type 0) → ((g : ℕ) (r c : ℤ) → P g r c → Q g r c) → (body : Body) (r c : ℤ) → BodyReads P body r c
+    → BodyReads Q body r c
+reads_weaker P Q f body r c reads =
+    BodyReads-both P Q (λ x. Unit {0}) body r c (λ x static. taken_weaker P Q f r c x) (λ k d within. tt) reads
+
+case_reads_stay : (P : ℕ → ℤ → ℤ → Type 0) (r c : ℤ) (p q : JobCase) → StandsForCase p q → CaseReads P p r c → CaseReads P q r c
+case_reads_stay P r c p q z reads = λ box is inside. (stands p.formula q.formula z.formula).reads P r c (reads box (sym z.box ∙ is) inside)
+
+other_reads_stay : (P : ℕ → ℤ → ℤ → Type 0) (r c : ℤ) (o u : Option Formula) → StandsForOther o u → ForSome o (λ f. EachRead P f r c)
+    → ForSome u (λ f. EachRead P f r c)
+other_reads_stay P r c None None z reads = λ f is. absurd (none-some f is)
+other_reads_stay P r c None (Some g) z reads = absurd z
+other_reads_stay P r c (Some f) None z reads = absurd z
+other_reads_stay P r c (Some f) (Some g) z reads =
+    λ h is. subst (λ (k : Formula). EachRead P k r c) (same_Some g h is) ((stands f g z).reads P r c (reads f refl))
+
+pub body_reads_stay : (P : ℕ → ℤ → ℤ → Type 0) (r c : ℤ) (b d : Body) → StandsForBody b d → BodyReads P b r c → BodyReads P d r c
+body_reads_stay P r c (plane n) (plane m) z reads = tt
+body_reads_stay P r c (plane n) (function others other) z reads = absurd z
+body_reads_stay P r c (plane n) (accumulator other ends amount place) z reads = absurd z
+body_reads_stay P r c (function cases otherwise) (plane m) z reads = absurd z
+body_reads_stay P r c (function cases otherwise) (function others other) z reads = (
+  zip_all StandsForCase (λ p. CaseReads P p r c) (λ q. CaseReads P q r c) (case_reads_stay P r c) cases others z.0 reads.0,
+  other_reads_stay P r c otherwise other z.1 reads.1,
+)
+body_reads_stay P r c (function cases otherwise) (accumulator other ends amount place) z reads = absurd z
+body_reads_stay P r c (accumulator fold bins value bin) (plane m) z reads = absurd z
+body_reads_stay P r c (accumulator fold bins value bin) (function others other) z reads = absurd z
+body_reads_stay P r c (accumulator fold bins value bin) (accumulator other ends amount place) z reads = (
+  (stands value amount z.amounts).reads P r c reads.0,
+  (stands bin place z.places).reads P r c reads.1,
+)
