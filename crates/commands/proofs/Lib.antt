@@ -3,3 +3,4 @@ pub mod Ranging
 pub mod Replying
 pub mod Telling
 pub mod Retiled
+pub mod NormalResults

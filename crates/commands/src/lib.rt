@@ -4,6 +4,7 @@
 #![tactic(auto)]
 
 mod answer;
+mod asked_job;
 mod command;
 mod finding;
 mod plan_lines;

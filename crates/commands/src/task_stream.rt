@@ -6,6 +6,7 @@ ghost use Rattle.commands.specs.Planning.{SaysPlan};
 ghost use Rattle.commands.specs.inside.Questions.{saying_of};
 ghost use Rattle.command_jobs.specs.Results.{SaysResult};
 
+use crate::asked_job::make_job_of_eval_check_or_plan;
 use crate::question::JobQuestion;
 use crate::reply::compute_eval_check_or_plan_reply;
 use command_faults::StreamFault;
@@ -104,11 +105,12 @@ fn run_eval_check_or_plan<H: AllocGlobal + Threads + Sync, R: Source, W: Sink>(
 {
     let input = read_command_input_bytes(rt.alloc(), reader)?;
     let job = read_input_job(rt.alloc(), options.sides, parameters, input)?;
+    let asked = make_job_of_eval_check_or_plan(rt.alloc(), question, job)?;
     if let JobQuestion::Answer = question {
-        if let Some(result) = prepare_streamed_result(rt, rt.alloc(), &job)? {
+        if let Some(result) = prepare_streamed_result(rt, rt.alloc(), &asked)? {
             return Ok(result.write(writer)?);
         }
     }
-    let reply = compute_eval_check_or_plan_reply(rt, question, options, job)?;
+    let reply = compute_eval_check_or_plan_reply(rt, question, options, asked)?;
     Ok(write_job_reply(&reply, writer)?)
 }

@@ -29,9 +29,11 @@ returns-in_err-write_job_reply-clause-written g c =
     let made = c.in_ok-job.ensures in
     let tree = made.of_input.tree in
     let bytes = reply_bytes c.in_ok-reply.reply in
+    let asked = c.in_ok-asked.ensures in
     let said =
     said_of asks c.in_ok-input.input.items given sides c.in_ok-job.job bytes made.of_input made.job
-    (c.in_ok-reply.ensures tree made.of_input.text) in
+    (asked.saying c.args.options.now.stored c.args.options.now.percent tree bytes
+    (c.in_ok-reply.ensures tree (asked.text ∙ made.of_input.text))) in
     let failed = c.from_residual-in_err-write_job_reply in
     let p = err_from_is_err_and failed.result failed.ensures.1 in
     part_written (saying_of_job asks given sides) (refusing_job given sides) (g.R.Source.remaining c.args.reader.now)
@@ -47,9 +49,11 @@ returns-clause-written g c =
     let made = c.in_ok-job.ensures in
     let tree = made.of_input.tree in
     let bytes = reply_bytes c.in_ok-reply.reply in
+    let asked = c.in_ok-asked.ensures in
     let said =
     said_of asks c.in_ok-input.input.items given sides c.in_ok-job.job bytes made.of_input made.job
-    (c.in_ok-reply.ensures tree made.of_input.text) in
+    (asked.saying c.args.options.now.stored c.args.options.now.percent tree bytes
+    (c.in_ok-reply.ensures tree (asked.text ∙ made.of_input.text))) in
     all_written (saying_of_job asks given sides) (refusing_job given sides) (g.R.Source.remaining c.args.reader.now)
     c.in_ok-input.input.items tt bytes (g.W.Sink.contents c.args.writer.now) _ read.whole read.within said
     c.in_ok-write_job_reply.ensures.taken
@@ -63,11 +67,12 @@ returns-in_err-write-clause-written g c =
     let made = c.in_ok-job.ensures in
     let tree = made.of_input.tree in
     let bytes = streamed_bytes c.in-Some.result in
-    let is : bytes ≡ result_bytes (pipeline_in c.in_ok-job.job) = rw c.in-Some.is at c.in_ok-result.ensures in
+    let is : bytes ≡ result_bytes (pipeline_in c.in_ok-asked.asked) = rw c.in-Some.is at c.in_ok-result.ensures in
     let said =
     said_of asks c.in_ok-input.input.items given sides c.in_ok-job.job bytes made.of_input made.job
-    (subst (λ (q : JobQuestion). saying_of q c.args.options.now.stored c.args.options.now.percent tree (pipeline_in c.in_ok-job.job) bytes)
-    (sym c.in-Answer.is) is) in
+    (c.in_ok-asked.ensures.saying c.args.options.now.stored c.args.options.now.percent tree bytes
+    (subst (λ (q : JobQuestion). saying_of q c.args.options.now.stored c.args.options.now.percent tree (pipeline_in c.in_ok-asked.asked) bytes)
+    (sym c.in-Answer.is) is)) in
     let failed = c.from_residual-in_err-write in
     let p = err_from_is_err_and failed.result failed.ensures.1 in
     part_written (saying_of_job asks given sides) (refusing_job given sides) (g.R.Source.remaining c.args.reader.now)
@@ -83,11 +88,12 @@ returns-in-Some-clause-written g c =
     let made = c.in_ok-job.ensures in
     let tree = made.of_input.tree in
     let bytes = streamed_bytes c.in-Some.result in
-    let is : bytes ≡ result_bytes (pipeline_in c.in_ok-job.job) = rw c.in-Some.is at c.in_ok-result.ensures in
+    let is : bytes ≡ result_bytes (pipeline_in c.in_ok-asked.asked) = rw c.in-Some.is at c.in_ok-result.ensures in
     let said =
     said_of asks c.in_ok-input.input.items given sides c.in_ok-job.job bytes made.of_input made.job
-    (subst (λ (q : JobQuestion). saying_of q c.args.options.now.stored c.args.options.now.percent tree (pipeline_in c.in_ok-job.job) bytes)
-    (sym c.in-Answer.is) is) in
+    (c.in_ok-asked.ensures.saying c.args.options.now.stored c.args.options.now.percent tree bytes
+    (subst (λ (q : JobQuestion). saying_of q c.args.options.now.stored c.args.options.now.percent tree (pipeline_in c.in_ok-asked.asked) bytes)
+    (sym c.in-Answer.is) is)) in
     all_written (saying_of_job asks given sides) (refusing_job given sides) (g.R.Source.remaining c.args.reader.now)
     c.in_ok-input.input.items tt bytes (g.W.Sink.contents c.args.writer.now) _ read.whole read.within said
     c.in_ok-write.ensures.taken
