@@ -1,7 +1,8 @@
 //! The normal form of formulas: laws that change no value make the spellings of one formula alike.
 //!
 //! Words: normal formula, normal operands, normal literal, normal shift, normal clamp, normal minimum, normal maximum, normal sum, normal
-//! term, normal number, normal index, normal read, normal place, normal parts, normalize.
+//! term, normal number, normal index, normal read, normal place, normal parts, normal
+//! factor, normalize.
 #![tactic(auto)]
 
 mod clamps;
