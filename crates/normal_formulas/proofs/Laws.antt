@@ -1,5 +1,5 @@
 -- Laws of quotients, least and greatest numbers, and clamps.
-use Rattle.std.proofs.Common.{arith, ℕ, ℤ, pos, ◌≡◌, ◌≤◌, ◌^◌, ◌+ℤ◌, ◌*ℤ◌, ◌≤ℤ◌, FitsSigned, w32, List, [], ◌∷◌, ◌++◌, ap, refl, sym, ◌∙◌}
+use Rattle.std.proofs.Common.{arith, ℕ, ℤ, pos, ◌≡◌, ◌≤◌, ◌^◌, ◌+ℤ◌, ◌*ℤ◌, ◌≤ℤ◌, List, ◌++◌, ap, refl, sym, ◌∙◌}
 use Rattle.std.specs.Prelude.{All}
 use Rattle.std.specs.Int.{int_min, int_max}
 use Rattle.std.proofs.Math.IntN.{*ℤ_comm}
@@ -13,10 +13,10 @@ use Rattle.operators.specs.declared.operator.TernaryOp.TheVariants.{Clamp}
 use Rattle.operators.specs.declared.operator.LiteralOp.TheVariants.{Div, Shr}
 use Rattle.job.specs.Formula.{Formula, number, binary, ternary, literal}
 use Rattle.job.specs.Values.{Valuation, formula_value}
-use Rattle.job.specs.Reads.{Read, reads_in, stage_read, EachTaken, EachRead}
+use Rattle.job.specs.Reads.{Read, reads_in, stage_read, EachTaken}
 use Rattle.job.specs.WellFormed.{IsFormula}
 use Rattle.job.proofs.Agreeing.{All-left, All-right}
-use Rattle.normal_formulas.specs.Rewrites.{Fits32, Rewrites}
+use Rattle.normal_formulas.specs.Rewrites.{Rewrites}
 use Rattle.normal_formulas.proofs.Products.{one_times}
 use Rattle.normal_formulas.proofs.Standing.{Stands, stands, rewrites}
 use Rattle.normal_formulas.proofs.Rewriting.{in_binary, in_steps, as_it_is, steps, same}

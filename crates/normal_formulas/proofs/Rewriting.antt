@@ -1,5 +1,5 @@
 -- Formulas that may stand for others: in steps, and part by part.
-use Rattle.std.proofs.Common.{ℕ, ℤ, ◌≡◌, FitsSigned, w32, List, ◌++◌, ap, refl, sym, subst, ◌∙◌}
+use Rattle.std.proofs.Common.{ℕ, ℤ, ◌≡◌, List, ◌++◌, ap, refl, sym, subst, ◌∙◌}
 use Rattle.std.specs.Prelude.{All, if◌then◌else◌, Result, Ok, Err, OnOk}
 use Rattle.std.proofs.lemmas.List.Elements.{All-append}
 use Rattle.operators.specs.declared.operator.UnaryOp.{UnaryOp}
@@ -8,10 +8,9 @@ use Rattle.operators.specs.declared.operator.TernaryOp.{TernaryOp}
 use Rattle.operators.specs.declared.operator.LiteralOp.{LiteralOp}
 use Rattle.operators.specs.declared.operator.Relation.{Relation}
 use Rattle.tables.specs.Entries.{Entries, entry_at}
-use Rattle.job.specs.Formula.{Formula, number, coordinate, read, unary, binary, ternary, literal, lookup, select, stencil}
-use Rattle.job.specs.Values.{Valuation, formula_value, unary_value, binary_value, ternary_value, literal_value, is_related}
-use Rattle.job.specs.Reads.{Read, reads_in, stage_read, EachTaken, EachRead}
-use Rattle.job.specs.WellFormed.{IsFormula}
+use Rattle.job.specs.Formula.{Formula, unary, binary, ternary, literal, lookup, select}
+use Rattle.job.specs.Values.{formula_value, unary_value, binary_value, ternary_value, literal_value, is_related}
+use Rattle.job.specs.Reads.{Read, reads_in, stage_read, EachTaken}
 use Rattle.job.proofs.Agreeing.{All-left, All-right}
 use Rattle.normal_formulas.specs.Rewrites.{Fits32, Rewrites}
 use Rattle.normal_formulas.proofs.Standing.{Stands, stands, rewrites}

@@ -2,12 +2,12 @@
 use Rattle.std.proofs.Common.{ℕ, ℤ, ◌≡◌, FitsSigned, w32, List, subst, refl}
 use Rattle.std.specs.Prelude.{All, Contains}
 use Rattle.std.proofs.lemmas.List.Elements.{All-weaker, All-contains, All-contains_itself}
-use Rattle.domains.specs.Index.{Scale, index_at}
+use Rattle.domains.specs.Index.{index_at}
 use Rattle.job.specs.Formula.{Formula}
 use Rattle.job.specs.Values.{Valuation, formula_value, kernel_row, kernel_column}
 use Rattle.job.specs.Reads.{Read, point, window, reads_in, stage_read, EachTaken, EachRead}
 use Rattle.job.specs.WellFormed.{IsFormula}
-use Rattle.normal_formulas.specs.Rewrites.{Fits32, TakesPoint, TakesFactor, IsTaken, IsReadAt, IsStageOf, Rewrites}
+use Rattle.normal_formulas.specs.Rewrites.{Fits32, IsTaken, IsReadAt, IsStageOf, Rewrites}
 
 -- g may stand for f
 pub record Stands (f g : Formula) : Type 1 where

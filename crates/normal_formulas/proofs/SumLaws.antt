@@ -1,5 +1,5 @@
 -- Sums of factors times terms that stand for other formulas.
-use Rattle.std.proofs.Common.{arith, ℕ, zero, suc, ℤ, ◌≡◌, ◌≤◌, ◌<◌, pos, negsuc, neg_ℤ, ◌^◌, ◌+ℤ◌, ◌-ℤ◌, ◌*ℤ◌, w32, to_z, of_z, FitsSigned, List, [], ◌∷◌, ◌++◌, Some, slice_get, slice_set, length, take, drop, ap, sym, refl, subst, ◌∙◌}
+use Rattle.std.proofs.Common.{arith, ℕ, zero, suc, ℤ, ◌≡◌, ◌≤◌, pos, negsuc, neg_ℤ, ◌^◌, ◌+ℤ◌, ◌*ℤ◌, w32, to_z, of_z, FitsSigned, List, [], ◌∷◌, ◌++◌, Some, slice_get, slice_set, length, take, drop, ap, sym, refl, subst, ◌∙◌}
 use Rattle.std.specs.Prelude.{All}
 use Rattle.std.proofs.Math.IntN.{*ℤ_comm}
 use Rattle.std.proofs.lemmas.Int.{ints, to_z-of_z, SFits-int_wrap}
@@ -11,16 +11,15 @@ use Rattle.operators.specs.declared.operator.BinaryOp.TheVariants.{Add, Sub, Mul
 use Rattle.operators.specs.declared.operator.LiteralOp.TheVariants.{Shl}
 use Rattle.job.specs.Formula.{Formula, number, unary, binary, literal}
 use Rattle.job.specs.Views.{formula_view}
-use Rattle.job.specs.Values.{Valuation, formula_value}
-use Rattle.job.specs.Reads.{Read, reads_in, stage_read, EachTaken, EachRead}
-use Rattle.job.specs.WellFormed.{IsFormula}
+use Rattle.job.specs.Values.{formula_value}
+use Rattle.job.specs.Reads.{Read, reads_in, stage_read, EachTaken}
 use Rattle.job.proofs.Agreeing.{All-left, All-right}
 use Rattle.job.proofs.Fitting.{formula_fits}
 use Rattle.normal_formulas.specs.Rewrites.{Fits32, Rewrites}
-use Rattle.normal_formulas.specs.NormalSums.{product, term_formula, terms_over, sum_formula}
+use Rattle.normal_formulas.specs.NormalSums.{product, term_formula, terms_over}
 use Rattle.normal_formulas.specs.declared.sums.NormalTerm.{NormalTerm}
 use Rattle.normal_formulas.proofs.Standing.{Stands, stands, rewrites}
-use Rattle.normal_formulas.proofs.Rewriting.{as_it_is, in_steps, in_binary, both_lists}
+use Rattle.normal_formulas.proofs.Rewriting.{as_it_is, in_steps, in_binary}
 use Rattle.normal_formulas.proofs.Laws.{by_value, exchanged_lists}
 use Rattle.normal_formulas.proofs.SumValues.{exchanged, number_added, merged, sum_spread, difference_spread, negation_spread, left_spread, right_spread, alone, without_number, first_of_one, first_of_minus_one, behind_one, behind_minus_one, behind_product, behind_negation, number_away, with_nothing_more}
 
