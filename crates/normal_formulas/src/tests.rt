@@ -42,7 +42,7 @@ fn bounds_on_both_sides_are_a_clamp(rt: HostRuntime) -> Result<(), Fail> {
     Ok(())
 }
 
-// 3 * v - (2 - v) is 4 * v - 2.
+// v + 3 * v - (2 - v) is 5 * v - 2.
 #[test]
 fn one_read_is_one_term(rt: HostRuntime) -> Result<(), Fail> {
     let alloc = rt.alloc();
@@ -53,6 +53,7 @@ fn one_read_is_one_term(rt: HostRuntime) -> Result<(), Fail> {
         Formula::Number(3),
         Formula::Read(0, here, here),
     )?;
+    let sum = spell_normal_formula(alloc, BinaryOp::Add, Formula::Read(0, here, here), product)?;
     let rest = spell_normal_formula(
         alloc,
         BinaryOp::Sub,
@@ -61,7 +62,7 @@ fn one_read_is_one_term(rt: HostRuntime) -> Result<(), Fail> {
     )?;
     let made = normalize_formula(
         alloc,
-        &spell_normal_formula(alloc, BinaryOp::Sub, product, rest)?,
+        &spell_normal_formula(alloc, BinaryOp::Sub, sum, rest)?,
     )?;
     match made {
         Formula::Binary(BinaryOp::Sub, left, right) => {
