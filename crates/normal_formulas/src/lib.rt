@@ -2,7 +2,7 @@
 //!
 //! Words: normal formula, normal operands, normal literal, normal shift, normal clamp, normal minimum, normal maximum, normal sum, normal
 //! term, normal number, normal index, normal read, normal place, normal parts, normal
-//! factor, normalize.
+//! factor, normal difference, normalize.
 #![tactic(auto)]
 
 mod clamps;

@@ -66,6 +66,23 @@ fn count_normal_terms(formula: &Formula) -> usize {
     }
 }
 
+// Whether a sum is left as it is: a step of a division subtracts a formula that is shifted to the left.
+fn is_normal_difference(formula: &Formula) -> bool {
+    has_normal_shift(formula) && count_normal_terms(formula) < 3
+}
+
+// Whether a term of a sum is shifted to the left.
+fn has_normal_shift(formula: &Formula) -> bool {
+    match formula {
+        Formula::Literal(LiteralOp::Shl, _, _) => true,
+        Formula::Unary(UnaryOp::Neg, of) => has_normal_shift(of),
+        Formula::Binary(BinaryOp::Add | BinaryOp::Sub, left, right) => {
+            has_normal_shift(left) || has_normal_shift(right)
+        }
+        _ => false,
+    }
+}
+
 // Whether a formula is gathered as a sum.
 fn is_normal_sum(formula: &Formula) -> bool {
     match formula {
@@ -167,7 +184,7 @@ fn normalize_formula_in_box(alloc: Global, formula: &Formula) -> Result<Box<Form
 pub fn normalize_formula(alloc: Global, formula: &Formula) -> Result<Formula, AllocError>
     ensures { IfOk result (λ made. Rewrites (formula_view formula.now) (formula_view made)) }
 {
-    if is_normal_sum(formula) && count_normal_terms(formula) > 2 {
+    if is_normal_sum(formula) && !is_normal_difference(formula) {
         normalize_sum(alloc, formula)
     } else {
         normalize_formula_parts(alloc, formula)
