@@ -1,8 +1,8 @@
 //! A mailbox with a pass for it.
 
 ghost use Rattle.std.specs.Prelude.{◌≡◌, ◌++◌, ◌∷◌, [], IfErr, IfNone, IfSome, OnOk};
-ghost use Rattle.crossbeam_queue.specs.Passes.{IsPassOf, view};
-ghost use Rattle.posts.specs.Parcels.{IsTrueParcel, moves};
+ghost use Rattle.crossbeam_queue.specs.Passes.{IsPassOf, ruled_capacity, view};
+ghost use Rattle.posts.specs.Parcels.{IsTrueParcel, WasFull, moves};
 
 use crate::parcel::Parcel;
 use crate::post::{Pass, Post};
@@ -20,7 +20,8 @@ pub struct MailboxPort<'a, C: NamedCatalog> {
 impl<'a, C: NamedCatalog> MailboxPort<'a, C> {
     /// A way to this mailbox, by a new pass. No memory is allocated.
     pub fn new(post: &'a Post<C>) -> MailboxPort<'a, C>
-        ensures { view result.pass.seat ≡ moves [] [] }
+        ensures fresh { view result.pass.seat ≡ moves [] [] }
+        ensures post { result.post.now ≡ post.now }
     {
         MailboxPort {
             post,
@@ -35,6 +36,8 @@ impl<'a, C: NamedCatalog> MailboxPort<'a, C> {
             ≡ moves ((view self.old.pass.seat).puts ++ parcel ∷ []) (view self.old.pass.seat).takes) }
         ensures handed_back { IfErr result (λ back. back ≡ parcel) }
         ensures nothing { IfErr result (λ _. view self.new.pass.seat ≡ view self.old.pass.seat) }
+        ensures full { IfErr result (λ _. WasFull C.catalog (ruled_capacity self.old.post.now.queue)) }
+        ensures post { self.new.post.now ≡ self.old.post.now }
     {
         self.post.put(rt, &mut self.pass, parcel)
     }
@@ -45,6 +48,7 @@ impl<'a, C: NamedCatalog> MailboxPort<'a, C> {
         ensures taken { IfSome result (λ parcel. view self.new.pass.seat
             ≡ moves (view self.old.pass.seat).puts ((view self.old.pass.seat).takes ++ parcel ∷ [])) }
         ensures nothing { IfNone result (view self.new.pass.seat ≡ view self.old.pass.seat) }
+        ensures post { self.new.post.now ≡ self.old.post.now }
     {
         self.post.take(rt, &mut self.pass)
     }

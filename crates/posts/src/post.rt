@@ -2,7 +2,7 @@
 
 ghost use Rattle.std.specs.Prelude.{◌≡◌, ◌<◌, ◌++◌, ◌∷◌, [], length, All, IfErr, IfNone, IfOk, IfSome, OnOk};
 ghost use Rattle.crossbeam_queue.specs.Passes.{IsPassOf, ruled_capacity, view};
-ghost use Rattle.posts.specs.Parcels.{IsTrueParcel, moves};
+ghost use Rattle.posts.specs.Parcels.{IsTrueParcel, WasFull, moves};
 
 use crate::parcel::{Parcel, ParcelMoves};
 use crate::rule::{ParcelTaking, TrueParcels};
@@ -89,6 +89,7 @@ impl<C: NamedCatalog> Post<C> {
             ≡ moves ((view pass.old.seat).puts ++ parcel ∷ []) (view pass.old.seat).takes) }
         ensures handed_back { IfErr result (λ back. back ≡ parcel) }
         ensures nothing { IfErr result (λ _. view pass.new.seat ≡ view pass.old.seat) }
+        ensures full { IfErr result (λ _. WasFull C.catalog (ruled_capacity self.now.queue)) }
     {
         self.queue
             .push_as::<TrueParcels<C>, R>(rt, &mut pass.seat, parcel)

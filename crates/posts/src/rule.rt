@@ -25,8 +25,11 @@ impl<C: NamedCatalog> Outcome<Parcel, ParcelMoves> for TrueParcels<C> {
     ghost then = { Puts };
 }
 
+// What a put learns of a mailbox that is full: that its parcels are true.
 impl<C: NamedCatalog> Lesson<Parcel, ParcelMoves> for TrueParcels<C> {
-    ghost fact = { λ v items. Unit {0} };
+    ghost use Rattle.posts.specs.Parcels.{AreTrueParcels};
+
+    ghost fact = { λ v items. AreTrueParcels C.catalog items };
 }
 
 /// What a take records on its pass: that the parcel is taken, and that its updates are true.
