@@ -1,5 +1,5 @@
 -- A job in normal form has the result of the job.
-use Rattle.std.proofs.Common.{◌≡◌, ◌++◌, ℕ, List, [], length, map, refl, slice_get, sym}
+use Rattle.std.proofs.Common.{◌≡◌, ◌++◌, ℕ, [], refl, sym}
 use Rattle.std.specs.List.{flat_map, range_with_len}
 use Rattle.std.specs.Option.{option_map_or}
 use Rattle.netpbm.specs.Spelling.{spelling}

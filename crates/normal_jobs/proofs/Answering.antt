@@ -1,16 +1,16 @@
 -- A job whose stages stand for those of another one answers what that answers.
 use Rattle.std.proofs.Common.{ℕ, ◌≡◌, ℤ, List, [], Option, Some, None, FitsSigned, w32, map, ap, sym, subst, ◌∙◌, refl}
-use Rattle.std.specs.Prelude.{All, slice_get, slice_index}
+use Rattle.std.specs.Prelude.{slice_get, slice_index}
 use Rattle.std.specs.Option.{ForSome, option_map, option_map_or}
 use Rattle.std.proofs.lemmas.List.Elements.{All-weaker}
 use Rattle.domains.specs.Area.{HoldsPoint, IsArea, points_of}
 use Rattle.domains.specs.declared.area.Area.{Area}
-use Rattle.job.specs.Answers.{height_of, width_of, image, picture_of, sample_of, samples, samples_over}
+use Rattle.job.specs.Answers.{height_of, width_of, picture_of, sample_of, samples, samples_over}
 use Rattle.job.specs.OtherStages.{with_stages}
 use Rattle.job.specs.Pipeline.{Body, plane, function, accumulator, Stage, Output, Pipeline}
 use Rattle.job.specs.Reads.{BodyReads, SameAt}
-use Rattle.job.specs.Totals.{body_totals, totals}
-use Rattle.job.specs.Values.{Valuation, body_value, value}
+use Rattle.job.specs.Totals.{body_totals}
+use Rattle.job.specs.Values.{value}
 use Rattle.job.specs.WellFormed.{IsFunction, IsJob, IsOutput, IsOutputPlane, IsReadable, IsStage, IsValued, Solves}
 use Rattle.job.proofs.Solving.{near_fits, one_solution, ranked_is, value_fits, value_solves}
 use Rattle.job.proofs.TotalLaws.{body_totals-agrees, points_inside}

@@ -1,5 +1,5 @@
 -- Formulas that stand for others read of the same stages, so that ranks stay.
-use Rattle.std.proofs.Common.{ℕ, arith, ◌≤◌, ◌+◌, ◌≡◌, List, [], ◌∷◌, ◌++◌, Option, Some, None, map, ap, ◌∙◌, sym, subst, refl}
+use Rattle.std.proofs.Common.{ℕ, arith, ◌≤◌, ◌+◌, ◌≡◌, List, [], ◌∷◌, Option, Some, None, map, ap, ◌∙◌, refl}
 use Rattle.std.specs.Prelude.{All}
 use Rattle.std.specs.List.{AllZip, flat_map}
 use Rattle.std.proofs.lemmas.List.Elements.{All-nil, All-cons, All-head, All-tail, All-append}

@@ -1,7 +1,5 @@
 -- What stands for a stage reads what that reads.
-use Rattle.std.proofs.Common.{ℕ, ◌<◌, ◌≡◌, ℤ, List, [], ◌∷◌, Option, Some, None, length, slice_get, subst, sym, ◌∙◌, refl}
-use Rattle.std.specs.Prelude.{All}
-use Rattle.std.specs.List.{AllZip}
+use Rattle.std.proofs.Common.{ℕ, ℤ, List, Option, Some, None, subst, sym, ◌∙◌, refl}
 use Rattle.std.specs.Option.{ForSome}
 use Rattle.std.proofs.lemmas.Option.{none-some, same_Some}
 use Rattle.domains.specs.Area.{HoldsPoint}
@@ -10,12 +8,12 @@ use Rattle.domains.specs.declared.area.Area.{Area}
 use Rattle.job.specs.Formula.{Formula}
 use Rattle.job.specs.Pipeline.{JobCase, Body, plane, function, accumulator, Stage}
 use Rattle.job.specs.Values.{kernel_row, kernel_column}
-use Rattle.job.specs.Reads.{Read, point, window, EachRead, EachTaken, CaseReads, BodyReads, reads_of}
+use Rattle.job.specs.Reads.{Read, point, window, EachRead, EachTaken, CaseReads, BodyReads}
 use Rattle.job.specs.WellFormed.{IsReadable, IsValued}
 use Rattle.job.proofs.Solving.{BodyReads-both}
 use Rattle.normal_formulas.proofs.Standing.{stands}
 use Rattle.normal_jobs.specs.StandIns.{StandsForCase, StandsForOther, StandsForBody, StandsForStage, StandForStages}
-use Rattle.normal_jobs.proofs.Zipped.{Before, After, find_before, find_after, zip_all}
+use Rattle.normal_jobs.proofs.Zipped.{After, find_after, zip_all}
 
 -- ---- stages that can be read
 

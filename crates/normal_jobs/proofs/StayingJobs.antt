@@ -1,8 +1,6 @@
 -- A job stays one where other stages stand for its own.
-use Rattle.std.proofs.Common.{ℕ, ◌*◌, ◌≤◌, ◌≡◌, ℤ, pos, List, Option, Some, None, length, ap, sym, subst, ◌∙◌, refl}
-use Rattle.std.specs.Prelude.{All, Bool, IsTrue, slice_get, slice_index}
-use Rattle.std.specs.List.{AllZip}
-use Rattle.std.specs.Option.{option_map_or}
+use Rattle.std.proofs.Common.{ℕ, ◌*◌, ◌≤◌, ◌≡◌, List, ap, sym, subst, ◌∙◌, refl}
+use Rattle.std.specs.Prelude.{All, IsTrue, slice_index}
 use Rattle.std.proofs.lemmas.List.Elements.{All-weaker}
 use Rattle.domains.specs.Area.{HoldsPoint}
 use Rattle.domains.specs.Span.{Ends, len_of}
@@ -13,13 +11,13 @@ use Rattle.job.specs.Answers.{has_tiles, height_of, width_of}
 use Rattle.job.specs.Boxes.{AreBoxed, box_of}
 use Rattle.job.specs.Formula.{Test}
 use Rattle.job.specs.OtherStages.{with_stages}
-use Rattle.job.specs.Pipeline.{JobCase, Body, plane, function, accumulator, Stage, Output, Pipeline}
+use Rattle.job.specs.Pipeline.{Body, plane, function, accumulator, Stage, Output, Pipeline}
 use Rattle.job.specs.WellFormed.{InDomainRange, IsBody, IsFunction, IsJob, IsOutput, IsOutputPlane, IsReadable, IsStage, IsTest}
 use Rattle.normal_jobs.specs.StandIns.{StandsForCase, StandsForBody, StandsForStage, StandForStages}
 use Rattle.normal_jobs.proofs.Zipped.{Before, After, find_before, find_after, same_at, same_length, zip_all}
 use Rattle.normal_jobs.proofs.Ranked.{formulas_stand, formulas_stay, rank_stays}
 use Rattle.normal_jobs.proofs.Reading.{body_reads_stay, readable_stays, reads_weaker}
-use Rattle.job.specs.Reads.{BodyReads, formulas_of}
+use Rattle.job.specs.Reads.{formulas_of}
 
 -- ---- bodies
 

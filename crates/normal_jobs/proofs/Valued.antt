@@ -1,6 +1,6 @@
 -- What stands for a stage has its value, and its totals, wherever what is read fits in 32 bits.
-use Rattle.std.proofs.Common.{ℕ, ◌≡◌, ℤ, pos, List, [], ◌∷◌, ◌++◌, Bool, true, false, Option, Some, None, FitsSigned, w32, map, ap, sym, subst, ◌∙◌, refl}
-use Rattle.std.specs.Prelude.{All, filter, if◌then◌else◌}
+use Rattle.std.proofs.Common.{ℕ, ◌≡◌, ℤ, pos, List, [], ◌∷◌, Bool, true, false, Option, Some, None, FitsSigned, w32, map, ap, ◌∙◌, refl}
+use Rattle.std.specs.Prelude.{All, if◌then◌else◌}
 use Rattle.std.specs.List.{AllZip}
 use Rattle.std.specs.Ordering.{int_eq}
 use Rattle.std.specs.Option.{ForSome, option_map_or}

@@ -1,9 +1,8 @@
-use Rattle.std.proofs.Common.{◌≡◌, ◌∙◌, sym, subst}
+use Rattle.std.proofs.Common.{◌∙◌, sym, subst}
 use Rattle.std.proofs.lemmas.Result.{IfOk-weaker}
 use Rattle.job.specs.Kept.{pipeline_in}
 use Rattle.commands.specs.declared.question.JobQuestion.{JobQuestion}
 use Rattle.commands.specs.inside.Questions.{saying_of}
-use Rattle.command_jobs.specs.Results.{result_bytes}
 use Rattle.commands.proofs.NormalResults.{same_result_in_normal_form}
 use Rattle.commands.proofs.asked_job.make_job_of_eval_check_or_plan.Goals as goal
 
