@@ -1,14 +1,15 @@
 -- Filters along a row of points: what they read, and their values.
-use Rattle.std.proofs.Common.{arith, ℕ, ℤ, ◌≡◌, ◌<◌, pos, neg_ℤ, ◌+ℤ◌, ◌*ℤ◌, w16, w32, FitsSigned, ap, sym, subst, ◌∙◌, refl}
-use Rattle.std.proofs.Common.{List, [], ◌∷◌, All}
+use Rattle.std.proofs.Common.{arith, ℕ, ℤ, ◌≡◌, ◌<◌, pos, ◌+ℤ◌, ◌*ℤ◌, w16, ap, sym, subst, ◌∙◌, refl}
+use Rattle.std.proofs.Common.{List, [], ◌∷◌, All, Bool, true, false}
+use Rattle.std.specs.Prelude.{if◌then◌else◌}
+use Rattle.std.specs.Ordering.{int_eq}
+use Rattle.std.proofs.lemmas.Bool.Decides.{Decides-int_eq}
 use Rattle.std.specs.Int.{int_wrap}
 use Rattle.std.proofs.lemmas.Int.{ints, int_wrap_fits}
 use Rattle.std.proofs.lemmas.List.Elements.{All-nil, All-cons, All-head, All-tail}
-use Rattle.domains.specs.Arithmetic.{wrapped}
-use Rattle.operators.specs.declared.operator.UnaryOp.TheVariants.{Neg}
-use Rattle.operators.specs.declared.operator.BinaryOp.TheVariants.{Add}
+use Rattle.operators.specs.declared.operator.BinaryOp.TheVariants.{Add, Mul}
 use Rattle.operators.specs.Values.{binary_value, literal_value}
-use Rattle.job.specs.Formula.{Formula, number, binary, unary}
+use Rattle.job.specs.Formula.{Formula, number, binary}
 use Rattle.job.specs.Reads.{Read, point, reads_in, EachTaken, EachRead}
 use Rattle.job.specs.Values.{Valuation, formula_value}
 use Rattle.job.proofs.Agreeing.{All-left, All-right}
@@ -23,9 +24,40 @@ use Rattle.narrow_eval.proofs.NarrowGroups.{centered_difference}
 use Rattle.narrow_filters.specs.declared.filter.NarrowFilterCenter.{NarrowFilterCenter}
 use Rattle.narrow_filters.specs.declared.filter.NarrowFilterTap.{NarrowFilterTap}
 use Rattle.narrow_filters.specs.declared.filter.NarrowFilter.{NarrowFilter}
-use Rattle.narrow_filters.specs.Filters.{read_formula, difference_formula, tap_formula, taps_formula, scaled_formula, filter_formula, IsShiftingRead}
+use Rattle.narrow_filters.specs.Filters.{read_formula, difference_formula, times, tap_formula, taps_formula, scaled_formula, filter_formula, IsShiftingRead}
 use Rattle.narrow_filters.specs.inside.Taps.{IsReadyRead}
 use Rattle.narrow_filters.specs.inside.TapValues.{sample_of, tap_value, taps_value}
+
+-- ---- products, of which a factor of 1 is not written
+
+reads_times : (factor : ℤ) (f : Formula) → reads_in (times factor f) ≡ reads_in f
+reads_times factor f = either (int_eq factor (pos 1))
+  where
+    either : (one : Bool) → reads_in (if one then f else binary Mul (number factor) f) ≡ reads_in f
+    either true = refl
+    either false = refl
+
+module _ (env : Valuation) (r c : ℤ) (n : ℕ) (factor : ℤ) (f : Formula) where
+  abbrev IsProduct : Formula → Type 0
+  IsProduct g =
+      NarrowWithin env f r c n
+      × ((k : ℕ) → k < n → Same16 (factor *ℤ formula_value env f r (c +ℤ pos k)) (formula_value env g r (c +ℤ pos k)))
+
+  times_same : NarrowWithin env (times factor f) r c n → IsProduct (times factor f)
+  times_same = either (int_eq factor (pos 1)) refl
+    where
+      one_times : (x : ℤ) → pos 1 *ℤ x ≡ x
+      one_times x = omega (arith, ints)
+
+      either : (one : Bool) → int_eq factor (pos 1) ≡ one → NarrowWithin env (if one then f else binary Mul (number factor) f) r c n
+          → IsProduct (if one then f else binary Mul (number factor) f)
+      either true e h = (
+        h,
+        λ k l.
+            let v = formula_value env f r (c +ℤ pos k) in
+            ap (int_wrap w16) (ap (λ (z : ℤ). z *ℤ v) ((Decides-int_eq factor (pos 1)).0 e) ∙ one_times v),
+      )
+      either false e h = (h.1, λ k l. sym (same_wrapped (factor *ℤ formula_value env f r (c +ℤ pos k))))
 
 -- ---- what they read
 
@@ -39,7 +71,9 @@ module _ (has : ℕ → ℤ → ℤ → Type 0) (r c : ℤ) (n : ℕ) where
   tap_ready : (center : NarrowFilterCenter) (t : NarrowFilterTap) → IsShiftingRead t.read → EachReadHere (tap_formula center t) → IsReadyTap t
   tap_ready center t adds h = record {
     adds = adds;
-    reads = λ k l. h k l 0 (point t.read.stage t.read.row.now t.read.col.now) (omega arith);
+    reads = λ k l.
+        subst (All (λ x. EachTaken has x r (c +ℤ pos k))) (reads_times t.factor (difference_formula center t.read)) (h k l) 0
+        (point t.read.stage t.read.row.now t.read.col.now) (omega arith);
   }
 
   taps_ready : (center : NarrowFilterCenter) (ts : List NarrowFilterTap) → All (λ t. IsShiftingRead t.read) ts
@@ -71,19 +105,16 @@ module _ (has : ℕ → ℤ → ℤ → Type 0) (r c : ℤ) (n : ℕ) where
 
 -- ---- the values of their taps
 
-negated : (x : ℤ) → Fits16 x → neg_ℤ x ≡ wrapped (neg_ℤ x)
-negated x h = let long : FitsSigned w32 (neg_ℤ x) = omega (arith, ints, h) in sym (int_wrap_fits w32 (neg_ℤ x) long)
-
 module _ (env : Valuation) (r c : ℤ) (n : ℕ) (center : NarrowFilterCenter) where
   tap_same : (t : NarrowFilterTap) → NarrowWithin env (tap_formula center t) r c n → (k : ℕ) → k < n
       → Same16 (tap_value env center t r (c +ℤ pos k)) (formula_value env (tap_formula center t) r (c +ℤ pos k))
   tap_same t h k l =
-      let below : Fits16 center.below = h.1.1.0 k l in
+      let product : IsProduct env r c n t.factor (difference_formula center t.read) (tap_formula center t) =
+      times_same env r c n t.factor (difference_formula center t.read) h in
       ap (int_wrap w16)
       (centered_difference env r c n (difference_formula center t.read) (read_formula t.read) (read_formula center.read)
-      (unary Neg (number center.below)) (number center.above) refl h.1 t.factor t.factor _ _ (neg_ℤ center.below) center.above k l refl refl refl
-      (negated center.below below) refl)
-      ∙ sym (same_wrapped (t.factor *ℤ formula_value env (difference_formula center t.read) r (c +ℤ pos k)))
+      (number center.low) (number center.high) refl product.0 t.factor t.factor _ _ center.low center.high k l refl refl refl refl refl)
+      ∙ product.1 k l
 
   taps_same : (ts : List NarrowFilterTap) → NarrowWithin env (taps_formula center ts) r c n → (k : ℕ) → k < n
       → Same16 (taps_value env center ts r (c +ℤ pos k)) (formula_value env (taps_formula center ts) r (c +ℤ pos k))

@@ -1,14 +1,13 @@
 -- Sums of taps, and the lists that they are found as.
 use Rattle.std.proofs.Common.{◌≡◌, ◌<◌, List, [], ◌∷◌, ◌++◌, length, map, arith, ap, refl}
-use Rattle.operators.specs.declared.operator.UnaryOp.TheVariants.{Neg}
-use Rattle.operators.specs.declared.operator.BinaryOp.TheVariants.{Add, Sub, Mul}
+use Rattle.operators.specs.declared.operator.BinaryOp.TheVariants.{Add, Sub}
 use Rattle.operators.specs.declared.operator.TernaryOp.TheVariants.{Clamp}
 use Rattle.job.specs.declared.stage.JobCase.{JobCase as KeptCase}
-use Rattle.job.specs.Formula.{Formula, number, unary, binary, ternary}
+use Rattle.job.specs.Formula.{Formula, number, binary, ternary}
 use Rattle.job.specs.Views.{case_view}
 use Rattle.narrow_filters.specs.declared.filter.NarrowFilterCenter.{NarrowFilterCenter}
 use Rattle.narrow_filters.specs.declared.filter.NarrowFilterTap.{NarrowFilterTap}
-use Rattle.narrow_filters.specs.Filters.{read_formula, tap_formula, taps_formula}
+use Rattle.narrow_filters.specs.Filters.{read_formula, times, tap_formula, taps_formula}
 use Rattle.narrow_filters.specs.inside.Taps.{taps_onto, IsSameCenter}
 
 -- the first tap of a sum is the last one of its list
@@ -27,8 +26,8 @@ next_found center f t (u ∷ ts) = ap (λ (g : Formula). binary Add g (tap_formu
 -- the same center gives the same taps
 pub same_tap : (a b : NarrowFilterCenter) → IsSameCenter a b → (t : NarrowFilterTap) → tap_formula a t ≡ tap_formula b t
 same_tap a b same t = λ i.
-    binary Mul (number t.factor)
-    (ternary Clamp (binary Sub (read_formula t.read) (same.read i)) (unary Neg (number (same.below i))) (number (same.above i)))
+    times t.factor
+    (ternary Clamp (binary Sub (read_formula t.read) (same.read i)) (number (same.low i)) (number (same.high i)))
 
 -- a list that is shorter than 1
 pub no_cases : (ps : List KeptCase) → length ps < 1 → map case_view ps ≡ []

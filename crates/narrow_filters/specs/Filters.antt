@@ -1,10 +1,10 @@
 -- Functions that add a scaled sum of clamped differences to the read that these are taken from, their center.
-use Rattle.std.specs.Prelude.{pos, ◌≡◌, ◌≤ℤ◌, List, [], ◌∷◌, All}
-use Rattle.operators.specs.declared.operator.UnaryOp.TheVariants.{Neg}
+use Rattle.std.specs.Prelude.{ℤ, pos, ◌≡◌, ◌≤ℤ◌, if◌then◌else◌, List, [], ◌∷◌, All}
+use Rattle.std.specs.Ordering.{int_eq}
 use Rattle.operators.specs.declared.operator.BinaryOp.TheVariants.{Add, Sub, Mul}
 use Rattle.operators.specs.declared.operator.TernaryOp.TheVariants.{Clamp}
 use Rattle.operators.specs.Limits.{IsLiteral}
-use Rattle.job.specs.Formula.{Formula, number, read, unary, binary, ternary, literal}
+use Rattle.job.specs.Formula.{Formula, number, read, binary, ternary, literal}
 use Rattle.narrow_filters.specs.declared.filter.NarrowFilterRead.{NarrowFilterRead}
 use Rattle.narrow_filters.specs.declared.filter.NarrowFilterCenter.{NarrowFilterCenter}
 use Rattle.narrow_filters.specs.declared.filter.NarrowFilterTap.{NarrowFilterTap}
@@ -19,11 +19,15 @@ read_formula x = read x.stage x.row.now x.col.now
 -- how far a read lies above the center, clamped
 abbrev pub difference_formula : NarrowFilterCenter → NarrowFilterRead → Formula
 difference_formula center x =
-    ternary Clamp (binary Sub (read_formula x) (read_formula center.read)) (unary Neg (number center.below)) (number center.above)
+    ternary Clamp (binary Sub (read_formula x) (read_formula center.read)) (number center.low) (number center.high)
+
+-- a factor times a formula; a factor of 1 is not written
+abbrev pub times : ℤ → Formula → Formula
+times factor f = if int_eq factor (pos 1) then f else binary Mul (number factor) f
 
 -- a factor times such a difference
 abbrev pub tap_formula : NarrowFilterCenter → NarrowFilterTap → Formula
-tap_formula center t = binary Mul (number t.factor) (difference_formula center t.read)
+tap_formula center t = times t.factor (difference_formula center t.read)
 
 -- taps added up, where the list begins with the last one
 abbrev pub taps_formula : NarrowFilterCenter → List NarrowFilterTap → Formula
@@ -48,7 +52,7 @@ IsShiftingRead x = (x.col.now.mul ≡ pos 1) × (x.col.now.div ≡ pos 1)
 
 -- 0 lies within the bounds
 abbrev pub IsRightCenter : NarrowFilterCenter → Type 0
-IsRightCenter center = IsShiftingRead center.read × (pos 0 ≤ℤ center.below) × (pos 0 ≤ℤ center.above)
+IsRightCenter center = IsShiftingRead center.read × (center.low ≤ℤ pos 0) × (pos 0 ≤ℤ center.high)
 
 -- each line that it takes can be borrowed, 0 lies within the bounds of its center, and its literal within the limits of its operator
 pub record IsRightFilter (filter : NarrowFilter) : Type 0 where

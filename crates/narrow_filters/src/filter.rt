@@ -14,12 +14,12 @@ pub struct NarrowFilterRead<'a> {
     pub(crate) col: &'a Index,
 }
 
-/// The read that differences are taken from, and how far below it and above it other reads count at most. Neither is below 0.
+/// The read that differences are taken from, and the least and the greatest difference that counts. 0 lies between them.
 #[derive(Clone, Copy)]
 pub struct NarrowFilterCenter<'a> {
     pub(crate) read: NarrowFilterRead<'a>,
-    pub(crate) below: i16,
-    pub(crate) above: i16,
+    pub(crate) low: i16,
+    pub(crate) high: i16,
 }
 
 /// A factor, and the read whose clamped difference from the center it multiplies.

@@ -1,14 +1,13 @@
 #![tactic(auto)]
 //! The filter that a function is, found in its formula alone.
 
-ghost use Rattle.std.specs.Prelude.{◌≡◌, ◌≤ℤ◌, pos, neg_ℤ, [], Some, map, IfOk, IfSome, IsTrue, All};
+ghost use Rattle.std.specs.Prelude.{◌≡◌, ◌≤ℤ◌, pos, [], Some, map, IfOk, IfSome, IsTrue, All};
 ghost use Rattle.std.specs.Option.{option_map};
-ghost use Rattle.operators.specs.declared.operator.UnaryOp.TheVariants.{Neg};
 ghost use Rattle.operators.specs.declared.operator.BinaryOp.TheVariants.{Add, Sub};
 ghost use Rattle.operators.specs.Limits.{IsLiteral};
-ghost use Rattle.job.specs.Formula.{Formula as FormulaView, number, unary, binary};
+ghost use Rattle.job.specs.Formula.{Formula as FormulaView, number, binary};
 ghost use Rattle.job.specs.Views.{case_view, formula_view};
-ghost use Rattle.narrow_filters.specs.Filters.{read_formula, difference_formula, tap_formula, taps_formula, scaled_formula, filter_formula, IsShiftingRead, IsRightCenter, IsRightFilter};
+ghost use Rattle.narrow_filters.specs.Filters.{read_formula, difference_formula, times, tap_formula, taps_formula, scaled_formula, filter_formula, IsShiftingRead, IsRightCenter, IsRightFilter};
 ghost use Rattle.narrow_filters.specs.inside.Taps.{taps_onto, IsSameCenter};
 
 use crate::filter::{
@@ -17,7 +16,7 @@ use crate::filter::{
 use crate::ordering::order_narrow_filter_taps;
 use domains::Index;
 use job::{Formula, Function};
-use operators::{BinaryOp, LiteralOp, TernaryOp, UnaryOp};
+use operators::{BinaryOp, LiteralOp, TernaryOp};
 use std::alloc::{AllocError, Global};
 
 // The fewest taps of a filter: of fewer it gains little.
@@ -33,25 +32,18 @@ fn match_narrow_filter_number(formula: &Formula) -> Option<i16>
     }
 }
 
-// The same, if it is not below 0.
-fn match_narrow_filter_bound(formula: &Formula) -> Option<i16>
-    ensures some { IfSome result (λ it. formula_view formula.now ≡ number it) }
-    ensures least { IfSome result (λ it. pos 0 ≤ℤ it) }
+// Two such numbers, if 0 lies between them.
+fn match_narrow_filter_bounds(low: &Formula, high: &Formula) -> Option<(i16, i16)>
+    ensures low { IfSome result (λ it. formula_view low.now ≡ number it.0) }
+    ensures high { IfSome result (λ it. formula_view high.now ≡ number it.1) }
+    ensures between { IfSome result (λ it. (it.0 ≤ℤ pos 0) × (pos 0 ≤ℤ it.1)) }
 {
-    match formula {
-        Formula::Number(number) if 0 <= *number && *number <= 32767 => Some(*number as i16),
-        _ => None,
-    }
-}
-
-// Such a number with the other sign.
-fn match_negated_narrow_filter_bound(formula: &Formula) -> Option<i16>
-    ensures some { IfSome result (λ it. formula_view formula.now ≡ unary Neg (number it)) }
-    ensures least { IfSome result (λ it. pos 0 ≤ℤ it) }
-{
-    match formula {
-        Formula::Unary(UnaryOp::Neg, of) => match_narrow_filter_bound(of),
-        _ => None,
+    let low = match_narrow_filter_number(low)?;
+    let high = match_narrow_filter_number(high)?;
+    if low <= 0 && 0 <= high {
+        Some((low, high))
+    } else {
+        None
     }
 }
 
@@ -99,18 +91,30 @@ fn match_clamped_narrow_filter_difference(
     match formula {
         Formula::Ternary(TernaryOp::Clamp, of, low, high) => {
             let (left, right) = match_narrow_filter_difference(of)?;
-            let below = match_negated_narrow_filter_bound(low)?;
-            let above = match_narrow_filter_bound(high)?;
+            let (low, high) = match_narrow_filter_bounds(low, high)?;
             Some((
                 left,
                 NarrowFilterCenter {
                     read: right,
-                    below,
-                    above,
+                    low,
+                    high,
                 },
             ))
         }
         _ => None,
+    }
+}
+
+// A factor, and what it multiplies. A factor of 1 is not written.
+fn split_narrow_filter_term(formula: &Formula) -> Option<(i16, &Formula)>
+    ensures { IfSome result (λ it. formula_view formula.now ≡ times it.0 (formula_view it.1.now)) }
+{
+    match formula {
+        Formula::Binary(BinaryOp::Mul, factor, of) => match match_narrow_filter_number(factor)? {
+            1 => None,
+            factor => Some((factor, &**of)),
+        },
+        _ => Some((1, formula)),
     }
 }
 
@@ -121,14 +125,9 @@ fn match_narrow_filter_term(
     ensures some { IfSome result (λ it. formula_view formula.now ≡ tap_formula it.1 it.0) }
     ensures right { IfSome result (λ it. IsShiftingRead it.0.read × IsRightCenter it.1) }
 {
-    match formula {
-        Formula::Binary(BinaryOp::Mul, factor, of) => {
-            let factor = match_narrow_filter_number(factor)?;
-            let (read, center) = match_clamped_narrow_filter_difference(of)?;
-            Some((NarrowFilterTap { factor, read }, center))
-        }
-        _ => None,
-    }
+    let (factor, of) = split_narrow_filter_term(formula)?;
+    let (read, center) = match_clamped_narrow_filter_difference(of)?;
+    Some((NarrowFilterTap { factor, read }, center))
 }
 
 // Whether two indices are the same.
@@ -154,7 +153,7 @@ fn is_same_narrow_filter_center(
 ) -> bool
     ensures { IsTrue result → IsSameCenter center.now other.now }
 {
-    if center.below != other.below || center.above != other.above {
+    if center.low != other.low || center.high != other.high {
         return false;
     }
     is_same_narrow_filter_read(&center.read, &other.read)

@@ -153,8 +153,8 @@ pub fn write_narrow_filter<S: NarrowSource>(
     let line = borrow_narrow_filter_line(source, &filter.center.read, points);
     let center = NarrowCenter {
         line,
-        low: -filter.center.below,
-        high: filter.center.above,
+        low: filter.center.low,
+        high: filter.center.high,
     };
     write_narrow_filter_sums(source, filter, center, points, out);
     let scale = filter.scale;

@@ -1,19 +1,21 @@
 -- How rows of stages are made in 16 bits: the shape of each stage.
-use Rattle.std.proofs.Common.{ℕ, zero, suc, ℤ, ◌≡◌, ◌+◌, ◌<◌, List, [], ◌∷◌, ◌++◌, Option, None, Some, length, map, take, slice_get}
-use Rattle.std.proofs.Common.{arith, refl, sym, ap, ◌∙◌, subst, Bool, true, false, true≢false}
-use Rattle.std.specs.Prelude.{All, slice_index_or}
+use Rattle.std.proofs.Common.{ℕ, zero, suc, ℤ, pos, ◌≡◌, ◌+◌, ◌<◌, List, [], ◌∷◌, ◌++◌, Option, None, Some, length, map, take, slice_get}
+use Rattle.std.proofs.Common.{arith, refl, sym, ap, ◌∙◌, subst, Bool, true, false}
+use Rattle.std.specs.Prelude.{All, if◌then◌else◌, slice_index_or}
+use Rattle.std.specs.Ordering.{int_eq}
 use Rattle.std.proofs.Math.Logic.{∥∥₁_elim}
 use Rattle.std.proofs.Props.{props}
 use Rattle.std.proofs.lemmas.List.{take_more, map-append}
 use Rattle.std.proofs.lemmas.Option.{none-some, same_Some}
-use Rattle.job.specs.Formula.{Formula, number, coordinate, read, unary, binary, ternary, literal, lookup, select, stencil}
+use Rattle.operators.specs.declared.operator.BinaryOp.TheVariants.{Mul}
+use Rattle.job.specs.Formula.{Formula, number, binary}
 use Rattle.job.specs.Pipeline.{JobCase, function, Stage}
 use Rattle.job.specs.Reads.{EachRead, EachTaken, BodyReads, reads_in}
 use Rattle.job.specs.ReadViews.{same_reads-prop}
 use Rattle.job.specs.Values.{Valuation, formula_value}
 use Rattle.job.specs.Views.{stage_view}
 use Rattle.job.specs.declared.stage.Stage.{Stage as KeptStage}
-use Rattle.narrow_filters.specs.Filters.{taps_formula, filter_formula}
+use Rattle.narrow_filters.specs.Filters.{difference_formula, tap_formula, taps_formula, filter_formula}
 use Rattle.narrow_filters.specs.declared.filter.NarrowFilter.{NarrowFilter}
 use Rattle.narrow_filters.specs.declared.filter.NarrowFilterCenter.{NarrowFilterCenter}
 use Rattle.narrow_filters.specs.declared.filter.NarrowFilterTap.{NarrowFilterTap}
@@ -47,12 +49,21 @@ formula_everywhere env f cases otherwise r c is =
 
 -- ---- filters
 
--- a filter is narrow at a point in one way
+-- a tap is narrow at a point in one way
+tap_narrow-prop : (env : Valuation) (center : NarrowFilterCenter) (t : NarrowFilterTap) (r c : ℤ) → IsProp (IsNarrow env (tap_formula center t) r c)
+tap_narrow-prop env center t r c = either (int_eq t.factor (pos 1))
+  where
+    either : (one : Bool)
+        → IsProp (IsNarrow env (if one then difference_formula center t.read else binary Mul (number t.factor) (difference_formula center t.read)) r c)
+    either true = hlevel props
+    either false = hlevel props
+
+-- and a filter
 taps_narrow-prop : (env : Valuation) (center : NarrowFilterCenter) (ts : List NarrowFilterTap) (r c : ℤ)
     → IsProp (IsNarrow env (taps_formula center ts) r c)
 taps_narrow-prop env center [] r c = hlevel props
-taps_narrow-prop env center (t ∷ []) r c = hlevel props
-taps_narrow-prop env center (t ∷ u ∷ ts) r c = hlevel (taps_narrow-prop env center (u ∷ ts) r c, props)
+taps_narrow-prop env center (t ∷ []) r c = tap_narrow-prop env center t r c
+taps_narrow-prop env center (t ∷ u ∷ ts) r c = hlevel (taps_narrow-prop env center (u ∷ ts) r c, tap_narrow-prop env center t r c, props)
 
 pub filter_narrow-prop : (env : Valuation) (filter : NarrowFilter) (r c : ℤ) → IsProp (IsNarrow env (filter_formula filter) r c)
 filter_narrow-prop env filter r c = hlevel (taps_narrow-prop env filter.center filter.taps.items r c, props)

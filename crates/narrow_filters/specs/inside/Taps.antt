@@ -1,5 +1,5 @@
 -- Sums of taps, and their reads along a row of points.
-use Rattle.std.specs.Prelude.{ℕ, ℤ, pos, neg_ℤ, ◌≡◌, ◌+ℤ◌, List, [], ◌∷◌}
+use Rattle.std.specs.Prelude.{ℕ, ℤ, pos, ◌≡◌, ◌+ℤ◌, List, [], ◌∷◌}
 use Rattle.domains.specs.Index.{index_at}
 use Rattle.operators.specs.declared.operator.BinaryOp.TheVariants.{Add}
 use Rattle.job.specs.Formula.{Formula, binary}
@@ -20,8 +20,8 @@ taps_onto center f (t ∷ ts) = binary Add (taps_onto center f ts) (tap_formula 
 -- two centers are the same read, with the same bounds
 pub record IsSameCenter (center other : NarrowFilterCenter) : Type 0 where
   pub read : read_formula center.read ≡ read_formula other.read
-  pub below : center.below ≡ other.below
-  pub above : center.above ≡ other.above
+  pub low : center.low ≡ other.low
+  pub high : center.high ≡ other.high
 
 -- at n points of row r from column c on the samples of a read are available, and adjacent
 pub record IsReadyRead (has : ℕ → ℤ → ℤ → Type 0) (r c : ℤ) (n : ℕ) (x : NarrowFilterRead) : Type 0 where
@@ -31,5 +31,5 @@ pub record IsReadyRead (has : ℕ → ℤ → ℤ → Type 0) (r c : ℤ) (n : �
 -- a line has the samples of a center there, and its bounds
 pub record HasCenter (env : Valuation) (r c : ℤ) (n : ℕ) (own : NarrowFilterCenter) (center : NarrowCenter) : Type 0 where
   pub line : EachPlace n (λ k. at center.line.now k ≡ sample_of env own.read r (c +ℤ pos k))
-  pub low : center.low ≡ neg_ℤ own.below
-  pub high : center.high ≡ own.above
+  pub low : center.low ≡ own.low
+  pub high : center.high ≡ own.high

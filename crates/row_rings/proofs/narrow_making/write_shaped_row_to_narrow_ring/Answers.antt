@@ -1,5 +1,4 @@
 use Rattle.std.proofs.Common.{arith, map, sym, ◌∙◌, subst}
-use Rattle.std.proofs.Props.{props}
 use Rattle.std.specs.Option.{option_map}
 use Rattle.job.specs.Pipeline.{function}
 use Rattle.job.specs.Views.{case_view, formula_view}
