@@ -10,7 +10,7 @@ use Rattle.wide_divisions.specs.declared.step.DivisionStepRest.TheVariants.{Read
 use Rattle.wide_divisions.specs.declared.step.DivisionStep.{DivisionStep}
 use Rattle.wide_divisions.specs.DivisionSteps.{read_of_rest, rest_formula, shifted_formula, step_formula, IsRightRest}
 
--- a shift reads nothing more
+-- a factor reads nothing more
 shifted_reads : (shift : Option ℕ) (f : Formula) → reads_in (shifted_formula shift f) ≡ reads_in f
 shifted_reads None f = refl
 shifted_reads (Some bits) f = refl

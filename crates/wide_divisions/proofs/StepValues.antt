@@ -1,5 +1,7 @@
 -- What a step of a division is at a point.
-use Rattle.std.proofs.Common.{ℕ, ℤ, ◌≡◌, Option, Some, None, refl}
+use Rattle.std.proofs.Common.{ℕ, ◌^◌, ℤ, pos, ◌≡◌, Option, Some, None, ap, refl}
+use Rattle.std.proofs.Math.IntN.{*ℤ_comm}
+use Rattle.domains.specs.Arithmetic.{wrapped}
 use Rattle.wide_divisions.specs.Reads.{read_formula}
 use Rattle.job.specs.Formula.{Formula}
 use Rattle.job.specs.Values.{Valuation, formula_value}
@@ -12,7 +14,7 @@ use Rattle.wide_divisions.specs.DivisionSteps.{step_formula, step_result}
 shifted_value : (env : Valuation) (shift : Option ℕ) (f : Formula) (r c : ℤ)
     → shifted shift (formula_value env f r c) ≡ formula_value env (shifted_formula shift f) r c
 shifted_value env None f r c = refl
-shifted_value env (Some bits) f r c = refl
+shifted_value env (Some bits) f r c = ap wrapped (*ℤ_comm (formula_value env f r c) (pos (2 ^ bits)))
 
 rest_value : (env : Valuation) (rest : DivisionStepRest) (r c : ℤ)
     → rest_before rest (formula_value env (read_formula (read_of_rest rest)) r c) ≡ formula_value env (rest_formula rest) r c

@@ -4,7 +4,7 @@ use Rattle.std.specs.Int.{int_min}
 use Rattle.std.specs.Option.{ForSome}
 use Rattle.domains.specs.Arithmetic.{wrapped, floor_rem}
 use Rattle.operators.specs.declared.operator.BinaryOp.TheVariants.{Add, Sub, Mul, Min}
-use Rattle.operators.specs.declared.operator.LiteralOp.TheVariants.{Rem, Shl}
+use Rattle.operators.specs.declared.operator.LiteralOp.TheVariants.{Rem}
 use Rattle.operators.specs.declared.operator.Relation.TheVariants.{AtMost}
 use Rattle.wide_divisions.specs.Reads.{read_formula, IsAdjacentRead}
 use Rattle.wide_divisions.specs.declared.reads.DivisionStepRead.{DivisionStepRead}
@@ -20,10 +20,10 @@ abbrev pub rest_formula : DivisionStepRest → Formula
 rest_formula (Read x) = read_formula x
 rest_formula (Capped factor x most) = binary Mul (number factor) (binary Min (read_formula x) (number most))
 
--- a formula, shifted to the left if there is by how much
+-- a formula, times a power of two if there is one
 abbrev pub shifted_formula : Option ℕ → Formula → Formula
 shifted_formula None f = f
-shifted_formula (Some bits) f = literal Shl f bits
+shifted_formula (Some bits) f = binary Mul (number (pos (2 ^ bits))) f
 
 abbrev pub divisor_formula : DivisionStep → Formula
 divisor_formula s = shifted_formula s.shift (read_formula s.divisor)

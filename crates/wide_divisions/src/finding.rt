@@ -1,7 +1,7 @@
 #![tactic(auto)]
 //! Which functions are steps of restoring divisions.
 
-ghost use Rattle.std.specs.Prelude.{◌≡◌, ◌<◌, ◌^◌, ℤ, [], Some, map, IfSome, IsTrue};
+ghost use Rattle.std.specs.Prelude.{◌≡◌, ◌<◌, ◌^◌, ℤ, pos, [], Some, map, IfSome, IsTrue};
 ghost use Rattle.std.specs.Option.{option_map, ForSome};
 ghost use Rattle.wide_divisions.specs.Reads.{read_formula, IsAdjacentRead};
 ghost use Rattle.job.specs.Formula.{binary, literal, number};
@@ -39,15 +39,53 @@ fn is_division_step_read(formula: &Formula, read: &DivisionStepRead<'_>) -> bool
     }
 }
 
-// A read, and by how many bits it is shifted to the left, if it is.
+// The number of which a literal is two to the power, if it is such a power.
+fn find_division_step_bits(literal: u32) -> Option<u32>
+    ensures few { IfSome result (λ bits. bits < 32) }
+    ensures power { IfSome result (λ bits. literal ≡ 2 ^ bits) }
+{
+    if literal == 0 {
+        return None;
+    }
+    let bits = literal.ilog2();
+    if literal == 1 << bits {
+        Some(bits)
+    } else {
+        None
+    }
+}
+
+// The number of which a number of the text is two to the power, if it is such a power.
+fn match_division_step_power(formula: &Formula) -> Option<u32>
+    ensures some { IfSome result (λ bits. formula_view formula.now ≡ number (pos (2 ^ bits))) }
+    ensures few { IfSome result (λ bits. bits < 32) }
+{
+    match formula {
+        Formula::Number(number) if *number > 0 => find_division_step_bits(*number as u32),
+        _ => None,
+    }
+}
+
+// Whether a formula is two to this power.
+fn is_division_step_power(formula: &Formula, bits: u32) -> bool
+    ensures { IsTrue result → formula_view formula.now ≡ number (pos (2 ^ bits)) }
+{
+    match match_division_step_power(formula) {
+        Some(own) => own == bits,
+        None => false,
+    }
+}
+
+// A read, and by which power of two it is multiplied, if it is.
 fn match_division_step_divisor(formula: &Formula) -> Option<(DivisionStepRead<'_>, Option<u32>)>
     ensures some { IfSome result (λ it. formula_view formula.now ≡ shifted_formula it.1 (read_formula it.0)) }
     ensures right { IfSome result (λ it. IsAdjacentRead it.0) }
     ensures few { IfSome result (λ it. ForSome it.1 (λ bits. bits < 32)) }
 {
     match formula {
-        Formula::Literal(LiteralOp::Shl, of, bits) if *bits < 32 => {
-            Some((match_division_step_read(of)?, Some(*bits)))
+        Formula::Binary(BinaryOp::Mul, factor, of) => {
+            let bits = match_division_step_power(factor)?;
+            Some((match_division_step_read(of)?, Some(bits)))
         }
         _ => Some((match_division_step_read(formula)?, None)),
     }
@@ -133,7 +171,7 @@ fn is_division_step_rest(formula: &Formula, rest: &DivisionStepRest<'_>) -> bool
     }
 }
 
-// Whether a formula is this read, shifted to the left by this many bits, if it is shifted.
+// Whether a formula is this read, times two to this power, if there is one.
 fn is_division_step_divisor(
     formula: &Formula,
     read: &DivisionStepRead<'_>,
@@ -142,27 +180,11 @@ fn is_division_step_divisor(
     ensures { IsTrue result → formula_view formula.now ≡ shifted_formula shift (read_formula read.now) }
 {
     match (formula, shift) {
-        (Formula::Literal(LiteralOp::Shl, of, bits), Some(shift)) => {
-            *bits == shift && is_division_step_read(of, read)
+        (Formula::Binary(BinaryOp::Mul, factor, of), Some(shift)) => {
+            is_division_step_power(factor, shift) && is_division_step_read(of, read)
         }
         (_, None) => is_division_step_read(formula, read),
         _ => false,
-    }
-}
-
-// The number of which a literal is two to the power, if it is such a power.
-fn find_division_step_bits(literal: u32) -> Option<u32>
-    ensures few { IfSome result (λ bits. bits < 32) }
-    ensures power { IfSome result (λ bits. literal ≡ 2 ^ bits) }
-{
-    if literal == 0 {
-        return None;
-    }
-    let bits = literal.ilog2();
-    if literal == 1 << bits {
-        Some(bits)
-    } else {
-        None
     }
 }
 

@@ -22,9 +22,9 @@ pub enum DivisionStepRest<'a> {
 pub struct DivisionStep<'a> {
     /// The partial remainder and the quotient.
     pub rest: DivisionStepRest<'a>,
-    /// The divisor before it is shifted.
+    /// The divisor before it is multiplied.
     pub divisor: DivisionStepRead<'a>,
-    /// By how many bits the divisor is shifted to the left, if it is, from 0 to 31.
+    /// The power of two by which the divisor is multiplied, if it is, from 0 to 31.
     pub shift: Option<u32>,
     /// How many bits the partial remainder has, from 0 to 31.
     pub bits: u32,
