@@ -1,5 +1,5 @@
 -- Laws of quotients, least and greatest numbers, and clamps.
-use Rattle.std.proofs.Common.{arith, ℕ, ℤ, pos, ◌≡◌, ◌≤◌, ◌^◌, ◌+ℤ◌, ◌*ℤ◌, ◌≤ℤ◌, List, ◌++◌, ap, refl, sym, ◌∙◌}
+use Rattle.std.proofs.Common.{arith, ℕ, ℤ, pos, ◌≡◌, ◌≤◌, ◌⊎◌, inl, inr, ◌^◌, ◌+ℤ◌, ◌*ℤ◌, ◌≤ℤ◌, List, ◌++◌, ap, refl, sym, subst, ◌∙◌}
 use Rattle.std.specs.Prelude.{All}
 use Rattle.std.specs.Int.{int_min, int_max}
 use Rattle.std.proofs.Math.IntN.{*ℤ_comm}
@@ -18,8 +18,8 @@ use Rattle.job.specs.WellFormed.{IsFormula}
 use Rattle.job.proofs.Agreeing.{All-left, All-right}
 use Rattle.normal_formulas.specs.Rewrites.{Rewrites}
 use Rattle.normal_formulas.proofs.Products.{one_times}
-use Rattle.normal_formulas.proofs.Standing.{Stands, stands, rewrites}
-use Rattle.normal_formulas.proofs.Rewriting.{in_binary, in_steps, as_it_is, steps, same}
+use Rattle.normal_formulas.proofs.Standing.{Stands, rewrites}
+use Rattle.normal_formulas.proofs.Rewriting.{from_same}
 
 -- the same reads in another order, and the same value
 pub by_value : (f g : Formula) → (IsFormula f → IsFormula g)
@@ -37,7 +37,7 @@ by_value f g is one_value there back =
 
 -- ---- quotients
 
-divided_by_one : (v : ℤ) → v ≡ floor_div v (pos 1)
+pub divided_by_one : (v : ℤ) → v ≡ floor_div v (pos 1)
 divided_by_one v =
     (floor_only v (pos 1) v (pos 0) (omega (arith, ints)) (record { split = whole v; least = omega (arith, ints); below = omega (arith, ints) })).0
   where
@@ -87,52 +87,35 @@ exchanged_max a b =
     (λ env r c. other_max (formula_value env a r c) (formula_value env b r c))
     (λ Q. exchanged_lists Q (reads_in a) (reads_in b)) (λ Q. exchanged_lists Q (reads_in b) (reads_in a))
 
-pub number_right : (op : BinaryOp) (a b : Formula) (n : ℤ) → b ≡ number n → Rewrites (binary op a b) (binary op a (number n))
-number_right op a b n e = same (binary op a b) (binary op a (number n)) (ap (binary op a) (sym e))
-
-pub number_left_min : (a b : Formula) (n : ℤ) → a ≡ number n → Rewrites (binary Min a b) (binary Min b (number n))
-number_left_min a b n e =
-    steps (binary Min a b) (binary Min b a) (binary Min b (number n)) (rewrites (binary Min a b) (binary Min b a) (exchanged_min a b))
-    (number_right Min b a n e)
-
-pub number_left_max : (a b : Formula) (n : ℤ) → a ≡ number n → Rewrites (binary Max a b) (binary Max b (number n))
-number_left_max a b n e =
-    steps (binary Max a b) (binary Max b a) (binary Max b (number n)) (rewrites (binary Max a b) (binary Max b a) (exchanged_max a b))
-    (number_right Max b a n e)
+pub operands_exchanged : (op : BinaryOp) (a b : Formula) → (op ≡ Min) ⊎ (op ≡ Max) → Rewrites (binary op a b) (binary op b a)
+operands_exchanged op a b (inl least) =
+    subst (λ (o : BinaryOp). Rewrites (binary o a b) (binary o b a)) (sym least)
+    (rewrites (binary Min a b) (binary Min b a) (exchanged_min a b))
+operands_exchanged op a b (inr greatest) =
+    subst (λ (o : BinaryOp). Rewrites (binary o a b) (binary o b a)) (sym greatest)
+    (rewrites (binary Max a b) (binary Max b a) (exchanged_max a b))
 
 -- ---- clamps
 
 -- what is clamped, where the greatest is taken first
-pub clamp_of_min : (f w p q a : Formula) (low high : ℤ) → Rewrites f (binary Min w (number high)) → w ≡ binary Max p q
-    → Rewrites (binary Max p q) (binary Max a (number low)) → Rewrites f (ternary Clamp a (number low) (number high))
-clamp_of_min f w p q a low high x e y =
-    steps f (binary Min w (number high)) (ternary Clamp a (number low) (number high)) x
-    (rewrites (binary Min w (number high)) (ternary Clamp a (number low) (number high))
-    (in_steps (binary Min w (number high)) (binary Min (binary Max a (number low)) (number high))
-    (ternary Clamp a (number low) (number high))
-    (in_binary Min w (binary Max a (number low)) (number high) (number high) (stands w (binary Max a (number low)) inner)
-    (as_it_is (number high)))
+pub clamp_of_min : (f g a : Formula) (low high : ℤ) → f ≡ binary Max a (number low) → g ≡ number high
+    → Rewrites (binary Min f g) (ternary Clamp a (number low) (number high))
+clamp_of_min f g a low high is bound =
+    from_same (binary Min f g) (binary Min (binary Max a (number low)) (number high)) (ternary Clamp a (number low) (number high))
+    (λ i. binary Min (is i) (bound i))
+    (rewrites (binary Min (binary Max a (number low)) (number high)) (ternary Clamp a (number low) (number high))
     (by_value (binary Min (binary Max a (number low)) (number high)) (ternary Clamp a (number low) (number high))
-    (λ is. (is.0.0, is.0.1, is.1)) (λ env r c. refl) (λ Q each. each) (λ Q each. each))))
-  where
-    inner : Rewrites w (binary Max a (number low))
-    inner = steps w (binary Max p q) (binary Max a (number low)) (same w (binary Max p q) (sym e)) y
+    (λ is. (is.0.0, is.0.1, is.1)) (λ env r c. refl) (λ Q each. each) (λ Q each. each)))
 
 bounded_either_way : (v low high : ℤ) → low ≤ℤ high → clamped v low high ≡ int_max (int_min v high) low
 bounded_either_way v low high h = omega (arith, ints, clamps, h)
 
-pub clamp_of_max : (f w p q a : Formula) (low high : ℤ) → low ≤ℤ high → Rewrites f (binary Max w (number low)) → w ≡ binary Min p q
-    → Rewrites (binary Min p q) (binary Min a (number high)) → Rewrites f (ternary Clamp a (number low) (number high))
-clamp_of_max f w p q a low high h x e y =
-    steps f (binary Max w (number low)) (ternary Clamp a (number low) (number high)) x
-    (rewrites (binary Max w (number low)) (ternary Clamp a (number low) (number high))
-    (in_steps (binary Max w (number low)) (binary Max (binary Min a (number high)) (number low))
-    (ternary Clamp a (number low) (number high))
-    (in_binary Max w (binary Min a (number high)) (number low) (number low) (stands w (binary Min a (number high)) inner)
-    (as_it_is (number low)))
+pub clamp_of_max : (f g a : Formula) (low high : ℤ) → low ≤ℤ high → f ≡ binary Min a (number high) → g ≡ number low
+    → Rewrites (binary Max f g) (ternary Clamp a (number low) (number high))
+clamp_of_max f g a low high h is bound =
+    from_same (binary Max f g) (binary Max (binary Min a (number high)) (number low)) (ternary Clamp a (number low) (number high))
+    (λ i. binary Max (is i) (bound i))
+    (rewrites (binary Max (binary Min a (number high)) (number low)) (ternary Clamp a (number low) (number high))
     (by_value (binary Max (binary Min a (number high)) (number low)) (ternary Clamp a (number low) (number high))
     (λ is. (is.0.0, is.1, is.0.1)) (λ env r c. bounded_either_way (formula_value env a r c) low high h) (λ Q each. each)
-    (λ Q each. each))))
-  where
-    inner : Rewrites w (binary Min a (number high))
-    inner = steps w (binary Min p q) (binary Min a (number high)) (same w (binary Min p q) (sym e)) y
+    (λ Q each. each)))

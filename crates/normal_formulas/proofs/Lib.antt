@@ -4,3 +4,8 @@ pub mod Laws
 pub mod Products
 pub mod SumValues
 pub mod SumLaws
+pub mod KernelSums
+pub mod KernelReads
+pub mod KernelLaws
+pub mod Choices
+pub mod MiddleLaws

@@ -72,7 +72,7 @@ module _ (Q : Read → Type 0) where
 
 -- ---- one term and the others
 
-exchange : (x y z : Formula) → Stands (binary Add x (binary Add y z)) (binary Add y (binary Add x z))
+pub exchange : (x y z : Formula) → Stands (binary Add x (binary Add y z)) (binary Add y (binary Add x z))
 exchange x y z =
     by_value (binary Add x (binary Add y z)) (binary Add y (binary Add x z)) (λ is. (is.1.0, (is.0, is.1.1)))
     (λ env r c. exchanged (formula_value env x r c) (formula_value env y r c) (formula_value env z r c))

@@ -1,2 +1,4 @@
 pub mod Rewrites
 pub mod NormalSums
+pub mod NormalKernels
+pub mod NormalMedians

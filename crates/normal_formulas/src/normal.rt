@@ -10,6 +10,7 @@ ghost use Rattle.normal_formulas.specs.NormalSums.{product, sum_formula};
 
 use crate::clamps::join_normal_operands;
 use crate::quotients::apply_normal_literal;
+use crate::relations::choose_normal_formula;
 use crate::sums::NormalSum;
 use domains::arithmetic::{wrapping_add, wrapping_mul, wrapping_neg, wrapping_shl};
 use job::{Formula, copy_kernel};
@@ -27,59 +28,6 @@ fn find_normal_number(formula: &Formula) -> Option<i32>
             _ => None,
         },
         _ => None,
-    }
-}
-
-// The number by which a formula is multiplied. A product by 1 of what is no read is a term as it is.
-fn find_normal_factor(number: &Formula, of: &Formula) -> Option<i32>
-    ensures { IfSome result (λ it. Rewrites (formula_view number.now) (constant it)) }
-{
-    let found = find_normal_number(number)?;
-    if found == 1 && !is_normal_read(of) {
-        return None;
-    }
-    Some(found)
-}
-
-// Whether a formula is a read.
-fn is_normal_read(formula: &Formula) -> bool {
-    matches!(formula, Formula::Read(_, _, _))
-}
-
-// How many terms a sum has beside its number.
-fn count_normal_terms(formula: &Formula) -> usize {
-    match formula {
-        Formula::Number(_) => 0,
-        Formula::Unary(UnaryOp::Neg, of) | Formula::Literal(LiteralOp::Shl, of, _) => {
-            count_normal_terms(of)
-        }
-        Formula::Binary(BinaryOp::Add | BinaryOp::Sub, left, right) => {
-            count_normal_terms(left).saturating_add(count_normal_terms(right))
-        }
-        Formula::Binary(BinaryOp::Mul, left, right) if find_normal_number(left).is_some() => {
-            count_normal_terms(right)
-        }
-        Formula::Binary(BinaryOp::Mul, left, right) if find_normal_number(right).is_some() => {
-            count_normal_terms(left)
-        }
-        _ => 1,
-    }
-}
-
-// Whether a sum is left as it is: a step of a division subtracts a formula that is shifted to the left.
-fn is_normal_difference(formula: &Formula) -> bool {
-    has_normal_shift(formula) && count_normal_terms(formula) < 3
-}
-
-// Whether a term of a sum is shifted to the left.
-fn has_normal_shift(formula: &Formula) -> bool {
-    match formula {
-        Formula::Literal(LiteralOp::Shl, _, _) => true,
-        Formula::Unary(UnaryOp::Neg, of) => has_normal_shift(of),
-        Formula::Binary(BinaryOp::Add | BinaryOp::Sub, left, right) => {
-            has_normal_shift(left) || has_normal_shift(right)
-        }
-        _ => false,
     }
 }
 
@@ -123,7 +71,7 @@ fn add_normal_formula(
             add_normal_formula(alloc, sum, wrapping_neg(factor), right)
         }
         Formula::Binary(BinaryOp::Mul, left, right) => {
-            match (find_normal_factor(left, right), find_normal_number(right)) {
+            match (find_normal_number(left), find_normal_number(right)) {
                 (Some(number), _) => {
                     add_normal_formula(alloc, sum, wrapping_mul(factor, number), right)
                 }
@@ -184,7 +132,7 @@ fn normalize_formula_in_box(alloc: Global, formula: &Formula) -> Result<Box<Form
 pub fn normalize_formula(alloc: Global, formula: &Formula) -> Result<Formula, AllocError>
     ensures { IfOk result (λ made. Rewrites (formula_view formula.now) (formula_view made)) }
 {
-    if is_normal_sum(formula) && !is_normal_difference(formula) {
+    if is_normal_sum(formula) {
         normalize_sum(alloc, formula)
     } else {
         normalize_formula_parts(alloc, formula)
@@ -216,8 +164,8 @@ fn normalize_formula_parts(alloc: Global, formula: &Formula) -> Result<Formula, 
             Ok(Formula::Ternary(*op, first, second, third))
         }
         Formula::Literal(op, of, number) => {
-            let of = normalize_formula_in_box(alloc, of)?;
-            Ok(apply_normal_literal(*op, of, *number))
+            let of = normalize_formula(alloc, of)?;
+            apply_normal_literal(alloc, *op, of, *number)
         }
         Formula::Lookup(entries, index) => {
             let index = normalize_formula_in_box(alloc, index)?;
@@ -228,7 +176,7 @@ fn normalize_formula_parts(alloc: Global, formula: &Formula) -> Result<Formula, 
             let right = normalize_formula_in_box(alloc, right)?;
             let then = normalize_formula_in_box(alloc, then)?;
             let otherwise = normalize_formula_in_box(alloc, otherwise)?;
-            Ok(Formula::Select(left, *relation, right, then, otherwise))
+            Ok(choose_normal_formula(left, *relation, right, then, otherwise))
         }
         Formula::Stencil(stage, divisor, kernel) => {
             Ok(Formula::Stencil(*stage, *divisor, copy_kernel(kernel)?))

@@ -1,14 +1,15 @@
 #![tactic(auto)]
-//! Quotients by powers of two, which are shifts.
+//! Quotients: those by powers of two are shifts, and a stencil has its own divisor.
 
-ghost use Rattle.std.specs.Prelude.{◌≡◌, ◌≤◌, ◌^◌, IfSome};
-ghost use Rattle.operators.specs.declared.operator.LiteralOp.TheVariants.{Div};
+ghost use Rattle.std.specs.Prelude.{◌≡◌, ◌≤◌, ◌^◌, IfOk, IfSome};
+ghost use Rattle.operators.specs.declared.operator.LiteralOp.TheVariants.{Div, Shr};
 ghost use Rattle.job.specs.Formula.{literal};
 ghost use Rattle.job.specs.Views.{formula_view};
 ghost use Rattle.normal_formulas.specs.Rewrites.{Rewrites};
 
 use job::Formula;
 use operators::LiteralOp;
+use std::alloc::{AllocError, Global};
 
 // The number of bits of which a divisor is the power of two, if it is one.
 fn find_normal_shift(divisor: u32) -> Option<u32>
@@ -23,23 +24,53 @@ fn find_normal_shift(divisor: u32) -> Option<u32>
     }
 }
 
+// A formula that is shifted to the right. A stencil that is not divided yet is divided.
+fn shift_normal_formula(alloc: Global, of: Formula, bits: u32) -> Result<Formula, AllocError>
+    ensures { IfOk result (λ made. Rewrites (literal Shr (formula_view of) bits) (formula_view made)) }
+{
+    match of {
+        Formula::Stencil(stage, 1, kernel) if bits < 31 => {
+            Ok(Formula::Stencil(stage, 1 << bits, kernel))
+        }
+        of => Ok(Formula::Literal(LiteralOp::Shr, Box::new(alloc, of)?, bits)),
+    }
+}
+
+// A formula that is divided by what is no power of two.
+fn divide_normal_sum(alloc: Global, of: Formula, divisor: u32) -> Result<Formula, AllocError>
+    ensures { IfOk result (λ made. Rewrites (literal Div (formula_view of) divisor) (formula_view made)) }
+{
+    match of {
+        Formula::Stencil(stage, 1, kernel) => Ok(Formula::Stencil(stage, divisor, kernel)),
+        of => Ok(Formula::Literal(LiteralOp::Div, Box::new(alloc, of)?, divisor)),
+    }
+}
+
 // The quotient of a formula.
-fn divide_normal_formula(of: Box<Formula>, divisor: u32) -> Formula
-    ensures { Rewrites (literal Div (formula_view of.value) divisor) (formula_view result) }
+fn divide_normal_formula(alloc: Global, of: Formula, divisor: u32) -> Result<Formula, AllocError>
+    ensures { IfOk result (λ made. Rewrites (literal Div (formula_view of) divisor) (formula_view made)) }
 {
     match find_normal_shift(divisor) {
-        Some(0) => Box::into_inner(of),
-        Some(bits) => Formula::Literal(LiteralOp::Shr, of, bits),
-        None => Formula::Literal(LiteralOp::Div, of, divisor),
+        Some(0) => Ok(of),
+        Some(bits) => shift_normal_formula(alloc, of, bits),
+        None => divide_normal_sum(alloc, of, divisor),
     }
 }
 
 /// An operation on a formula, whose right operand is a number of the text.
-pub(crate) fn apply_normal_literal(op: LiteralOp, of: Box<Formula>, number: u32) -> Formula
-    ensures { Rewrites (literal op (formula_view of.value) number) (formula_view result) }
+pub(crate) fn apply_normal_literal(
+    alloc: Global,
+    op: LiteralOp,
+    of: Formula,
+    number: u32,
+) -> Result<Formula, AllocError>
+    ensures { IfOk result (λ made. Rewrites (literal op (formula_view of) number) (formula_view made)) }
 {
     match op {
-        LiteralOp::Div => divide_normal_formula(of, number),
-        LiteralOp::Rem | LiteralOp::Shl | LiteralOp::Shr => Formula::Literal(op, of, number),
+        LiteralOp::Div => divide_normal_formula(alloc, of, number),
+        LiteralOp::Shr => shift_normal_formula(alloc, of, number),
+        LiteralOp::Rem | LiteralOp::Shl => {
+            Ok(Formula::Literal(op, Box::new(alloc, of)?, number))
+        }
     }
 }

@@ -96,3 +96,36 @@ fn a_complement_stays_as_it_is(rt: HostRuntime) -> Result<(), Fail> {
     );
     Ok(())
 }
+
+// The sum of 25 reads of stage 3 around the point, in the order of the diagonals, and of the row.
+#[test]
+fn a_rectangle_of_reads_is_a_stencil(rt: HostRuntime) -> Result<(), Fail> {
+    let alloc = rt.alloc();
+    let mut sum = Formula::Coordinate(Axis::Row);
+    for place in 0..25 {
+        let row = Index::new(1, place * 7 % 5 - 2, 1).ok_or("index")?;
+        let column = Index::new(1, (place * 7 + place / 5) % 5 - 2, 1).ok_or("index")?;
+        let factor = Formula::Number((place * 7 % 5) * 10 + (place * 7 + place / 5) % 5);
+        let read = Formula::Read(3, row, column);
+        let term = spell_normal_formula(alloc, BinaryOp::Mul, read, factor)?;
+        sum = spell_normal_formula(alloc, BinaryOp::Add, term, sum)?;
+    }
+    let made = normalize_formula(alloc, &sum)?;
+    match made {
+        Formula::Binary(BinaryOp::Add, left, right) => {
+            assert_eq!(rt; matches!(&*right, Formula::Coordinate(Axis::Row)), true);
+            match &*left {
+                Formula::Stencil(3, 1, kernel) => {
+                    for (a, row) in kernel.as_slice().iter().enumerate() {
+                        for (b, factor) in row.as_slice().iter().enumerate() {
+                            assert_eq!(rt; *factor, (a * 10 + b) as i32);
+                        }
+                    }
+                }
+                _ => assert_eq!(rt; false, true),
+            }
+        }
+        _ => assert_eq!(rt; false, true),
+    }
+    Ok(())
+}

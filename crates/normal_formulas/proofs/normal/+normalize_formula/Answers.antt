@@ -81,10 +81,10 @@ add_normal_formula-returns-in-None-Some t c =
     let made = sum_formula c.add_normal_formula-in-None-Some.new.sum in
     let fits : FitsSigned w32 c.args.factor = search rules in
     let number_fits : FitsSigned w32 c.in-None-Some.number = search rules in
-    let is : formula_view c.args.formula.now ≡ binary Mul (formula_view c.deref-in-None-Some.result.now) (formula_view c.deref-in-Binary-Mul-default-default-3.result.now) = search rules in
+    let is : formula_view c.args.formula.now ≡ binary Mul (formula_view c.deref-in-None-Some.result.now) (formula_view c.deref-in-Binary-Mul-default-default-2.result.now) = search rules in
     on_ok_then c.add_normal_formula-in-None-Some.result c.add_normal_formula-in-None-Some.ensures (λ next.
     subst (λ (y : Formula). Rewrites (binary Add (product c.args.factor y) sum) made) (sym is)
-    (right_product_more c.args.factor (to_z w32 (of_z w32 c.wrapping_mul-in-None-Some.result)) c.in-None-Some.number (formula_view c.deref-in-None-Some.result.now) (formula_view c.deref-in-Binary-Mul-default-default-3.result.now) sum made
+    (right_product_more c.args.factor (to_z w32 (of_z w32 c.wrapping_mul-in-None-Some.result)) c.in-None-Some.number (formula_view c.deref-in-None-Some.result.now) (formula_view c.deref-in-Binary-Mul-default-default-2.result.now) sum made
     c.in-None-Some.ensures' (taken_product c.args.factor c.in-None-Some.number c.wrapping_mul-in-None-Some.result fits number_fits c.wrapping_mul-in-None-Some.ensures) next))
 
 pub add_normal_formula-returns-in-Literal-Shl-default-default : goal.add_normal_formula-returns-in-Literal-Shl-default-default
@@ -146,10 +146,11 @@ normalize_formula_parts-returns-in_ok-of-in-Literal t c =
     let op = c.in-Literal.op in
     let n = c.in-Literal.number in
     let first = formula_view c.deref-in-Literal.result.now in
-    let made = formula_view c.in_ok-of-in-Literal.of.value in
-    from_same (formula_view c.args.formula.now) (literal op first n) _
+    let of = formula_view c.in_ok-of-in-Literal.of in
+    ok_then c.apply_normal_literal.result c.apply_normal_literal.ensures (λ made x.
+    from_same (formula_view c.args.formula.now) (literal op first n) (formula_view made)
     (ap formula_view c.in-Literal.is ∙ (λ i. literal op (formula_view (sym c.deref-in-Literal.ensures i)) n))
-    (steps (literal op first n) (literal op made n) _ (literal_part op n first made c.in_ok-of-in-Literal.ensures) c.apply_normal_literal.ensures)
+    (steps (literal op first n) (literal op of n) (formula_view made) (literal_part op n first of c.in_ok-of-in-Literal.ensures) x))
 
 pub normalize_formula_parts-returns-in_ok-clone-in-Lookup : goal.normalize_formula_parts-returns-in_ok-clone-in-Lookup
 normalize_formula_parts-returns-in_ok-clone-in-Lookup t c =
@@ -162,14 +163,20 @@ normalize_formula_parts-returns-in_ok-clone-in-Lookup t c =
 pub normalize_formula_parts-returns-in_ok-otherwise-in-Select : goal.normalize_formula_parts-returns-in_ok-otherwise-in-Select
 normalize_formula_parts-returns-in_ok-otherwise-in-Select t c =
     let relation = c.in-Select.relation in
-    from_same (formula_view c.args.formula.now)
-    (select (formula_view c.deref-in-Select.result.now) relation (formula_view c.deref-in-Select-2.result.now)
-    (formula_view c.deref-in-Select-3.result.now) (formula_view c.deref-in-Select-4.result.now)) _
+    let given =
+    select (formula_view c.deref-in-Select.result.now) relation (formula_view c.deref-in-Select-2.result.now)
+    (formula_view c.deref-in-Select-3.result.now) (formula_view c.deref-in-Select-4.result.now) in
+    let parts =
+    select (formula_view c.in_ok-left-in-Select.left.value) relation (formula_view c.in_ok-right-in-Select.right.value)
+    (formula_view c.in_ok-then-in-Select.then.value) (formula_view c.in_ok-otherwise-in-Select.otherwise.value) in
+    from_same (formula_view c.args.formula.now) given (formula_view c.choose_normal_formula.result)
     (ap formula_view c.in-Select.is
     ∙ (λ i. select (formula_view (sym c.deref-in-Select.ensures i)) relation (formula_view (sym c.deref-in-Select-2.ensures i))
     (formula_view (sym c.deref-in-Select-3.ensures i)) (formula_view (sym c.deref-in-Select-4.ensures i))))
+    (steps given parts (formula_view c.choose_normal_formula.result)
     (select_parts relation _ _ _ _ _ _ _ _ c.in_ok-left-in-Select.ensures c.in_ok-right-in-Select.ensures c.in_ok-then-in-Select.ensures
     c.in_ok-otherwise-in-Select.ensures)
+    c.choose_normal_formula.ensures)
 
 pub normalize_formula_parts-returns-in_ok-copy_kernel-in-Stencil : goal.normalize_formula_parts-returns-in_ok-copy_kernel-in-Stencil
 normalize_formula_parts-returns-in_ok-copy_kernel-in-Stencil t c =
