@@ -107,7 +107,13 @@ class Writer:
     def template(self, spans: tuple[Span, Span]) -> list[str]:
         """What users write most, over one or two stages."""
         stages = self.random.choices(self.readable, k=self.random.choice([1, 1, 1, 2]))
-        return Templates(self.random, lambda: self.near(self.random.choice(stages), spans)).any()
+        return Templates(self.random, lambda: self.near(self.random.choice(stages), spans), lambda: self.window(stages[0], spans)).any()
+
+    def window(self, stage: Stage, spans: tuple[Span, Span]) -> list[list[str]]:
+        """The reads of a rectangle around the point, in which a stage has them all. None where it has not even the middle."""
+        rows, cols = (min(self.random.choice([0, 1, 1, 2, 3]), self.room(*pair)) for pair in zip(spans, stage.spans))
+        index = lambda variable, shift: self.spelled_index(variable, 1, shift, 1)
+        return [[stage.name, "(", *index("x", a), ",", *index("y", b), ")"] for a in range(-rows, rows + 1) for b in range(-cols, cols + 1)]
 
     def index(self, variable: str, over: Span, inside: Span) -> list[str]:
         """An index in the variable that stays inside, and none where a few tries find none."""

@@ -27,20 +27,22 @@ def call(word: str, *parts: list[str]) -> list[str]:
 
 
 class Templates:
-    """Draws parts over reads, which it is given one by one."""
+    """Draws parts over reads, which it is given one by one, and over those of a rectangle around the point."""
 
-    def __init__(self, random: Random, read: Callable[[], list[str]]):
-        self.random, self.read = random, read
+    def __init__(self, random: Random, read: Callable[[], list[str]], window: Callable[[], list[list[str]]]):
+        self.random, self.read, self.window = random, read, window
 
     def any(self) -> list[str]:
         kinds = [self.sum, self.mean, self.mean, self.bounded, self.choice, self.chain, self.middle, self.distance, self.shifted]
-        return self.random.choice(kinds)()
+        return self.random.choice([*kinds, self.kernel, self.filter, self.step])()
 
     # sums
 
     def term(self, factor: int) -> list[str]:
         """A read times a factor above 0, in one of its spellings."""
-        read = self.read()
+        return self.times(factor, self.read())
+
+    def times(self, factor: int, read: list[str]) -> list[str]:
         kinds = [["*", str(factor)], None] + [["<<", str(factor.bit_length() - 1)]] * (factor & (factor - 1) == 0)
         behind = self.random.choice(kinds)
         if factor == 1 and self.random.random() < 0.9:
@@ -65,16 +67,56 @@ class Templates:
         terms = [(self.random.choice(signs), self.term(self.random.choice(FACTORS))) for _ in range(count)]
         if self.random.random() < 0.3:
             terms.append((1, number(self.random.choice(ENDS))))
+        return self.shuffled(terms)
+
+    def shuffled(self, terms: list[tuple[int, list[str]]]) -> list[str]:
+        """The sum of terms with their signs, in any order and grouping."""
         self.random.shuffle(terms)
         sign, tokens = self.grouped(terms)
         return tokens if sign > 0 else ["-", *inner(tokens)]
 
     def mean(self) -> list[str]:
-        """A sum that is divided, by any number or by a shift."""
+        return self.divided(self.sum())
+
+    def divided(self, part: list[str]) -> list[str]:
+        """A part that is divided, by any number or by a shift."""
         if self.random.random() < 0.5:
-            return [*inner(self.sum()), "/", str(self.random.choice([*DIVISORS, self.random.randint(3, 257)]))]
+            return [*inner(part), "/", str(self.random.choice([*DIVISORS, self.random.randint(3, 257)]))]
         power = self.random.randint(0, 12)
-        return [*inner(self.sum()), *self.random.choice([[">>", str(power)], ["/", str(1 << power)]])]
+        return [*inner(part), *self.random.choice([[">>", str(power)], ["/", str(1 << power)]])]
+
+    def kernel(self) -> list[str]:
+        """A sum of reads that fill a rectangle, or of all but one, with other terms or without, divided or not."""
+        signs, reads = self.random.choice([[1], [1, 1, -1]]), self.window()
+        if self.random.random() < 0.2:
+            reads = reads[1:]
+        terms = [(self.random.choice(signs), self.times(self.random.choice([*FACTORS, 1, 1]), it)) for it in reads or [self.read()]]
+        if self.random.random() < 0.4:
+            terms.append((self.random.choice(signs), self.random.choice([self.distance, self.read, lambda: number(self.random.choice(ENDS))])()))
+        part = self.shuffled(terms)
+        return self.divided(part) if self.random.random() < 0.6 else part
+
+    def filter(self) -> list[str]:
+        """What clamped differences from one read add to it."""
+        middle, bound = self.read(), self.random.choice([1, 24, 255, 32767])
+        terms = []
+        for _ in range(self.random.randint(2, 6)):
+            apart = [*inner(self.read()), "-", *inner(middle)]
+            part = self.random.choice([call("clamp", apart, number(-bound), number(bound)), call("max", number(-bound), call("min", apart, number(bound)))])
+            terms.append((1, self.times(self.random.choice([1, 1, 2, 4, 6]), part)))
+        return self.shuffled([(1, middle), (1, inner(self.divided(self.shuffled([*terms, (1, number(self.random.choice(ENDS)))]))))])
+
+    def step(self) -> list[str]:
+        """A step of a division: a divisor that fits the lower bits of a rest is subtracted, and a digit is added."""
+        rest, shift, bits = self.read(), self.random.randint(0, 8), self.random.randint(4, 20)
+        if self.random.random() < 0.3:
+            rest = ["16", "*", *self.random.choice([call("min", rest, ["65535"]), call("min", ["65535"], rest)])]
+        divisor = self.times(1 << shift, self.read())
+        less = self.shuffled([(1, inner(rest)), (-1, inner(divisor)), (1, [str(1 << (bits + self.random.randint(0, 4)))])])
+        test = [*inner(divisor), "<=", *inner(rest), "%", str(1 << bits)]
+        if self.random.random() < 0.3:
+            test = [*inner(rest), "%", str(1 << bits), ">=", *inner(divisor)]
+        return call("select", test, less, rest)
 
     def shifted(self) -> list[str]:
         mark, most = self.random.choice([("<<", 31), (">>", 31), ("<<", 8), (">>", 8), ("%", 300)])
