@@ -15,7 +15,5 @@ mod quotients;
 mod relations;
 mod same;
 mod sums;
-#[cfg(test)]
-mod tests;
 
 pub use normal::normalize_formula;
