@@ -8,9 +8,11 @@ use Rattle.std.specs.Prelude.{All, IfOk, Result, Ok, Err, OnOk, is_err, map, rep
 use Rattle.farm.proofs.Members.{together_at, together_length}
 use Rattle.catalog.specs.Entries.{Entry}
 use Rattle.farm.specs.Members.{BelongTogether, EachAt}
-use Rattle.farm.specs.NodeEnds.{HaveClosed}
+use Rattle.farm.specs.NodeEnds.{HaveClosed, IsClosingFault}
 use Rattle.farm.specs.WorkerLogs.{HasLog, Traces, WorkedFarm, new_port}
-use Rattle.farm.specs.WorkerRuns.{AreFarmHistories, HasWorked, HasWorkedAs, no_progress}
+use Rattle.farm.specs.WorkerRuns.{AreFarmHistories, AreWorkerEnds, HasWorked, HasWorkedAs, IsFarmFault, no_progress}
+use Rattle.farm.specs.declared.fault.FarmFault.{FarmFault}
+use Rattle.farm.specs.declared.fault.FarmFault.TheVariants.{SpawnFailed, Memory, Close}
 use Rattle.farm.specs.declared.hand.WorkerReceipts.{WorkerReceipts}
 use Rattle.farm_setup.specs.declared.setup.FarmSetup.{FarmSetup}
 use Rattle.farm_turns.specs.Calls.{Call}
@@ -85,20 +87,39 @@ none_at p (y ∷ xs) (suc k) x none is = none_at p xs k x (right (p y) (list_any
     right false b is = is
     right true b is = absurd (true≢false is)
 
--- all workers have gone through all their turns
-pub all_worked : {W : Type 0} (catalog : List Entry) (farm : WorkedFarm) (keys : List Key) (setup : FarmSetup) (is_new : ℕ → W → Type 0)
+-- the ends of all workers
+pub all_ended : {W : Type 0} (catalog : List Entry) (farm : WorkedFarm) (keys : List Key) (setup : FarmSetup) (is_new : ℕ → W → Type 0)
     (may_end : W → WorkerReceipts → Type 0)
     → ((number : ℕ) (worker : W) (end : WorkerReceipts) → is_new number worker → may_end worker end → end.memory ≡ false
     → HasWorkedAs catalog farm keys setup number end.receipts.items)
-    → (workers : List W) (ends : List WorkerReceipts) (histories : List (List Event)) → EachAt is_new workers
-    → BelongTogether may_end workers ends → length workers ≡ 2 * setup.nodes → list_any (λ end. end.memory) ends ≡ false
+    → (workers : List W) (ends : List WorkerReceipts) → EachAt is_new workers → BelongTogether may_end workers ends
+    → length workers ≡ 2 * setup.nodes → AreWorkerEnds catalog farm keys setup ends
+all_ended catalog farm keys setup is_new may_end step workers ends new together count =
+    record {
+      count = together_length may_end workers ends together ∙ count;
+      worked = λ number end there none.
+          let of = together_at may_end workers ends together number end there in
+          step number of.0 end (new number of.0 of.1) of.2 none;
+    }
+
+-- all workers have gone through all their turns
+pub all_worked : (catalog : List Entry) (farm : WorkedFarm) (keys : List Key) (setup : FarmSetup) (ends : List WorkerReceipts)
+    (histories : List (List Event)) → AreWorkerEnds catalog farm keys setup ends → list_any (λ end. end.memory) ends ≡ false
     → HaveClosed histories ends → AreFarmHistories catalog farm keys setup histories
-all_worked catalog farm keys setup is_new may_end step workers ends histories new together count none closed =
+all_worked catalog farm keys setup ends histories ended none closed =
     record {
       ends = ends;
-      count = together_length may_end workers ends together ∙ count;
+      count = ended.count;
       worked = λ number end there.
-          let of = together_at may_end workers ends together number end there in
-          step number of.0 end (new number of.0 of.1) of.2 (none_at (λ (e : WorkerReceipts). e.memory) ends number end none there);
+          ended.worked number end there (none_at (λ (e : WorkerReceipts). e.memory) ends number end none there);
       closed = closed;
     }
+
+-- why nodes do not close
+pub not_closed : (catalog : List Entry) (farm : WorkedFarm) (keys : List Key) (setup : FarmSetup) (ends : List WorkerReceipts) (nodes : ℕ)
+    → AreWorkerEnds catalog farm keys setup ends → nodes ≡ setup.nodes → (fault : FarmFault) → IsClosingFault nodes ends fault
+    → IsFarmFault catalog farm keys setup fault
+not_closed catalog farm keys setup ends nodes ended many (SpawnFailed refusal) is = absurd is
+not_closed catalog farm keys setup ends nodes ended many Memory is = tt
+not_closed catalog farm keys setup ends nodes ended many (Close refusal) is =
+    (ends, ended, subst (λ (n : ℕ). IsClosingFault n ends (Close refusal)) many is)

@@ -2,8 +2,10 @@
 use Rattle.std.specs.Prelude.{◌≡◌, ◌*◌, ◌/◌, ℕ, Bool, false, List, [], Some, length, replicate, slice_get}
 use Rattle.catalog.specs.Entries.{Entry, entry_of, ids_of}
 use Rattle.farm.specs.Members.{EachAt}
-use Rattle.farm.specs.NodeEnds.{HaveClosed}
+use Rattle.farm.specs.NodeEnds.{HaveClosed, IsClosingFault}
 use Rattle.farm.specs.WorkerLogs.{HasLog, Traces, WorkedFarm}
+use Rattle.farm.specs.declared.fault.FarmFault.{FarmFault}
+use Rattle.farm.specs.declared.fault.FarmFault.TheVariants.{SpawnFailed, Memory, Close}
 use Rattle.farm.specs.declared.hand.WorkerReceipts.{WorkerReceipts}
 use Rattle.farm_setup.specs.declared.setup.FarmSetup.{FarmSetup}
 use Rattle.farm_turns.specs.Shifts.{GoesThrough}
@@ -36,6 +38,19 @@ pub record HasWorkedAs (catalog : List Entry) (farm : WorkedFarm) (keys : List K
   pub keys_are : rules.keys.now ≡ keys
   pub worked : HasWorked catalog farm rules kept
 
+-- the ends of all workers. Each that met no end of memory has gone through all its turns
+pub record AreWorkerEnds (catalog : List Entry) (farm : WorkedFarm) (keys : List Key) (setup : FarmSetup) (ends : List WorkerReceipts) : Type 0 where
+  pub count : length ends ≡ 2 * setup.nodes
+  pub worked : EachAt (λ number end. end.memory ≡ false → HasWorkedAs catalog farm keys setup number end.receipts.items) ends
+
+-- why a farm has no answer: a thread could not be started, or memory was refused, or a receipt of the workers of some node does not
+-- match its history
+abbrev pub IsFarmFault : List Entry → WorkedFarm → List Key → FarmSetup → FarmFault → Type 0
+IsFarmFault catalog farm keys setup (SpawnFailed refusal) = Unit {0}
+IsFarmFault catalog farm keys setup Memory = Unit {0}
+IsFarmFault catalog farm keys setup (Close refusal) =
+    (ends : List WorkerReceipts) × AreWorkerEnds catalog farm keys setup ends × IsClosingFault setup.nodes ends (Close refusal)
+
 -- the histories are those of the nodes of a farm: each has two workers, which went through all their turns, and their receipts
 -- account for it
 pub record AreFarmHistories (catalog : List Entry) (farm : WorkedFarm) (keys : List Key) (setup : FarmSetup) (histories : List (List Event)) : Type 0 where
@@ -56,6 +71,12 @@ farm_of entry inlining setup =
 
 abbrev pub farm_of_job : Job → List Bool → FarmSetup → WorkedFarm
 farm_of_job job inlining setup = farm_of (entry_of job) inlining setup
+
+-- why a farm at the job of this number has no answer
+abbrev pub IsRunFault : List Entry → ℕ → List Bool → FarmSetup → FarmFault → Type 0
+IsRunFault catalog job inlining setup fault =
+    (entry : Entry) → slice_get catalog job ≡ Some entry
+    → IsFarmFault catalog (farm_of entry inlining setup) (work_keys (ids_of entry).program entry.pipeline inlining) setup fault
 
 -- they are those of a farm that worked at the job of this number
 abbrev pub HaveRun : List Entry → ℕ → List Bool → FarmSetup → List (List Event) → Type 0

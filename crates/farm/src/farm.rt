@@ -1,13 +1,14 @@
 //! Farms.
 
 ghost use Rattle.std.specs.Option.{ForSome};
-ghost use Rattle.std.specs.Prelude.{◌≡◌, ◌*◌, ◌/◌, [], All, IfOk, Some, length, map, replicate, slice_get};
+ghost use Rattle.std.specs.Prelude.{◌≡◌, ◌*◌, ◌/◌, [], All, IfErr, IfOk, Some, length, map, replicate, slice_get};
 ghost use Rattle.crossbeam_queue.specs.Passes.{view};
+ghost use Rattle.farm.specs.FarmFaults.{IsBeforeClosing};
 ghost use Rattle.farm.specs.Members.{BelongTogether, EachAt};
 ghost use Rattle.farm.specs.NodeEnds.{AreNewEnds};
 ghost use Rattle.farm.specs.Reports.{IsSoundEnd, all_held};
 ghost use Rattle.farm.specs.WorkerLogs.{WorksAt};
-ghost use Rattle.farm.specs.WorkerRuns.{AreFarmHistories, HaveRun};
+ghost use Rattle.farm.specs.WorkerRuns.{AreFarmHistories, HaveRun, IsFarmFault, IsRunFault};
 ghost use Rattle.farm_answers.specs.Answering.{IsAnswerOf, IsPlanned, missing_work};
 ghost use Rattle.netpbm.specs.Image.{IsImage};
 ghost use Rattle.posts.specs.Parcels.{moves};
@@ -67,6 +68,8 @@ impl Farm {
         ensures nodes { IfOk result (λ report. length report.closed.items ≡ setup.now.nodes) }
         ensures worked { IfOk result (λ report. HaveRun
             catalog.now job schedule.now.inlining setup.now report.closed.items) }
+        ensures fault { IfErr result
+            (IsRunFault catalog.now job schedule.now.inlining setup.now) }
         ensures by_caller { IfOk result (λ report. report.by_caller ≡ length
             (missing_work catalog.now job schedule.now.inlining (all_held report.closed.items))) }
     {
@@ -137,6 +140,8 @@ fn run_farm_to_closed_farm_nodes<
     ensures count { IfOk result (λ closed. length closed.items ≡ setup.now.nodes) }
     ensures worked { IfOk result (λ closed. AreFarmHistories
         C.catalog C.farm plan.now.keys.now setup.now closed.items) }
+    ensures fault { IfErr result
+        (IsFarmFault C.catalog C.farm plan.now.keys.now setup.now) }
 {
     let (nodes, seats) = open_farm_nodes_and_worker_seats::<C>(alloc, catalog, setup)?;
     let (desk, leases) = LiveDesk::open(alloc, log);
@@ -163,8 +168,9 @@ fn run_farm_workers<
     workers: Vec<FarmWorker<'a, C>>,
     gate: &G,
 ) -> Result<Vec<WorkerReceipts>, FarmFault>
-    ensures { IfOk result (λ ends. BelongTogether
+    ensures ends { IfOk result (λ ends. BelongTogether
         ⟦<FarmWorker<'a, C> as FarmThreadTask>⟧.may_end workers.entry.items ends.items) }
+    ensures fault { IfErr result IsBeforeClosing }
 {
     run_and_join_farm_threads(rt, alloc, workers, gate)
 }

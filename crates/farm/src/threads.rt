@@ -1,7 +1,8 @@
 //! Work in threads.
 
+ghost use Rattle.farm.specs.FarmFaults.{IsBeforeClosing};
 ghost use Rattle.farm.specs.Members.{BelongTogether};
-ghost use Rattle.std.specs.Prelude.{◌≡◌, IfOk};
+ghost use Rattle.std.specs.Prelude.{◌≡◌, IfErr, IfOk};
 
 use crate::fault::FarmFault;
 use crate::hand::WorkerReceipts;
@@ -48,14 +49,16 @@ pub fn run_and_join_farm_threads<
     R: Threads + Wait + Sync,
 >(rt: &R, alloc: Global, tasks: Vec<T>, gate: &G) -> Result<Vec<WorkerReceipts>, FarmFault>
     requires { T.may_run }
-    ensures { IfOk result (λ ends. BelongTogether T.may_end tasks.items ends.items) }
+    ensures ends { IfOk result (λ ends. BelongTogether T.may_end tasks.items ends.items) }
+    ensures fault { IfErr result IsBeforeClosing }
 {
     thread::scope(
         thread::scope_env(),
         rt,
         |scope| -> Result<Vec<WorkerReceipts>, FarmFault>
             requires { T.may_run }
-            ensures { IfOk result (λ ends. BelongTogether T.may_end tasks.items ends.items) }
+            ensures ends { IfOk result (λ ends. BelongTogether T.may_end tasks.items ends.items) }
+            ensures fault { IfErr result IsBeforeClosing }
         {
             let handles = start_farm_threads(scope, rt, alloc, tasks, gate)?;
             join_farm_threads(rt, alloc, handles)
@@ -69,8 +72,9 @@ fn join_farm_threads<T: FarmThreadTask, R: Threads>(
     alloc: Global,
     handles: Vec<FarmThreadHandle<T>>,
 ) -> Result<Vec<WorkerReceipts>, FarmFault>
-    ensures { IfOk result (λ ends. BelongTogether
+    ensures ends { IfOk result (λ ends. BelongTogether
         (λ handle end. T.may_end handle.promise.task.value end) handles.items ends.items) }
+    ensures fault { IfErr result IsBeforeClosing }
 {
     let mut ends = Vec::new(alloc);
     for handle in handles {
@@ -89,8 +93,9 @@ fn start_farm_threads<'s, E, T: FarmThreadTask + Send + Drop + 's, G: Gate + Syn
     gate: &'s G,
 ) -> Result<Vec<FarmThreadHandle<T>>, FarmFault>
     requires { T.may_run }
-    ensures { IfOk result (λ handles. BelongTogether
+    ensures handles { IfOk result (λ handles. BelongTogether
         (λ task handle. handle.promise.task.value ≡ task) tasks.items handles.items) }
+    ensures fault { IfErr result IsBeforeClosing }
 {
     let mut handles = Vec::new(alloc);
     for task in tasks {
