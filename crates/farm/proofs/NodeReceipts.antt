@@ -1,6 +1,7 @@
 -- The receipts of a node's workers, taken from all ends one after another.
-use Rattle.std.proofs.Common.{◌≡◌, ◌<◌, ◌+◌, ◌*◌, ◌∙◌, ◌⊎◌, ℕ, zero, suc, List, [], ◌∷◌, ◌++◌, Some, length, drop, slice_get, refl, ap, sym, subst, arith, inl, inr}
+use Rattle.std.proofs.Common.{◌≡◌, ◌<◌, ◌+◌, ◌*◌, ◌∙◌, ℕ, List, [], ◌∷◌, ◌++◌, Some, length, drop, slice_get, ap, sym, subst, arith, inl, inr}
 use Rattle.std.proofs.lemmas.List.{drop-drop, length-append}
+use Rattle.farm.proofs.Members.{got_more}
 use Rattle.farm.specs.FarmFaults.{fault_of_close}
 use Rattle.farm.specs.NodeEnds.{HaveClosed, IsClosingFault, ends_of_node}
 use Rattle.farm.specs.declared.fault.FarmFault.{FarmFault}
@@ -17,13 +18,6 @@ pub rest_after_node : {N : Type 0} (all old new : List WorkerReceipts) (ns : Lis
 rest_after_node all old new ns n at next =
     let on : 2 * length ns + 2 ≡ 2 * length (ns ++ n ∷ []) = omega (arith, length-append ns (n ∷ [])) in
     next ∙ ap (drop 2) at ∙ drop-drop 2 (2 * length ns) all ∙ ap (λ k. drop k all) on
-
-got_more : (xs : List (List Event)) (x : List Event) (k : ℕ) (h : List Event) → slice_get (xs ++ x ∷ []) k ≡ Some h
-    → (slice_get xs k ≡ Some h) ⊎ ((k ≡ length xs) × (x ≡ h))
-got_more [] x zero h is = inr (refl, cc)
-got_more [] x (suc k) h is = absurd cc
-got_more (y ∷ xs) x zero h is = inl is
-got_more (y ∷ xs) x (suc k) h is = elim (got_more xs x k h is) [ inl there ↦ inl there | inr last ↦ inr (ap suc last.0, last.1) ]
 
 -- one node more
 pub closed_more : (xs old new : List (List Event)) (x : List Event) (ends : List WorkerReceipts) (mine : List End) (node : ℕ)

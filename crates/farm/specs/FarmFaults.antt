@@ -20,6 +20,12 @@ abbrev pub fault_of_close : CloseFault → FarmFault
 fault_of_close (closes.ReceiptMismatch number) = Close (record { number = number })
 fault_of_close closes.Memory = Memory
 
+-- no node was closed in vain
+abbrev pub IsBeforeClosing : FarmFault → Type 0
+IsBeforeClosing (SpawnFailed refusal) = Unit {0}
+IsBeforeClosing Memory = Unit {0}
+IsBeforeClosing (Close refusal) = ⊥
+
 -- the result of closing all nodes: why one does not close, or else that some worker ran out of memory
 abbrev pub result_of_closing : {X : Type 0} → Bool → Result X FarmFault → Result X FarmFault
 result_of_closing memory (Err fault) = Err fault

@@ -1,6 +1,6 @@
 -- The workers of each node at the end of a farm, and what closing the nodes gives. Each node has two workers, whose ends come one
 -- after the other, node after node.
-use Rattle.std.specs.Prelude.{◌≡◌, ◌<◌, ◌*◌, ℕ, List, Some, drop, map, slice_get, take}
+use Rattle.std.specs.Prelude.{◌≡◌, ◌<◌, ◌*◌, ℕ, List, [], All, Some, drop, map, slice_get, take}
 use Rattle.farm.specs.declared.fault.FarmFault.{FarmFault}
 use Rattle.farm.specs.declared.fault.FarmFault.TheVariants.{SpawnFailed, Memory, Close}
 use Rattle.farm.specs.declared.hand.WorkerReceipts.{WorkerReceipts}
@@ -8,6 +8,13 @@ use Rattle.live_nodes.specs.Accounts.{AccountFor}
 use Rattle.live_nodes.specs.Ends.{End, IsSomeCloseFault, receipts_of}
 use Rattle.live_nodes.specs.declared.event.Event.{Event}
 use Rattle.live_nodes.specs.declared.fault.CloseFault.TheVariants.{ReceiptMismatch}
+
+-- no receipt is there yet
+abbrev pub IsNewEnd : WorkerReceipts → Type 0
+IsNewEnd end = end.receipts.items ≡ []
+
+abbrev pub AreNewEnds : List WorkerReceipts → Type 0
+AreNewEnds ends = All IsNewEnd ends
 
 -- a worker's seat with its receipts
 abbrev pub end_of : WorkerReceipts → End

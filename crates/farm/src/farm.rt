@@ -1,21 +1,29 @@
 //! Farms.
 
 ghost use Rattle.std.specs.Option.{ForSome};
-ghost use Rattle.std.specs.Prelude.{◌≡◌, All, IfOk, length};
+ghost use Rattle.std.specs.Prelude.{◌≡◌, ◌*◌, ◌/◌, [], All, IfErr, IfOk, Some, length, map, replicate, slice_get};
+ghost use Rattle.crossbeam_queue.specs.Passes.{view};
+ghost use Rattle.farm.specs.FarmFaults.{IsBeforeClosing};
+ghost use Rattle.farm.specs.Members.{BelongTogether, EachAt};
+ghost use Rattle.farm.specs.NodeEnds.{AreNewEnds};
 ghost use Rattle.farm.specs.Reports.{IsSoundEnd, all_held};
+ghost use Rattle.farm.specs.WorkerLogs.{WorksAt};
+ghost use Rattle.farm.specs.WorkerRuns.{AreFarmHistories, HaveRun, IsFarmFault, IsRunFault};
 ghost use Rattle.farm_answers.specs.Answering.{IsAnswerOf, IsPlanned, missing_work};
 ghost use Rattle.netpbm.specs.Image.{IsImage};
+ghost use Rattle.posts.specs.Parcels.{moves};
 
 use crate::closing::{
     close_farm_nodes_to_list_or_memory_fault, join_facts_of_closed_farm_nodes_by_keys,
 };
 use crate::fault::FarmFault;
 use crate::hand::{WorkerReceipts, WorkerSeat};
+use crate::named::NamedFarm;
 use crate::node::{
     FarmNode, WORKERS, open_farm_nodes_and_worker_seats, open_ports_to_farm_node_mailboxes,
 };
 use crate::report::FarmReport;
-use crate::threads::run_and_join_farm_threads;
+use crate::threads::{FarmThreadTask, run_and_join_farm_threads};
 use crate::worker::FarmWorker;
 use catalog::{Catalog, NamedCatalog};
 use farm_answers::complete_farm_answer;
@@ -58,6 +66,10 @@ impl Farm {
         ensures closed { IfOk result
             (λ report. All (IsSoundEnd catalog.now) report.closed.items) }
         ensures nodes { IfOk result (λ report. length report.closed.items ≡ setup.now.nodes) }
+        ensures worked { IfOk result (λ report. HaveRun
+            catalog.now job schedule.now.inlining setup.now report.closed.items) }
+        ensures fault { IfErr result
+            (IsRunFault catalog.now job schedule.now.inlining setup.now) }
         ensures by_caller { IfOk result (λ report. report.by_caller ≡ length
             (missing_work catalog.now job schedule.now.inlining (all_held report.closed.items))) }
     {
@@ -108,7 +120,7 @@ struct FarmSharedState<'a, C: NamedCatalog + NamedDesk> {
 // The ends of all nodes, after their workers have gone through all turns.
 fn run_farm_to_closed_farm_nodes<
     'a,
-    C: NamedCatalog + NamedDesk + Send + Sync + 'static,
+    C: NamedCatalog + NamedDesk + NamedFarm + Send + Sync + 'static,
     G: Gate + Sync,
     R: Threads + Wait + Sync,
 >(
@@ -122,8 +134,14 @@ fn run_farm_to_closed_farm_nodes<
 ) -> Result<Vec<ClosedNode>, FarmFault>
     requires catalog { catalog.now ≡ C.catalog }
     requires log { log.seen.book ≡ C.book }
+    requires job { WorksAt C.farm plan.now.job.now plan.now.schedule.now.inlining }
+    requires mailboxes { C.farm.mailboxes ≡ replicate setup.now.nodes setup.now.capacity }
     ensures sound { IfOk result (λ closed. All (IsSoundEnd C.catalog) closed.items) }
     ensures count { IfOk result (λ closed. length closed.items ≡ setup.now.nodes) }
+    ensures worked { IfOk result (λ closed. AreFarmHistories
+        C.catalog C.farm plan.now.keys.now setup.now closed.items) }
+    ensures fault { IfErr result
+        (IsFarmFault C.catalog C.farm plan.now.keys.now setup.now) }
 {
     let (nodes, seats) = open_farm_nodes_and_worker_seats::<C>(alloc, catalog, setup)?;
     let (desk, leases) = LiveDesk::open(alloc, log);
@@ -141,7 +159,7 @@ fn run_farm_to_closed_farm_nodes<
 // Runs all workers in threads of their own.
 fn run_farm_workers<
     'a,
-    C: NamedCatalog + NamedDesk + Send + Sync + 'static,
+    C: NamedCatalog + NamedDesk + NamedFarm + Send + Sync + 'static,
     G: Gate + Sync,
     R: Threads + Wait + Sync,
 >(
@@ -149,38 +167,57 @@ fn run_farm_workers<
     alloc: Global,
     workers: Vec<FarmWorker<'a, C>>,
     gate: &G,
-) -> Result<Vec<WorkerReceipts>, FarmFault> {
+) -> Result<Vec<WorkerReceipts>, FarmFault>
+    ensures ends { IfOk result (λ ends. BelongTogether
+        ⟦<FarmWorker<'a, C> as FarmThreadTask>⟧.may_end workers.entry.items ends.items) }
+    ensures fault { IfErr result IsBeforeClosing }
+{
     run_and_join_farm_threads(rt, alloc, workers, gate)
 }
 
-// The workers of all nodes, before their first turn.
+// The workers of all nodes, before their first turn: two for each node, one after the other.
 fn make_farm_workers<'a, C: NamedCatalog + NamedDesk>(
     alloc: Global,
     setup: &FarmSetup,
     shared: &'a FarmSharedState<'a, C>,
     leases: &SeenLeases<C>,
-    seats: Vec<Vec<WorkerReceipts>>,
-) -> Result<Vec<FarmWorker<'a, C>>, AllocError> {
+    seats: Vec<WorkerReceipts>,
+) -> Result<Vec<FarmWorker<'a, C>>, AllocError>
+    requires nodes { length shared.now.nodes.items ≡ setup.now.nodes }
+    requires seats { length seats.items ≡ 2 * setup.now.nodes }
+    requires fresh { AreNewEnds seats.items }
+    ensures count { IfOk result (λ workers. length workers.items ≡ length seats.items) }
+    ensures each { IfOk result (λ workers. EachAt (λ number worker.
+        (worker.number ≡ number)
+        × (worker.home ≡ number / 2)
+        × (worker.setup ≡ setup.now)
+        × (worker.work.now ≡ shared.now.work)
+        × (slice_get (map (λ node. node.live) shared.now.nodes.items) worker.home
+        ≡ Some worker.hand.node.now)
+        × (worker.hand.end.receipts.items ≡ [])
+        × All (λ port. view port.pass.seat ≡ moves [] []) worker.ports.items
+        × (map (λ port. port.post.now) worker.ports.items
+        ≡ map (λ node. node.post) shared.now.nodes.items)) workers.items) }
+{
     let mut workers: Vec<FarmWorker<'a, C>> = Vec::new(alloc);
     let mut number: u8 = 0;
-    for (node, ends) in shared.nodes.iter().zip(seats) {
-        for end in ends {
-            workers.reserve(1)?;
-            workers.push_reserved(FarmWorker {
-                number,
-                home: number / WORKERS,
-                setup: *setup,
-                work: &shared.work,
-                desk: &shared.desk,
-                leases: leases.again(),
-                hand: WorkerSeat {
-                    node: &node.live,
-                    end,
-                },
-                ports: open_ports_to_farm_node_mailboxes(alloc, &shared.nodes)?,
-            });
-            number = number.saturating_add(1);
-        }
+    for end in seats {
+        let home = number / WORKERS;
+        workers.reserve(1)?;
+        workers.push_reserved(FarmWorker {
+            number,
+            home,
+            setup: *setup,
+            work: &shared.work,
+            desk: &shared.desk,
+            leases: leases.again(),
+            hand: WorkerSeat {
+                node: &shared.nodes[usize::from(home)].live,
+                end,
+            },
+            ports: open_ports_to_farm_node_mailboxes(alloc, &shared.nodes)?,
+        });
+        number += 1;
     }
     Ok(workers)
 }

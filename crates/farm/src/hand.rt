@@ -1,7 +1,11 @@
 //! A worker's place at its node.
 
-ghost use Rattle.std.specs.Prelude.{◌≡◌, All, IfOk, length};
+ghost use Rattle.std.specs.Prelude.{◌≡◌, [], All, IfErr, IfOk, List, OnErr, OnOk, length};
 ghost use Rattle.fact_audit.specs.TrueFacts.{IsTrueFact};
+ghost use Rattle.farm.specs.NodeCalls.{IsReceiptAdded, event_of_step};
+ghost use Rattle.live_nodes.specs.Ends.{IsAsked};
+ghost use Rattle.live_nodes.specs.Loans.{AreTrueFactsOf};
+ghost use Rattle.live_nodes.specs.declared.event.Event.TheVariants.{Lent, Took};
 ghost use Rattle.updates.specs.TrueUpdates.{AreTrue};
 
 use catalog::NamedCatalog;
@@ -25,6 +29,7 @@ impl WorkerReceipts {
     /// A seat by which nothing was recorded.
     pub fn new(alloc: Global, seat: Seat) -> WorkerReceipts
         requires { seat ≡ 0 }
+        ensures { result.receipts.items ≡ [] }
     {
         WorkerReceipts {
             seat,
@@ -56,7 +61,12 @@ impl<'a, C: NamedCatalog> WorkerSeat<'a, C> {
         rt: &R,
         keys: &[Key],
     ) -> Result<Vec<Fact>, LendFault>
-        ensures { IfOk result (λ facts. All (IsTrueFact C.catalog) facts.items) }
+        ensures is_true { IfOk result (λ facts. All (IsTrueFact C.catalog) facts.items) }
+        ensures lent { IfOk result (λ facts. AreTrueFactsOf C.catalog keys.now facts.items) }
+        ensures receipt { OnOk result ((retired : List _) × IsReceiptAdded
+            self.old.end.receipts.items self.new.end.receipts.items (Lent keys.now retired)) }
+        ensures asked { IfErr result (IsAsked keys.now) }
+        ensures unchanged { OnErr result (self.new.end.receipts.items ≡ self.old.end.receipts.items) }
     {
         let WorkerReceipts { seat, receipts, .. } = &mut self.end;
         receipts.reserve(1)?;
@@ -71,6 +81,8 @@ impl<'a, C: NamedCatalog> WorkerSeat<'a, C> {
         updates: Vec<Update>,
     ) -> Result<(), AllocError>
         requires { AreTrue C.catalog updates.items }
+        ensures { OnOk result (IsReceiptAdded
+            self.old.end.receipts.items self.new.end.receipts.items (Took updates.items)) }
     {
         let WorkerReceipts { seat, receipts, .. } = &mut self.end;
         receipts.reserve(1)?;
@@ -86,7 +98,10 @@ impl<'a, C: NamedCatalog> WorkerSeat<'a, C> {
         &mut self,
         rt: &R,
         step: CheckpointStep,
-    ) -> Result<(), AllocError> {
+    ) -> Result<(), AllocError>
+        ensures { OnOk result (IsReceiptAdded
+            self.old.end.receipts.items self.new.end.receipts.items (event_of_step step)) }
+    {
         let WorkerReceipts { seat, receipts, .. } = &mut self.end;
         receipts.reserve(1)?;
         let receipt = match step {

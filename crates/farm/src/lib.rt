@@ -8,6 +8,7 @@ mod closing;
 mod farm;
 mod fault;
 mod hand;
+mod named;
 mod node;
 mod refusal;
 mod report;

@@ -1,6 +1,9 @@
 //! The nodes of a farm before it runs.
 
-ghost use Rattle.std.specs.Prelude.{◌≡◌, All, IfOk, length};
+ghost use Rattle.crossbeam_queue.specs.Passes.{ruled_capacity, view};
+ghost use Rattle.farm.specs.NodeEnds.{AreNewEnds};
+ghost use Rattle.posts.specs.Parcels.{moves};
+ghost use Rattle.std.specs.Prelude.{◌≡◌, ◌+◌, ◌*◌, [], All, IfOk, OnOk, length, map};
 
 use crate::hand::WorkerReceipts;
 use catalog::{Catalog, NamedCatalog};
@@ -20,63 +23,77 @@ pub struct FarmNode<C: NamedCatalog> {
 }
 
 impl<C: NamedCatalog> FarmNode<C> {
-    // A node, and the seats of its workers.
+    // A node, whose workers' seats are added to those of the nodes before it.
     fn open(
         alloc: Global,
         catalog: &Catalog,
         setup: &FarmSetup,
-    ) -> Result<(FarmNode<C>, Vec<WorkerReceipts>), AllocError>
+        ends: &mut Vec<WorkerReceipts>,
+    ) -> Result<FarmNode<C>, AllocError>
         requires { catalog.now ≡ C.catalog }
+        ensures capacity { IfOk result
+            (λ node. ruled_capacity node.post.queue ≡ setup.now.capacity) }
+        ensures count { OnOk result (length ends.new.items ≡ length ends.old.items + 2) }
+        ensures fresh { AreNewEnds ends.old.items → OnOk result (AreNewEnds ends.new.items) }
     {
         let (live, seats) = LiveNode::open(alloc, catalog, usize::from(WORKERS))?;
         let (post, _) = Post::new(alloc, catalog, setup.capacity, 0)?;
-        Ok((
-            FarmNode { live, post },
-            wrap_seats_as_worker_receipts(alloc, seats)?,
-        ))
+        add_seats_as_worker_receipts(alloc, seats, ends)?;
+        Ok(FarmNode { live, post })
     }
 }
 
-/// All nodes, each with the seats of its workers.
+/// All nodes, and the seats of their workers, node after node.
 pub fn open_farm_nodes_and_worker_seats<C: NamedCatalog>(
     alloc: Global,
     catalog: &Catalog,
     setup: &FarmSetup,
-) -> Result<(Vec<FarmNode<C>>, Vec<Vec<WorkerReceipts>>), AllocError>
+) -> Result<(Vec<FarmNode<C>>, Vec<WorkerReceipts>), AllocError>
     requires { catalog.now ≡ C.catalog }
-    ensures { IfOk result (λ opened. length opened.0.items ≡ setup.now.nodes) }
+    ensures nodes { IfOk result (λ opened. length opened.0.items ≡ setup.now.nodes) }
+    ensures capacity { IfOk result (λ opened. All
+        (λ node. ruled_capacity node.post.queue ≡ setup.now.capacity) opened.0.items) }
+    ensures count { IfOk result (λ opened. length opened.1.items ≡ 2 * setup.now.nodes) }
+    ensures fresh { IfOk result (λ opened. AreNewEnds opened.1.items) }
 {
     let mut nodes: Vec<FarmNode<C>> = Vec::new(alloc);
-    let mut ends: Vec<Vec<WorkerReceipts>> = Vec::new(alloc);
+    let mut ends: Vec<WorkerReceipts> = Vec::new(alloc);
     for _ in 0..setup.nodes {
-        let (node, mine) = FarmNode::open(alloc, catalog, setup)?;
+        let node = FarmNode::open(alloc, catalog, setup, &mut ends)?;
         nodes.reserve(1)?;
         nodes.push_reserved(node);
-        ends.reserve(1)?;
-        ends.push_reserved(mine);
     }
     Ok((nodes, ends))
 }
 
-fn wrap_seats_as_worker_receipts(
+// Adds seats by which nothing was recorded.
+fn add_seats_as_worker_receipts(
     alloc: Global,
     seats: Vec<Seat>,
-) -> Result<Vec<WorkerReceipts>, AllocError>
+    ends: &mut Vec<WorkerReceipts>,
+) -> Result<(), AllocError>
     requires { All (λ seat. seat ≡ 0) seats.items }
+    ensures count { OnOk result
+        (length ends.new.items ≡ length ends.old.items + length seats.items) }
+    ensures fresh { AreNewEnds ends.old.items → OnOk result (AreNewEnds ends.new.items) }
 {
-    let mut ends: Vec<WorkerReceipts> = Vec::new(alloc);
     for seat in seats {
         ends.reserve(1)?;
         ends.push_reserved(WorkerReceipts::new(alloc, seat));
     }
-    Ok(ends)
+    Ok(())
 }
 
-/// A port to each node's mailbox.
+/// A port to each node's mailbox, through which nothing has gone.
 pub fn open_ports_to_farm_node_mailboxes<'a, C: NamedCatalog>(
     alloc: Global,
     nodes: &'a [FarmNode<C>],
-) -> Result<Vec<MailboxPort<'a, C>>, AllocError> {
+) -> Result<Vec<MailboxPort<'a, C>>, AllocError>
+    ensures posts { IfOk result (λ ports.
+        map (λ port. port.post.now) ports.items ≡ map (λ node. node.post) nodes.now) }
+    ensures fresh { IfOk result
+        (λ ports. All (λ port. view port.pass.seat ≡ moves [] []) ports.items) }
+{
     let mut ports: Vec<MailboxPort<'a, C>> = Vec::new(alloc);
     for node in nodes {
         ports.reserve(1)?;

@@ -1,6 +1,7 @@
 //! What takes the calls of a worker of a farm.
 
 use crate::hand::{CheckpointStep, WorkerSeat};
+use crate::named::NamedFarm;
 use catalog::NamedCatalog;
 use farm_turns::{KeyReadiness, WorkerPlace};
 use farm_work::{FarmWork, Gate, KeyLookup};
@@ -47,14 +48,26 @@ impl<'s, 'a, C: NamedCatalog, R: Wait> KeyLookup for NodeLookup<'s, 'a, C, R> {
     }
 }
 
-impl<'s, 'a, C: NamedCatalog + NamedDesk, R: Wait, G: Gate> WorkerPlace
+impl<'s, 'a, C: NamedCatalog + NamedDesk + NamedFarm, R: Wait, G: Gate> WorkerPlace
     for WorkerSite<'s, 'a, C, R, G> {
+    ghost use Rattle.crossbeam_queue.specs.Passes.{ruled_capacity, view};
     ghost use Rattle.fact_audit.specs.TrueFacts.{IsTrueFact};
+    ghost use Rattle.farm.specs.WorkerLogs.{HasLog, WorksAt};
+    ghost use Rattle.std.specs.Prelude.{map};
     ghost use Rattle.updates.specs.TrueUpdates.{AreTrue};
 
     type Plan = TilePlan<'a>;
 
-    ghost has_log = { λ site log. Unit {0} };
+    ghost has_log = { λ site log.
+        WorksAt C.farm site.work.now.job.now site.work.now.schedule.now.inlining
+        × HasLog C.catalog C.farm (record {
+          receipts = site.hand.end.receipts.items;
+          ports = map (λ port. record {
+            capacity = ruled_capacity port.post.now.queue;
+            moved = view port.pass.seat;
+          }) site.ports.items;
+          seen = site.leases;
+        }) log };
 
     ghost is_true = { IsTrueFact C.catalog };
 

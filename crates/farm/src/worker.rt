@@ -1,6 +1,7 @@
 //! The threads of a farm's nodes.
 
 use crate::hand::{WorkerReceipts, WorkerSeat};
+use crate::named::NamedFarm;
 use crate::site::WorkerSite;
 use crate::threads::FarmThreadTask;
 use catalog::NamedCatalog;
@@ -29,7 +30,33 @@ pub struct FarmWorker<'a, C: NamedCatalog + NamedDesk> {
     pub ports: Vec<MailboxPort<'a, C>>,
 }
 
-impl<'a, C: NamedCatalog + NamedDesk + 'static> FarmThreadTask for FarmWorker<'a, C> {
+impl<'a, C: NamedCatalog + NamedDesk + NamedFarm> FarmThreadTask for FarmWorker<'a, C> {
+    ghost use Rattle.crossbeam_queue.specs.Passes.{ruled_capacity, view};
+    ghost use Rattle.farm.specs.WorkerLogs.{AreFresh, WorksAt};
+    ghost use Rattle.farm.specs.WorkerRuns.{HasWorked};
+    ghost use Rattle.std.specs.Prelude.{◌≡◌, [], false, map};
+    ghost use contract.BorrowLft.{◌⊑◌};
+
+    ghost may_run = { [] ⊑ C.row.lives };
+
+    ghost may_end = { λ worker end.
+        WorksAt C.farm worker.work.now.job.now worker.work.now.schedule.now.inlining
+        → AreFresh C.farm (record {
+          receipts = worker.hand.end.receipts.items;
+          ports = map (λ port. record {
+            capacity = ruled_capacity port.post.now.queue;
+            moved = view port.pass.seat;
+          }) worker.ports.items;
+          seen = worker.leases;
+        })
+        → end.memory ≡ false
+        → HasWorked C.catalog C.farm (record {
+          number = worker.number;
+          home = worker.home;
+          setup = worker.setup;
+          keys = worker.work.now.keys;
+        }) end.receipts.items };
+
     fn run<R: Wait, G: Gate>(self, rt: &R, alloc: Global, gate: &G) -> WorkerReceipts {
         let FarmWorker {
             number,

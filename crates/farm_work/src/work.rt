@@ -43,6 +43,9 @@ impl<'a, C: NamedCatalog> FarmWork<'a, C> {
         keys: &'a [Key],
     ) -> FarmWork<'a, C>
         requires { catalog.now ≡ C.catalog }
+        ensures job { result.job.now ≡ job.now }
+        ensures schedule { result.schedule.now ≡ schedule.now }
+        ensures keys { result.keys.now ≡ keys.now }
     {
         FarmWork {
             catalog,
