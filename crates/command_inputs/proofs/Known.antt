@@ -35,7 +35,7 @@ use Rattle.command_inputs.specs.Faults.{IsFaultBehind, blamed}
 use Rattle.command_inputs.specs.Giving.{Given, AreGiven, unset_of}
 use Rattle.command_inputs.specs.Input.{IsInput, IsInputInThree, IsJobAt, IsSpelled, MeansSomething, program_at}
 use Rattle.command_inputs.specs.Sections.{IsParted, IsPartedInThree}
-use Rattle.command_inputs.specs.inside.Steps.{IsTablesRefusal, TellsBind}
+use Rattle.command_inputs.specs.inside.Steps.{IsLastRefusal, IsTablesRefusal, TellsBind}
 use Rattle.command_faults.specs.StepFaults.{fault_at_parse, fault_at_picture}
 use Rattle.command_inputs.proofs.Accepting.{means_something}
 use Rattle.command_inputs.proofs.Handing.{params_named}
@@ -69,6 +69,15 @@ picture_fault text last tree (pictures.CommentBehindDigit n) program is = (tree,
 picture_fault text last tree (pictures.RasterCut n) program is = (tree, program, is, λ e. cc)
 picture_fault text last tree (pictures.SampleTooBig n) program is = (tree, program, is, λ e. cc)
 picture_fault text last tree (pictures.TrailingBytes n) program is = (tree, program, is, λ e. cc)
+
+-- those of the last section
+pub last_fault : (text last : List ℕ) (tree : List Declaration) (f : StreamFault) → IsText text tree
+    → IsLastRefusal last (length (tables_of tree)) f → IsSpellingFault text last f
+last_fault text last tree f program (inl is) = tables_fault text last tree f program is
+last_fault text last tree f program (inr is) =
+    subst (IsSpellingFault text last) (sym is.told)
+    (picture_fault text last tree is.picture program
+    (record { tables = is.tables; each = is.each; spelling = is.spelling; lines = is.lines; bad = is.bad }))
 
 bind_fault : (tree : List Declaration) (tables : List Table) (source : Image) (given : List Given) (sides : Sides) (chosen : List Setting)
     (ranks : List ℕ) (fault : BindFault) (f : StreamFault)

@@ -1,5 +1,5 @@
 -- Which fault of an input is reported: each only if none of those before it is.
-use Rattle.std.specs.Prelude.{◌≡◌, ◌≢◌, ℕ, Option, None, List, length, slice_get, filter_map}
+use Rattle.std.specs.Prelude.{◌≡◌, ◌≢◌, ◌≤◌, ℕ, Option, None, List, length, slice_get, filter_map}
 use Rattle.std.specs.Option.{option_map}
 use Rattle.domains.specs.Sides.{Sides}
 use Rattle.netpbm.specs.Image.{Image}
@@ -7,6 +7,7 @@ use Rattle.netpbm.specs.Faults.{IsFault as IsPictureFault}
 use Rattle.netpbm.specs.declared.fault.PicFault.{PicFault}
 use Rattle.netpbm.specs.declared.fault.PicFault.TheVariants as pictures
 use Rattle.pipe_tree.specs.Faults.{IsFault as IsTextFault, IsText}
+use Rattle.pipe_tree.specs.Limits.{most_bytes}
 use Rattle.pipe_tree.specs.Tree.{Declaration}
 use Rattle.pipe_tree.specs.declared.fault.ParseFault.TheVariants as texts
 use Rattle.pipe_checks.specs.Checking.{IsFault as IsProgramFault}
@@ -155,3 +156,25 @@ IsFaultAround input given sides (Bind line) =
     × IsInputInThree input tree middle tables source × IsJobFault tree tables source given sides (Bind line)
 IsFaultAround input given sides Memory = Unit {0}
 IsFaultAround input given sides _ = ⊥
+
+-- ---- what is never refused memory
+
+-- memory is refused only if this holds
+abbrev pub IsMemoryOnlyIf : Type 0 → StreamFault → Type 0
+IsMemoryOnlyIf P Memory = P
+IsMemoryOnlyIf P _ = Unit {0}
+
+-- there is a separator line, and the text before it is not too long
+pub record HasShortText (input : List ℕ) : Type 0 where
+  pub text : List ℕ
+  pub last : List ℕ
+  pub parted : IsParted input text last
+  pub short : length text ≤ most_bytes
+
+-- there are two separator lines, and the text before the first one is not too long
+pub record HasShortTextInThree (input : List ℕ) : Type 0 where
+  pub text : List ℕ
+  pub middle : List ℕ
+  pub last : List ℕ
+  pub parted : IsPartedInThree input text middle last
+  pub short : length text ≤ most_bytes

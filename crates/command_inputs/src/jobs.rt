@@ -1,15 +1,19 @@
 //! From the bytes of an input to its job.
 
-ghost use Rattle.std.specs.Prelude.{◌≡◌, IfOk, IfErr, List};
+ghost use Rattle.std.specs.Prelude.{◌≡◌, ◌≤◌, IfOk, IfErr, List, drop, length};
 ghost use Rattle.domains.specs.Sides.{Sides};
 ghost use Rattle.pipe_print.specs.Canonical.{canonical};
 ghost use Rattle.pipe_tree.specs.Content.{content};
+ghost use Rattle.pipe_tree.specs.Limits.{most_bytes};
+ghost use Rattle.pipe_tree.specs.Tree.{declarations};
+ghost use Rattle.pipe_checks.specs.Names.{tables_of};
 ghost use Rattle.job.specs.Kept.{pipeline_in, program_text_in};
 ghost use Rattle.job.specs.WellFormed.{IsJob, IsSmall};
 ghost use Rattle.command_inputs.specs.Faults.{IsFaultAround, IsFaultOf, IsJobFault, IsSpellingFault};
+ghost use Rattle.command_inputs.specs.Faults.{HasShortText, HasShortTextInThree, IsMemoryOnlyIf};
 ghost use Rattle.command_inputs.specs.Giving.{Given};
 ghost use Rattle.command_inputs.specs.Input.{IsInput, IsJobAt, IsReadAround, IsReadJob, IsSpelled};
-ghost use Rattle.command_inputs.specs.inside.Steps.{IsHeadBefore, IsProgramBefore};
+ghost use Rattle.command_inputs.specs.inside.Steps.{IsLastRefusal, IsLastSection, IsProgramBefore};
 
 use crate::bind_faults::convert_bind_fault_to_input_fault;
 use crate::programs::check_input_program;
@@ -22,7 +26,7 @@ use domains::TileSides;
 use job::Job;
 use netpbm::Picture;
 use pipe_lang::parse;
-use pipe_tree::Tree;
+use pipe_tree::{Item, Tree};
 use std::alloc::Global;
 use tables::Table;
 
@@ -38,6 +42,7 @@ pub fn read_input_job(
     ensures job { IfOk result (λ job. IsJob (pipeline_in job)) }
     ensures small { IfOk result (λ job. IsSmall (pipeline_in job)) }
     ensures fault { IfErr result (IsFaultOf input.items given.now sides) }
+    ensures memory { IfErr result (IsMemoryOnlyIf (HasShortText input.items)) }
 {
     let (tree, tables, picture) = parse_input_program_tables_and_picture(alloc, input)?;
     check_and_bind_input_job(alloc, sides, given, tree, tables, picture)
@@ -56,6 +61,7 @@ pub fn read_input_job_and_middle_section<'a>(
     ensures job { IfOk result (λ read. IsJob (pipeline_in read.0)) }
     ensures small { IfOk result (λ read. IsSmall (pipeline_in read.0)) }
     ensures fault { IfErr result (IsFaultAround input.now given.now sides) }
+    ensures memory { IfErr result (IsMemoryOnlyIf (HasShortTextInThree input.now)) }
 {
     let Some((text, middle, last)) = split_into_three_input_sections(input) else {
         return Err(StreamFault::NoSeparator);
@@ -74,29 +80,34 @@ fn parse_input_program_tables_and_picture(
     ensures ok { IfOk result (λ read. IsInput input.items (content read.0) read.1.items read.2) }
     ensures fault { (given : List Given) (sides : Sides)
         → IfErr result (IsFaultOf input.items given sides) }
+    ensures memory { IfErr result (IsMemoryOnlyIf (HasShortText input.items)) }
 {
-    let (tree, tables, start) = parse_input_program_and_tables(alloc, input.as_slice())?;
-    let picture = netpbm::read_picture_in_place(alloc, input, start)?;
+    let (tree, start) = parse_input_program_without_check(alloc, input.as_slice())?;
+    let (tables, picture) = parse_last_input_section_in_place(alloc, tree.items(), input, start)?;
     Ok((tree, tables, picture))
 }
 
-/// The program of the first section, its tables, and where the spelling of the picture starts.
-fn parse_input_program_and_tables(
+/// The tables and the picture of the last section, which starts at this place of the input. A raw picture keeps the input's bytes.
+fn parse_last_input_section_in_place(
     alloc: Global,
-    input: &[u8],
-) -> Result<(Tree, Vec<Table>, usize), StreamFault>
-    ensures ok { IfOk result
-        (λ read. IsHeadBefore input.now (content read.0) read.1.items read.2) }
-    ensures fault { (given : List Given) (sides : Sides)
-        → IfErr result (IsFaultOf input.now given sides) }
+    items: &[Item],
+    input: Vec<u8>,
+    start: usize,
+) -> Result<(Vec<Table>, Picture), StreamFault>
+    requires { start ≤ length input.items }
+    ensures ok { IfOk result (λ read. IsLastSection (drop start input.items)
+        (length (tables_of (declarations items.now))) read.0.items read.1) }
+    // Memory is refused only for the line of the next table, or for a picture.
+    ensures fault { IfErr result (IsLastRefusal (drop start input.items)
+        (length (tables_of (declarations items.now)))) }
 {
-    let (tree, start) = parse_input_program_without_check(alloc, input)?;
     let (tables, length) = parse_input_table_line_per_declaration(
         alloc,
-        tree.items(),
-        &input[start..],
+        items,
+        &input.as_slice()[start..],
     )?;
-    Ok((tree, tables, start + length))
+    let picture = netpbm::read_picture_in_place(alloc, input, start + length)?;
+    Ok((tables, picture))
 }
 
 /// The program of the first section, and where the last section starts.
@@ -107,6 +118,7 @@ fn parse_input_program_without_check(
     ensures ok { IfOk result (λ read. IsProgramBefore input.now (content read.0) read.1) }
     ensures fault { (given : List Given) (sides : Sides)
         → IfErr result (IsFaultOf input.now given sides) }
+    ensures memory { IfErr result (IsMemoryOnlyIf (HasShortText input.now)) }
 {
     let Some(at) = find_input_separator_line(input) else {
         return Err(StreamFault::NoSeparator);
@@ -124,11 +136,28 @@ fn parse_first_and_last_input_sections(
     ensures ok { IfOk result
         (λ read. IsSpelled text.now last.now (content read.0) read.1.items read.2) }
     ensures fault { IfErr result (IsSpellingFault text.now last.now) }
+    ensures memory { IfErr result (IsMemoryOnlyIf (length text.now ≤ most_bytes)) }
 {
     let tree = parse(alloc, text)?;
-    let (tables, start) = parse_input_table_line_per_declaration(alloc, tree.items(), last)?;
-    let picture = netpbm::read(alloc, &last[start..])?;
+    let (tables, picture) = parse_last_input_section(alloc, tree.items(), last)?;
     Ok((tree, tables, picture))
+}
+
+/// The tables and the picture of the last section.
+fn parse_last_input_section(
+    alloc: Global,
+    items: &[Item],
+    last: &[u8],
+) -> Result<(Vec<Table>, Picture), StreamFault>
+    ensures ok { IfOk result (λ read. IsLastSection last.now
+        (length (tables_of (declarations items.now))) read.0.items read.1) }
+    // Memory is refused only for the line of the next table, or for a picture.
+    ensures fault { IfErr result
+        (IsLastRefusal last.now (length (tables_of (declarations items.now)))) }
+{
+    let (tables, start) = parse_input_table_line_per_declaration(alloc, items, last)?;
+    let picture = netpbm::read(alloc, &last[start..])?;
+    Ok((tables, picture))
 }
 
 /// The job of a program, its tables and a picture at the supplied values.

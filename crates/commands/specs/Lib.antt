@@ -2,4 +2,5 @@ pub mod Endings
 pub mod Listing
 pub mod Planning
 pub mod Sayings
+pub mod Successes
 pub mod inside

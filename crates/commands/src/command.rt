@@ -9,10 +9,14 @@ ghost use Rattle.streams.specs.Streams.{one_more};
 ghost use Rattle.commands.specs.Endings.{AskFor, AskForNothing, HasFarmFailed, HasSaid, HasSaidPart, HasTold};
 ghost use Rattle.commands.specs.Endings.{NamesCommand, usage_line};
 ghost use Rattle.commands.specs.Sayings.{refusing_by, saying_by};
+ghost use Rattle.commands.specs.Successes.{saying_success_by};
 ghost use Rattle.fact_commands.specs.declared.finding.AuditFinding.TheVariants.{AFalse, NoFalse};
 ghost use Rattle.command_faults.specs.declared.faults.StreamFault.TheVariants.{Memory, Read};
 
-use crate::finding::map_run_command_success_to_no_false;
+use crate::success::{
+    RunCommandSuccess, map_run_command_farm_to_success, map_run_command_finding_to_success,
+    map_run_command_success_to_finding, map_run_command_success_to_no_false,
+};
 use crate::task_stream::{check_stream, eval_stream, plan_stream};
 use command_faults::{StreamFault, write_command_fault_line};
 use command_line::{CommandLineRefusal, CommandRequest, CommandTask, read_command_request};
@@ -140,7 +144,7 @@ fn run_command_request_to_exit_status<H: AllocGlobal + Threads + Wait + Sync, R:
     }
 }
 
-/// Runs the requested command.
+/// Runs the requested command, and returns what it found.
 fn run_command_request_to_audit_finding<H: AllocGlobal + Threads + Wait + Sync, R: Source, W: Sink>(
     rt: &H,
     request: &CommandRequest,
@@ -148,6 +152,21 @@ fn run_command_request_to_audit_finding<H: AllocGlobal + Threads + Wait + Sync, 
     writer: &mut W,
 ) -> Result<AuditFinding, StreamFault>
     ensures written { Writes (saying_by request.now) (refusing_by request.now)
+        (R.remaining reader.old) result (W.contents writer.old) (W.contents writer.new) }
+    ensures read { CountsRead result (R.failures reader.old) (R.failures reader.new) }
+    ensures write { CountsWritten result (W.failures writer.old) (W.failures writer.new) }
+{
+    map_run_command_success_to_finding(run_command_request_to_success(rt, request, reader, writer))
+}
+
+/// Runs the requested command. The success of `run` is the run of its farm, which has the requested setup.
+fn run_command_request_to_success<H: AllocGlobal + Threads + Wait + Sync, R: Source, W: Sink>(
+    rt: &H,
+    request: &CommandRequest,
+    reader: &mut R,
+    writer: &mut W,
+) -> Result<RunCommandSuccess, StreamFault>
+    ensures written { Writes (saying_success_by request.now) (refusing_by request.now)
         (R.remaining reader.old) result (W.contents writer.old) (W.contents writer.new) }
     ensures read { CountsRead result (R.failures reader.old) (R.failures reader.new) }
     ensures write { CountsWritten result (W.failures writer.old) (W.failures writer.new) }
@@ -170,11 +189,13 @@ fn run_command_request_to_audit_finding<H: AllocGlobal + Threads + Wait + Sync, 
                     rt, options, parameters, reader, writer,
                 )),
                 CommandTask::Run(farm) => {
-                    map_run_command_success_to_no_false(run_stream(
+                    map_run_command_farm_to_success(run_stream(
                         rt, &farm, options, parameters, reader, writer,
                     ))
                 }
-                CommandTask::Audit => audit_stream(rt, options, parameters, reader, writer),
+                CommandTask::Audit => map_run_command_finding_to_success(audit_stream(
+                    rt, options, parameters, reader, writer,
+                )),
                 CommandTask::World(nodes) => {
                     map_run_command_success_to_no_false(world_stream(
                         rt, nodes, options, parameters, reader, writer,

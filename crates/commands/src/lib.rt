@@ -6,11 +6,11 @@
 mod answer;
 mod asked_job;
 mod command;
-mod finding;
 mod plan_lines;
 mod question;
 mod reply;
 mod stage_lines;
+mod success;
 mod task_stream;
 
 pub use command::run_command;

@@ -1,6 +1,7 @@
 //! From the bytes of an input to its job and its facts.
 
 ghost use Rattle.std.specs.Prelude.{IfOk, IfErr};
+ghost use Rattle.command_inputs.specs.Faults.{HasShortTextInThree, IsMemoryOnlyIf};
 ghost use Rattle.fact_commands.specs.FactFaults.{IsAuditFault, IsMergeFault};
 ghost use Rattle.fact_commands.specs.FactInput.{IsReadAudit};
 ghost use Rattle.fact_lines.specs.Texts.{IsJoin};
@@ -27,6 +28,7 @@ pub fn read_job_and_facts_of_audit_input(
     ensures job { IfOk result (λ read. IsJob (pipeline_in read.0)) }
     ensures small { IfOk result (λ read. IsSmall (pipeline_in read.0)) }
     ensures fault { IfErr result (IsAuditFault input.items given.now sides) }
+    ensures memory { IfErr result (IsMemoryOnlyIf (HasShortTextInThree input.items)) }
 {
     let (job, middle) = read_input_job_and_middle_section(alloc, sides, given, input.as_slice())?;
     let contents = join_fact_file_lines(alloc, middle)?;

@@ -1,1 +1,2 @@
+pub mod FarmRuns
 pub mod RunFaults

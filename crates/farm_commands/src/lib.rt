@@ -5,7 +5,9 @@
 
 mod farm_faults;
 mod farm_run;
+mod result_run;
 mod stream;
 
 pub use farm_run::{FarmResult, compute_farm_result_of_job};
+pub use result_run::FarmResultRun;
 pub use stream::{compute_farm_result_of_input, run_stream};

@@ -1,12 +1,14 @@
 //! The command `run` as it is run: from a reader to a writer.
 
-ghost use Rattle.std.specs.Prelude.{◌≡◌, IfErr, IfOk, length};
-ghost use Rattle.command_outcomes.specs.Outcomes.{CountsRead, CountsWritten, IsSaid, Writes, saying_of_job};
+ghost use Rattle.std.specs.Prelude.{IfErr, IfOk};
+ghost use Rattle.command_inputs.specs.Faults.{HasShortText, IsMemoryOnlyIf};
+ghost use Rattle.command_outcomes.specs.Outcomes.{CountsRead, CountsWritten, Writes};
+ghost use Rattle.farm_commands.specs.FarmRuns.{IsRunOnInput, saying_of_run};
 ghost use Rattle.farm_commands.specs.RunFaults.{IsRunFault, refusing_run};
 ghost use Rattle.command_outcomes.specs.Replies.{reply_bytes};
-ghost use Rattle.command_jobs.specs.Results.{SaysResult};
 
 use crate::farm_run::{FarmResult, compute_farm_result_of_job};
+use crate::result_run::FarmResultRun;
 use command_faults::StreamFault;
 use command_inputs::read_input_job;
 use command_line::Options;
@@ -21,7 +23,7 @@ use streams::{Sink, Source};
 /// there are and whatever they lose, repeat and forget.
 ///
 /// The input is the program's text, a line `%%` and the picture. `parameters` gives values of the program's parameters. All is
-/// computed before the first byte is written.
+/// computed before the first byte is written. The run of the farm is returned.
 pub fn run_stream<H: AllocGlobal + Threads + Wait + Sync, R: Source, W: Sink>(
     rt: &H,
     setup: &FarmSetup,
@@ -29,10 +31,11 @@ pub fn run_stream<H: AllocGlobal + Threads + Wait + Sync, R: Source, W: Sink>(
     parameters: &[(String, i32)],
     reader: &mut R,
     writer: &mut W,
-) -> Result<(), StreamFault>
-    // At `Ok` the writer took the bytes of the result; if it failed, a part of them. At any other fault nothing is written. The
-    // fault is the first of the input and the parameters, or the farm's own, which is reported only for an input that has a job.
-    ensures written { Writes (saying_of_job SaysResult parameters.now options.now.sides)
+) -> Result<FarmResultRun, StreamFault>
+    // At `Ok` the writer took the bytes of the result, and the farm of this setup ran by the requested schedule; if the writer
+    // failed, it took a part of them. At any other fault nothing is written. The fault is the first of the input and the
+    // parameters, or the farm's own, which is reported only for an input that has a job.
+    ensures written { Writes (saying_of_run setup.now options.now parameters.now)
         (refusing_run parameters.now options.now.sides) (R.remaining reader.old)
         result (W.contents writer.old) (W.contents writer.new) }
     // A fault of the reader or the writer is returned exactly if it failed.
@@ -41,10 +44,11 @@ pub fn run_stream<H: AllocGlobal + Threads + Wait + Sync, R: Source, W: Sink>(
 {
     let input = read_command_input_bytes(rt.alloc(), reader)?;
     let farmed = compute_farm_result_of_input(rt, setup, options, parameters, input)?;
-    Ok(write_job_reply(&farmed.reply, writer)?)
+    write_job_reply(&farmed.reply, writer)?;
+    Ok(farmed.run)
 }
 
-/// Runs the farm of `run_stream` on what was read, and returns what it left.
+/// Runs the farm of `run_stream` on what was read, and returns what it computed.
 pub fn compute_farm_result_of_input<H: AllocGlobal + Threads + Wait + Sync>(
     rt: &H,
     setup: &FarmSetup,
@@ -52,10 +56,10 @@ pub fn compute_farm_result_of_input<H: AllocGlobal + Threads + Wait + Sync>(
     given: &[(String, i32)],
     input: Vec<u8>,
 ) -> Result<FarmResult, StreamFault>
-    ensures said { IfOk result (λ farmed. IsSaid SaysResult given.now options.now.sides input.items
-        (reply_bytes farmed.reply)) }
-    ensures nodes { IfOk result (λ farmed. length farmed.closed.items ≡ setup.now.nodes) }
+    ensures run { IfOk result (λ farmed. IsRunOnInput setup.now options.now given.now input.items
+        (reply_bytes farmed.reply) farmed.run) }
     ensures fault { IfErr result (IsRunFault input.items given.now options.now.sides) }
+    ensures memory { IfErr result (IsMemoryOnlyIf (HasShortText input.items)) }
 {
     let job = read_input_job(rt.alloc(), options.sides, given, input)?;
     compute_farm_result_of_job(rt, setup, options, job)

@@ -1,6 +1,7 @@
 //! From the bytes of an input to its job and its script.
 
 ghost use Rattle.std.specs.Prelude.{IfOk, IfErr};
+ghost use Rattle.command_inputs.specs.Faults.{HasShortTextInThree, IsMemoryOnlyIf};
 ghost use Rattle.world_commands.specs.WorldFaults.{IsWorldFault};
 ghost use Rattle.world_commands.specs.WorldInput.{IsReadWorld};
 
@@ -22,6 +23,7 @@ pub fn read_catalog_and_events_of_world_input(
     ensures of_input { IfOk result
         (λ read. IsReadWorld input.items given.now options.now.sides read.0 read.1.items) }
     ensures fault { IfErr result (IsWorldFault input.items given.now options.now.sides) }
+    ensures memory { IfErr result (IsMemoryOnlyIf (HasShortTextInThree input.items)) }
 {
     let (job, script) = read_input_job_and_middle_section(
         alloc,

@@ -1,5 +1,9 @@
 -- What the steps from an input to its job give, and their faults.
 use Rattle.std.specs.Prelude.{◌≡◌, ◌≢◌, ◌⊎◌, ℕ, ◌≤◌, List, length, drop, string_bytes}
+use Rattle.netpbm.specs.Faults.{IsFault as IsPictureFault}
+use Rattle.netpbm.specs.Grammar.{IsPicture}
+use Rattle.netpbm.specs.Image.{Image}
+use Rattle.netpbm.specs.declared.fault.PicFault.{PicFault}
 use Rattle.pipe_tree.specs.Faults.{IsText}
 use Rattle.pipe_tree.specs.Tree.{Declaration}
 use Rattle.pipe_checks.specs.declared.symbol.Symbol.{Symbol}
@@ -7,13 +11,13 @@ use Rattle.pipe_bounds.specs.declared.fault.ParamFault.{ParamFault}
 use Rattle.pipe_bounds.specs.declared.params.Setting.{Setting}
 use Rattle.binding.specs.declared.fault.BindFault.{BindFault}
 use Rattle.binding.specs.declared.fault.BindFault.TheVariants as binding
+use Rattle.command_faults.specs.StepFaults.{fault_at_picture}
 use Rattle.command_faults.specs.declared.faults.StreamFault.{StreamFault}
 use Rattle.command_faults.specs.declared.faults.StreamFault.TheVariants as faults
 use Rattle.command_inputs.specs.Faults.{IsCheckLine, blamed}
 use Rattle.command_inputs.specs.Giving.{Given, IsFirstRefused}
 use Rattle.command_inputs.specs.Sections.{IsParted}
 use Rattle.command_inputs.specs.Tables.{AreTableLines, BeginsWithLine, HasNextTable, HasTable, IsFirstLacking, LacksTable}
-use Rattle.pipe_checks.specs.Names.{tables_of}
 use Rattle.tables.specs.Lines.{IsTableLine}
 use Rattle.tables.specs.declared.table.Table.{Table}
 
@@ -39,16 +43,12 @@ pub record AreTablesBefore (section : List ℕ) (count : ℕ) (tables : List Tab
   pub lines : AreTableLines section tables (drop start section)
   pub within : start ≤ length section
 
--- The first section is a program of this tree, and the last one begins with a line for each of its tables. What follows them
--- starts at this place of the input.
-pub record IsHeadBefore (input : List ℕ) (tree : List Declaration) (tables : List Table) (start : ℕ) : Type 0 where
-  pub text : List ℕ
-  pub last : List ℕ
-  pub parted : IsParted input text last
-  pub program : IsText text tree
-  pub each : length tables ≡ length (tables_of tree)
-  pub lines : AreTableLines last tables (drop start input)
-  pub within : start ≤ length input
+-- the section is a line for each of `count` tables, and the spelling of a picture
+pub record IsLastSection (last : List ℕ) (count : ℕ) (tables : List Table) (source : Image) : Type 0 where
+  pub each : length tables ≡ count
+  pub spelling : List ℕ
+  pub lines : AreTableLines last tables spelling
+  pub picture : IsPicture spelling source
 
 -- ---- faults of the steps
 
@@ -62,6 +62,21 @@ abbrev pub IsTablesRefusal : List ℕ → ℕ → StreamFault → Type 0
 IsTablesRefusal section count fault =
     ((fault ≡ faults.Memory) × HasNextTable section count)
     ⊎ ((line : ℕ) × (fault ≡ faults.Tables line) × IsFirstLacking section count line)
+
+-- what follows the lines of `count` tables has this fault of a picture; memory is refused only for a picture
+pub record IsPictureRefusal (last : List ℕ) (count : ℕ) (fault : StreamFault) : Type 0 where
+  pub tables : List Table
+  pub each : length tables ≡ count
+  pub spelling : List ℕ
+  pub lines : AreTableLines last tables spelling
+  pub picture : PicFault
+  pub bad : IsPictureFault spelling picture
+  pub told : fault ≡ fault_at_picture picture
+
+-- the first fault of the lines of `count` tables and of the picture after them; memory is refused only for the line of the next
+-- table, or for a picture
+abbrev pub IsLastRefusal : List ℕ → ℕ → StreamFault → Type 0
+IsLastRefusal last count fault = IsTablesRefusal last count fault ⊎ IsPictureRefusal last count fault
 
 -- a rejected program
 abbrev pub IsRefusal : List Declaration → StreamFault → Type 0

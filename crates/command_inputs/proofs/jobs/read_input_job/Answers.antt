@@ -1,7 +1,9 @@
 use Rattle.std.proofs.lemmas.Result.{IfErr-weaker, IfOk-weaker, err_from_is_err_and}
 use Rattle.pipe_tree.specs.Content.{content}
 use Rattle.job.specs.Kept.{pipeline_in}
+use Rattle.command_inputs.specs.Faults.{HasShortText}
 use Rattle.command_inputs.proofs.Known.{job_fault, job_small}
+use Rattle.command_inputs.proofs.MemoryRefusals.{only_if, short_of_input}
 use Rattle.command_inputs.proofs.Listed.{both_then}
 use Rattle.command_inputs.proofs.jobs.read_input_job.Goals as goal
 
@@ -41,4 +43,17 @@ returns-clause-fault c =
     (λ f is. job_fault c.args.input.items c.args.given.now c.args.sides (content c.in_ok-tree.tree) c.in_ok-tree.tables.items
     c.in_ok-tree.picture f
     c.in_ok-tree.ensures.ok is)
+    c.check_and_bind_input_job.ensures.fault
+
+pub returns-in_err-tree-clause-memory : goal.returns-in_err-tree-clause-memory
+returns-in_err-tree-clause-memory c =
+    let p = err_from_is_err_and c.from_residual.result c.from_residual.ensures.1 in
+    rw (p.1, p.2) c.in_err-tree.ensures.memory
+
+pub returns-clause-memory : goal.returns-clause-memory
+returns-clause-memory c =
+    let short =
+    short_of_input c.args.input.items (content c.in_ok-tree.tree) c.in_ok-tree.tables.items c.in_ok-tree.picture c.in_ok-tree.ensures.ok in
+    IfErr-weaker c.check_and_bind_input_job.result _ _
+    (λ f is. only_if (HasShortText c.args.input.items) short f)
     c.check_and_bind_input_job.ensures.fault
