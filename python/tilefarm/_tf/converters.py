@@ -5,12 +5,10 @@ more than a word can say is refused: several pages, samples that are no whole nu
 """
 import os
 import re
-import shutil
-import subprocess
-from dataclasses import dataclass, field
 from typing import NamedTuple
 
 from . import leaving, metadata
+from .joining import has_vips
 from .netpbm import MOST_SIDE, Picture, picture_of
 from .text import Refused, TooLarge
 from .writing import Writing
@@ -21,7 +19,7 @@ MOST = {"uchar": 255, "ushort": 65535}
 GREYS, COLOURS = ("b-w", "grey16"), ("srgb", "rgb16", "rgb")
 ONLY_BYTES = (".jpg", ".jpeg", ".gif", ".bmp", ".webp")
 # warnings that come where a part of a picture could not be read: vips may yet end with status 0 then
-NOT_WHOLE = re.compile(r"error in tile|premature|truncat|unexpected end", re.I)
+NOT_WHOLE = "(?i)error in tile|premature|truncat|unexpected end"
 # as many bytes of a JPEG have its sides, unless it says very much before them
 JPEG_BYTES = 1 << 20
 NO_ORIENTATION = ("1", "0", "")
@@ -48,17 +46,16 @@ class Head(NamedTuple):
     orientation: str
 
 
-@dataclass
 class Vips:
     """One file, in a folder of its own: vips takes brackets and other marks in a name for words to itself."""
 
-    name: str
-    room: str
-    said: list[str] = field(default_factory=list)
-    seconds: int | None = SECONDS
+    def __init__(self, name: str, room: str, said: list[str] | None = None, seconds: int | None = SECONDS):
+        self.name, self.room, self.said, self.seconds = name, room, [] if said is None else said, seconds
 
     def run(self, *words: str, **environment: str) -> str:
         """What a program of libvips writes; its warnings are passed on, and where it fails, why is told."""
+        import subprocess
+
         env = {**os.environ, **environment}
         try:
             ran = leaving.run([*words], timeout=self.seconds, cwd=self.room, env=env, stdin=subprocess.DEVNULL, stdout=subprocess.PIPE,
@@ -69,7 +66,7 @@ class Vips:
         except (OSError, subprocess.TimeoutExpired) as error:
             raise Refused(f"{self.name}: {error}") from error
         told = [it for it in map(message, ran.stderr.decode("utf-8", "replace").splitlines()) if it]
-        if ran.returncode or any(map(NOT_WHOLE.search, told)):
+        if ran.returncode or any(re.search(NOT_WHOLE, it) for it in told):
             raise Refused(f"{self.name}: {words[0]} cannot do this: {'; '.join(dict.fromkeys(told)) or f'status {ran.returncode}'}")
         self.said += [f"{self.name}: vips warns: {it}" for it in dict.fromkeys(told)]
         return ran.stdout.decode("utf-8", "replace")
@@ -99,7 +96,7 @@ def message(line: str) -> str:
 
 
 def is_there() -> bool:
-    return bool(shutil.which("vips"))
+    return has_vips()
 
 
 def place(given: bytes, path: str, room: str) -> None:

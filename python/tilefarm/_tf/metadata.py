@@ -10,7 +10,7 @@ PNG, JPEG, EXIF, ICC = b"\x89PNG\r\n\x1a\n", b"\xff\xd8", b"Exif\0\0", b"ICC_PRO
 # what stands before XMP in a JPEG and in a PNG, and before the blocks of which one has IPTC
 XMP, XMP_TEXT, BLOCKS = b"http://ns.adobe.com/xap/1.0/\0", b"XML:com.adobe.xmp\0", b"Photoshop 3.0\0"
 BLOCK, IPTC_BLOCK = b"8BIM", 0x0404
-ORIENTATION_IN_XMP = re.compile(rb"""(tiff:Orientation(?:\s*=\s*["']|>)\s*)[1-8]""")
+ORIENTATION_IN_XMP = rb"""(tiff:Orientation(?:\s*=\s*["']|>)\s*)[1-8]"""
 # markers of JPEG: the application segments, the start of the scan, and the starts of frames, which have the sides and the sampling
 JFIF_SEGMENT, EXIF_SEGMENT, ICC_SEGMENT, BLOCKS_SEGMENT, SCAN = 0xE0, 0xE1, 0xE2, 0xED, 0xDA
 FRAMES = (0xC0, 0xC1, 0xC2)
@@ -305,7 +305,7 @@ def for_result(exif: bytes, rows: int, cols: int) -> bytes:
 
 def upright(xmp: bytes) -> bytes:
     """XMP for a picture that stands upright."""
-    return ORIENTATION_IN_XMP.sub(rb"\g<1>1", xmp)
+    return re.sub(ORIENTATION_IN_XMP, rb"\g<1>1", xmp) if xmp else xmp
 
 
 def set_number(made: bytearray, found: Directory, tag: int, value: int) -> None:
