@@ -11,7 +11,18 @@ sys.path.insert(0, f"{TOP}/python/tilefarm")
 PROGRAM = os.path.abspath(sys.argv[1] if len(sys.argv) > 1 else f"{TOP}/crates/tilefarm/out/tilefarm")
 GREY = "P2\n4 4\n255\n" + "".join(f"{4 * row + 1} {4 * row + 2} {4 * row + 3} {4 * row + 4}\n" for row in range(4))
 COPY = "param R; param C;\nimage I(R, C);\nfunc f(x in [0 .. R-1], y in [0 .. C-1]) { else : I(x, y); }\noutput f max 255;\n"
+TOOLS = ("djpeg", "cjpeg")
 wants_vips = unittest.skipUnless(shutil.which("vips") and shutil.which("vipsheader"), "vips lacks: install libvips-tools (libvips 8.12 or later)")
+
+
+def has_jpeg_tools() -> bool:
+    """Whether djpeg and cjpeg of libjpeg-turbo are installed."""
+    if not all(map(shutil.which, TOOLS)):
+        return False
+    return b"libjpeg-turbo" in subprocess.run(["cjpeg", "-version"], stdin=subprocess.DEVNULL, capture_output=True).stderr
+
+
+wants_jpeg_tools = unittest.skipUnless(has_jpeg_tools(), "djpeg and cjpeg of libjpeg-turbo lack: install libjpeg-turbo-progs")
 
 
 def write(path: str, data: bytes) -> None:
