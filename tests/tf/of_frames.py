@@ -10,7 +10,7 @@ import time
 import unittest
 from typing import Callable
 
-from .shared import COPY, PROGRAM, TOP, InRoom
+from .shared import COPY, PROGRAM, TOP, InRoom, most_at_a_time
 
 from _tf import frame_files, frames, png
 from _tf.netpbm import Picture
@@ -142,34 +142,6 @@ class Frames(InRoom):
             self.assertEqual(len(ran.stdout.read()), every * len(frame))
             feeding.join()
 
-    def stub(self, script: str) -> None:
-        """A program in the place of tilefarm."""
-        self.write("stub", f"#!/bin/sh\n{script}\n".encode())
-        os.chmod(f"{self.room}/stub", 0o755)
-
-    def noting(self, more: str = "") -> dict[str, str]:
-        """A program that notes when it begins with a frame and when it has ended, by the frame's first sample, and then is the program. Before
-        that it does more."""
-        self.write("noting", f"""#!/bin/sh
-cat > {self.room}/given.$$
-first=$(tail -c 3 {self.room}/given.$$ | od -An -tu1 | cut -c2-4 | tr -d ' ')
-echo begins $first >> {self.room}/noted
-{more}
-{PROGRAM} "$@" < {self.room}/given.$$
-status=$?
-echo ends $first >> {self.room}/noted
-rm {self.room}/given.$$
-exit $status
-""".encode())
-        os.chmod(f"{self.room}/noting", 0o755)
-        self.write("noted", b"")
-        return {"TILEFARM": f"{self.room}/noting"}
-
-    def noted(self) -> list[tuple[str, int]]:
-        found = [line.split() for line in self.content("noted").decode().splitlines()]
-        self.write("noted", b"")
-        return [(what, int(first)) for what, first in found]
-
     def test_results_are_in_order_where_the_first_frame_is_slow(self):
         env = self.noting('[ "$first" != 0 ] || until grep -q "ends 2" noted; do sleep 0.01; done')
         self.assertEqual(self.tf("frames p.pipe - --jobs 3", b"".join(self.frames), **env), (0, b"".join(self.results), ""))
@@ -182,11 +154,7 @@ exit $status
         env = self.noting("sleep 0.02")
         for words, jobs in (("", 1), ("--jobs 3", 3)):
             self.assertEqual(self.tf(f"frames p.pipe - {words}", b"".join(self.frames), **env), (0, b"".join(self.results), ""))
-            now = most = 0
-            for what, _ in self.noted():
-                now += 1 if what == "begins" else -1
-                most = max(most, now)
-            self.assertEqual((now, most), (0, jobs))
+            self.assertEqual(most_at_a_time(self.noted()), jobs)
 
     def test_nothing_of_a_frame_is_left_for_the_next(self):
         """Long results are followed by short ones, by none, and by the line of a fault."""

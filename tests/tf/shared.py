@@ -68,3 +68,39 @@ class InRoom(unittest.TestCase):
         self.assertEqual((ended, written), (status, b""), told)
         self.assertIn(said, told)
         self.assertEqual(sorted(os.listdir(self.room)), names)
+
+    def stub(self, script: str) -> None:
+        """A program in the place of tilefarm."""
+        self.write("stub", f"#!/bin/sh\n{script}\n".encode())
+        os.chmod(f"{self.room}/stub", 0o755)
+
+    def noting(self, more: str = "") -> dict[str, str]:
+        """A program that notes when it begins with a frame and when it has ended, by the frame's first sample, and then is the program. Before
+        that it does more."""
+        self.write("noting", f"""#!/bin/sh
+cat > {self.room}/given.$$
+first=$(tail -c 3 {self.room}/given.$$ | od -An -tu1 | cut -c2-4 | tr -d ' ')
+echo begins $first >> {self.room}/noted
+{more}
+{PROGRAM} "$@" < {self.room}/given.$$
+status=$?
+echo ends $first >> {self.room}/noted
+rm {self.room}/given.$$
+exit $status
+""".encode())
+        os.chmod(f"{self.room}/noting", 0o755)
+        self.write("noted", b"")
+        return {"TILEFARM": f"{self.room}/noting"}
+
+    def noted(self) -> list[tuple[str, int]]:
+        found = [line.split() for line in self.content("noted").decode().splitlines()]
+        self.write("noted", b"")
+        return [(what, int(first)) for what, first in found]
+
+
+def most_at_a_time(noted: list[tuple[str, int]]) -> int:
+    """How many programs ran at a time, at most. All of them have ended."""
+    now = [0]
+    for what, _ in noted:
+        now.append(now[-1] + (1 if what == "begins" else -1))
+    return max(now) if now[-1] == 0 else -1

@@ -84,7 +84,12 @@ class Vips:
 def head_of_jpeg(path: str) -> Head | None:
     """What vipsheader tells of an ordinary JPEG, read here: that takes less time than to start it."""
     with open(path, "rb") as file:
-        sides = metadata.sides_of_jpeg(file.read(JPEG_BYTES))
+        return head_in_jpeg(file.read(JPEG_BYTES))
+
+
+def head_in_jpeg(data: bytes) -> Head | None:
+    """The same of a file's bytes, or of the first of them."""
+    sides = metadata.sides_of_jpeg(data)
     if sides is None or sides.planes not in (1, 3) or sides.depth != 8:
         return None
     return Head(sides.cols, sides.rows, sides.planes, "uchar", "b-w" if sides.planes == 1 else "srgb", 1, sides.orientation)

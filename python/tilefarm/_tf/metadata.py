@@ -148,6 +148,12 @@ def of_jfif(unit: int, across: int, down: int) -> tuple[float, float] | None:
 
 def with_jpeg(data: bytes, it: Metadata) -> bytes:
     """A JPEG that says this, and nothing else of the same kind."""
+    beginning, start = beginning_of_jpeg(data, it)
+    return beginning + data[start:]
+
+
+def beginning_of_jpeg(data: bytes, it: Metadata) -> tuple[bytes, int]:
+    """What stands before the scan of that JPEG, and where the scan begins in the given one."""
     down, across = it.resolution or (1, 1)
     jfif = b"JFIF\0\1\1" + struct.pack(">BHHBB", bool(it.resolution), round(across), round(down), 0, 0)
     exif = [(EXIF_SEGMENT, EXIF + it.exif)] if it.exif and len(it.exif) < MOST_EXIF else []
@@ -159,7 +165,7 @@ def with_jpeg(data: bytes, it: Metadata) -> bytes:
     others = [(marker, body) for marker, body in segments(data) if marker not in (JFIF_SEGMENT, EXIF_SEGMENT, ICC_SEGMENT)]
     start = len(JPEG) + sum(4 + len(body) for _, body in segments(data))
     every = [(JFIF_SEGMENT, jfif), *exif, *texts, *profile, *others]
-    return JPEG + b"".join(struct.pack(">BBH", 0xFF, marker, len(body) + 2) + body for marker, body in every) + data[start:]
+    return JPEG + b"".join(struct.pack(">BBH", 0xFF, marker, len(body) + 2) + body for marker, body in every), start
 
 
 # PNG

@@ -11,7 +11,6 @@ import threading
 from typing import TYPE_CHECKING, BinaryIO, Callable, Iterable, Iterator, NamedTuple
 
 from . import converters, cutting, jpeg_tools, leaving, ranges
-from .call import Call
 from .joining import SEPARATOR, ended
 from .netpbm import HEAD, MOST_SIDE, Header, Picture, header_of
 from .output import ending, put_all, tell
@@ -76,10 +75,12 @@ def is_done(asked: Asked, all_words: list[str]) -> bool:
         return False
     head = made.counted.head
     if made.counted.share() > cutting.MOST_SHARE:
+        from .call import Call
+
         Call(all_words).judge_counted(head)
     for it in said:
         tell(f"{target}: {it}")
-    put_all(target, [how.fitting(Picture(head.cols, head.rows, head.parts, GREATEST, b""))[0].finished(made.data)])
+    put_all(target, how.fitting(Picture(head.cols, head.rows, head.parts, GREATEST, b""))[0].finished_blocks(made.data))
     return True
 
 
@@ -105,7 +106,8 @@ def is_asked_alone(asked: Asked) -> bool:
 
 def job_of(asked: Asked) -> Job | None:
     """The job, where picture and result have samples of a byte, as many planes as the program names, and sides for one run."""
-    text, head = ended(content(asked.files[0])), converters.head_of_jpeg(asked.files[1])
+    text, given = ended(content(asked.files[0])), content(asked.files[1])
+    head = converters.head_in_jpeg(given)
     found = known_program(text) if b"\n" + SEPARATOR not in b"\n" + text else None
     if found is None or head is None or head.orientation not in converters.NO_ORIENTATION or max(head.cols, head.rows) > MOST_SIDE:
         return None
@@ -122,7 +124,7 @@ def job_of(asked: Asked) -> Job | None:
     result = Header(True, len(items["output"].names), cols, rows, GREATEST, 0)
     can_be_cut = not rows * cols or ranges.can_be_above(text, settings(whole, values, sides), sides)
     words = [*asked.words, *(f"{name}={value}" for name, value in more.items())]
-    return Job(text, words, asked.files[1], content(asked.files[1]), head.bands, result, can_be_cut)
+    return Job(text, words, asked.files[1], given, head.bands, result, can_be_cut)
 
 
 # by djpeg and cjpeg
