@@ -28,16 +28,22 @@ def head_if_cut(written: bytes) -> Header | None:
 
 def has_many_greatest(written: bytes, head: Header) -> bool:
     """Whether the share of a result's samples that are the greatest, of which no more can be cut, is more than is told. Of samples of two bytes it may
-    be less than what is counted here. Pieces without any are passed over, and what stands behind enough of them is not looked at."""
+    be less than what is counted here."""
     sample = head.most.to_bytes(1 if head.most < 256 else 2, "big")
-    least, end, found = MOST_SHARE * head.length() / len(sample), head.end + head.length(), 0
-    for at in range(head.end, end, PIECE):
-        first = written.find(sample, at, min(at + PIECE, end))
+    least = MOST_SHARE * head.length() / len(sample)
+    return count_of(sample, written, head.end, head.end + head.length(), least) > least
+
+
+def count_of(sample: bytes, data: bytes | bytearray, start: int, end: int, least: float) -> int:
+    """How often a sample stands there. Pieces without any are passed over, and what stands behind more than the least is not looked at."""
+    found = 0
+    for at in range(start, end, PIECE):
+        first = data.find(sample, at, min(at + PIECE, end))
         if first >= 0:
-            found += written.count(sample, first, min(at + PIECE, end))
+            found += data.count(sample, first, min(at + PIECE, end))
             if found > least:
-                return True
-    return False
+                break
+    return found
 
 
 def share_cut(head: Header, given: Input, program: Program, words: list[str]) -> float:

@@ -18,11 +18,14 @@ class Run:
 
     def __init__(self, words: list[str], parts: Iterable[bytes]):
         self.words, self.child, self.began = words, None, 0.0
-        self.files: tuple[int, int] | None = spare.pop() if spare else (os.memfd_create("tf"), os.memfd_create("tf"))
-        end = 0
-        for part in parts:
-            end = put_at(self.files[0], part, end)
-        os.ftruncate(self.files[0], end)
+        try:
+            self.files: tuple[int, int] | None = spare.pop() if spare else (os.memfd_create("tf"), os.memfd_create("tf"))
+            end = 0
+            for part in parts:
+                end = put_at(self.files[0], part, end)
+            os.ftruncate(self.files[0], end)
+        except OSError as error:
+            raise Refused(f"the input does not go into memory: {error.strerror}", 4) from error
 
     def begin(self) -> None:
         """Starts it, where it has not been started."""

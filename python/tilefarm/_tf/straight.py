@@ -46,7 +46,7 @@ class Job(NamedTuple):
 
 
 class Counted(NamedTuple):
-    """The head of a result, and how many of its samples are the greatest."""
+    """The head of a result, and how many of its samples are the greatest, or so many that this is told."""
 
     head: Header
     greatest: int
@@ -245,12 +245,13 @@ def passed_on(source: BinaryIO, sink: BinaryIO) -> Counted | None:
         start += more
     if head is None or head.most != GREATEST:
         return None
-    room, count, greatest = bytearray(PIECE), len(start), start.count(GREATEST, head.end)
+    least, sample = cutting.MOST_SHARE * head.length(), bytes([GREATEST])
+    room, count, greatest = bytearray(PIECE), len(start), cutting.count_of(sample, start, head.end, len(start), least)
     view = memoryview(room)
     with contextlib.suppress(OSError), sink:
         give(sink, start)
         while length := source.readinto(room):
-            count, greatest = count + length, greatest + room.count(GREATEST, 0, length)
+            count, greatest = count + length, greatest + cutting.count_of(sample, room, 0, length, least - greatest)
             give(sink, view[:length])
     return Counted(head, greatest) if count == head.end + head.length() else None
 
