@@ -150,6 +150,14 @@ class Frames(InRoom):
         self.assertEqual(self.tf("frames p.pipe in -o out --jobs 3", **env), (0, b"", ""))
         self.assertEqual(self.contents("out", [f"f{at}.pgm" for at in range(3, 15)]), self.results)
 
+    def test_further_frames_are_begun_while_the_first_is_slow(self):
+        """As many as wait: two for each job."""
+        env = self.noting('[ "$first" != 0 ] || until grep -q "ends 3" noted; do sleep 0.01; done')
+        self.assertEqual(self.tf("frames p.pipe - --jobs 2", b"".join(self.frames), **env), (0, b"".join(self.results), ""))
+        noted = self.noted()
+        self.assertLess(noted.index(("ends", 3)), noted.index(("ends", 0)))
+        self.assertEqual(most_at_a_time(noted), 2)
+
     def test_as_many_frames_are_done_at_a_time_as_jobs_says(self):
         env = self.noting("sleep 0.02")
         for words, jobs in (("", 1), ("--jobs 3", 3)):

@@ -5,8 +5,7 @@ import sys
 from collections import deque
 from contextlib import contextmanager
 from functools import cached_property
-from itertools import islice
-from typing import TYPE_CHECKING, Callable, Iterator, NamedTuple
+from typing import TYPE_CHECKING, Callable, Iterable, Iterator, NamedTuple
 
 from . import cutting, memory_runs
 from .call import CUT, picture_in, wanted, without_a_line
@@ -284,13 +283,22 @@ class Taken:
         except (Refused, Failed) as error:
             self.fault = error
 
-    def begin(self) -> None:
-        """Starts it, where it has not been started."""
-        if not self.fault:
-            self.well(self.prepared.run.begin)
+    def waits(self) -> bool:
+        """Whether its program has not been started yet."""
+        return not self.fault and self.prepared.run.child is None
 
-    def wait(self) -> None:
-        """Waits for the end of its program."""
+    def is_running(self) -> bool:
+        return not self.fault and self.prepared.run.is_running()
+
+    def begin(self) -> None:
+        """Starts its program."""
+        self.well(self.prepared.run.begin)
+
+    def wait(self, others: deque["Taken"], jobs: int) -> None:
+        """Waits for the end of its program. Where others end before it, further ones are begun."""
+        while jobs > 1 and self.is_running() and any(it.waits() for it in others):
+            memory_runs.wait_for_one([self.prepared.run, *(it.prepared.run for it in others if type(it) is Taken and it.is_running())])
+            begin((self, *others), jobs)
         if not self.fault:
             self.well(self.prepared.run.wait)
 
@@ -312,14 +320,16 @@ class InThread(Taken):
     """A frame that is done by a thread, from its file to the bytes of its result."""
 
     def __init__(self, film: Frames, frame: Frame):
-        self.film, self.frame, self.future = film, frame, None
+        self.future = film.pool.submit(lambda: Taken(film, frame).result())
 
-    def begin(self) -> None:
-        if self.future is None:
-            self.future = self.film.pool.submit(lambda: Taken(self.film, self.frame).result())
+    def waits(self) -> bool:
+        return False
 
-    def wait(self) -> None:
-        self.begin()
+    def is_running(self) -> bool:
+        return not self.future.done()
+
+    def wait(self, others: deque[Taken], jobs: int) -> None:
+        """Its result is waited for."""
 
     def result(self) -> Done:
         return self.future.result()
@@ -328,16 +338,17 @@ class InThread(Taken):
         """What it has begun ends with the pool."""
 
 
-def begin(waiting: deque[Taken], jobs: int) -> None:
-    """Starts as many frames as are to be done at a time."""
-    for it in islice(waiting, jobs):
+def begin(waiting: Iterable[Taken], jobs: int) -> None:
+    """Starts the next frames, so that as many are done at a time as may be."""
+    free = jobs - sum(it.is_running() for it in waiting)
+    for it in [it for it in waiting if it.waits()][: max(free, 0)]:
         it.begin()
 
 
 def first_done(waiting: deque[Taken], jobs: int) -> Done:
     """The result of the first frame. The next one is begun before that is looked at."""
     first = waiting.popleft()
-    first.wait()
+    first.wait(waiting, jobs)
     begin(waiting, jobs)
     return first.result()
 

@@ -177,11 +177,18 @@ class Child:
 
     def wait(self) -> int:
         """Waits for its end, and answers its status, which is below 0 where a signal ended it."""
-        if self.status is None:
-            _, status = os.waitpid(self.pid, 0)
-            self.status = os.waitstatus_to_exitcode(status)
-            mine.children.discard(self.pid)
+        while not self.has_ended(0):
+            pass
         return self.status
+
+    def has_ended(self, how: int = os.WNOHANG) -> bool:
+        """Whether it has ended."""
+        if self.status is None:
+            child, status = os.waitpid(self.pid, how)
+            if child:
+                self.status = os.waitstatus_to_exitcode(status)
+                mine.children.discard(self.pid)
+        return self.status is not None
 
     def kill(self) -> None:
         """Ends it, where nobody has waited for it."""

@@ -39,6 +39,10 @@ class Run:
         except OSError as error:
             raise Refused(f"{program()} does not start: {error.strerror}", 4) from error
 
+    def is_running(self) -> bool:
+        """Whether it has been started and goes on."""
+        return self.child is not None and not self.child.has_ended()
+
     def wait(self) -> int:
         """Waits for its end, and answers its status."""
         self.begin()
@@ -64,6 +68,23 @@ class Run:
                     os.ftruncate(handle, 0)
             spare.append(self.files)
             self.files = None
+
+
+def wait_for_one(runs: list[Run]) -> None:
+    """Waits until one of these runs has ended, which go on; until the first has, where the system cannot tell of several."""
+    import select
+
+    poll, handles = select.poll(), []
+    try:
+        for it in runs:
+            handles.append(os.pidfd_open(it.child.pid))
+            poll.register(handles[-1], select.POLLIN)
+        poll.poll()
+    except (OSError, AttributeError):
+        runs[0].child.wait()
+    finally:
+        for it in handles:
+            os.close(it)
 
 
 def put_at(handle: int, data: bytes, at: int) -> int:
