@@ -3,7 +3,6 @@ import os
 import pty
 import subprocess
 import sys
-import tempfile
 from unittest import mock
 
 from .shared import COPY, GREY, PROGRAM, TOP, InRoom, most_at_a_time
@@ -81,9 +80,11 @@ class ManyPictures(InRoom):
         for name in ("in0.pgm", "in1.pgm", "p.pgm"):
             self.write(f"{name.removesuffix('.pgm')}.ppm", self.content(name))
         line = "eval p.pipe in0.ppm in1.ppm p.ppm -o out/{name}.pgm --jobs 2"
-        ran = subprocess.run([sys.executable, "-S", "-c", OPENED, f"{TOP}/python/tilefarm", *line.split()], cwd=self.room, env={**os.environ, "TILEFARM": PROGRAM},
-                             capture_output=True, text=True, check=True)
-        opened = {it.partition("/.")[0] for it in ran.stdout.splitlines() if it.startswith(tempfile.gettempdir())}
+        os.mkdir(f"{self.room}/tmp")
+        env = {**os.environ, "TILEFARM": PROGRAM, "TMPDIR": f"{self.room}/tmp"}
+        ran = subprocess.run([sys.executable, "-S", "-c", OPENED, f"{TOP}/python/tilefarm", *line.split()], cwd=self.room, env=env, capture_output=True, text=True,
+                             check=True)
+        opened = {it.partition("/.")[0] for it in ran.stdout.splitlines() if it.startswith(self.room)}
         self.assertEqual(opened, {f"{self.room}/{it}" for it in ("p.pipe", "in0.ppm", "in1.ppm", "p.ppm", "out")})
 
     def test_what_failed_is_told_and_the_others_are_done(self):
