@@ -131,6 +131,20 @@ class Straight(InRoom):
         status, _, told = self.tf("eval c.pipe in.jpg -o out.jpg")
         self.assertEqual((status, told), (2, "tf: in.jpg: vips cannot do this: status 3\n"))
 
+    def test_a_jpeg_that_is_cut_off_is_refused_whatever_vips_says(self):
+        """(Whether vips sees it is a matter of time.) What stands behind the end is no matter."""
+        whole = self.content("in.jpg")
+        self.stub("vips", "printf 'P6 24 16 255 ' > \"$3\"; head -c 1152 /dev/zero >> \"$3\"")
+        self.hide_tools()
+        for data in (whole[:-1], whole[:-2], whole[: -len(whole) // 3], whole[:200] + whole[-90:-2]):
+            self.write("cut.jpg", data)
+            for target in ("out.jpg", "out.pgm"):
+                status, _, told = self.tf(f"eval c.pipe cut.jpg -o {target}")
+                self.assertEqual((status, os.path.exists(f"{self.room}/{target}")), (2, False), told)
+                self.assertIn("cut.jpg: ", told)
+        self.write("more.jpg", whole + b"more" * 99)
+        self.assertEqual(self.tf("eval c.pipe more.jpg -o out.ppm"), (0, b"", ""))
+
     def test_a_program_that_does_not_start_is_told_by_the_usual_way(self):
         self.write("none", b"no program")
         os.chmod(f"{self.room}/none", 0o755)

@@ -28,8 +28,10 @@ NO_ORIENTATION = ("1", "0", "")
 HARDENED = {"VIPS_BLOCK_UNTRUSTED": "1"}
 # vips looks for its modules, which read and write further formats, below a folder of this name. To load them takes as long as all else of its start.
 WITHOUT_MODULES = {"VIPSHOME": "/nonexistent"}
+# how a JPEG begins
+JPEG_START = b"\xff\xd8\xff"
 # how files begin that vips reads without modules (JPEG, PNG, TIFF, GIF and WebP), and the endings of those that it writes without
-BUILT_IN, BUILT_IN_ENDINGS = (b"\xff\xd8\xff", b"\x89PNG\r\n\x1a\n", b"II*\0", b"MM\0*", b"GIF8", b"RIFF"), (".jpg", ".jpeg", ".tif", ".tiff", ".webp")
+BUILT_IN, BUILT_IN_ENDINGS = (JPEG_START, b"\x89PNG\r\n\x1a\n", b"II*\0", b"MM\0*", b"GIF8", b"RIFF"), (".jpg", ".jpeg", ".tif", ".tiff", ".webp")
 LOADERS = ((b"BM", "magickload"), (b"P7", "magickload"), (b"\0\0\0\x0cjP", "jp2kload"), (b"\xff\x4f\xff\x51", "jp2kload"), (b"\xff\x0a", "jxlload"),
            (b"\0\0\0\x0cJXL", "jxlload"), (b"v/1\x01", "openexrload"), (b"#?", "radload"))
 
@@ -143,7 +145,17 @@ def unpacked(file: Vips, page: int | None, most_side: int | None) -> str:
         made, allowed = f"made{number}.v", WITHOUT_MODULES
     raw = "raw.pgm" if head.meaning in GREYS else "raw.ppm"
     file.run("vips", "copy", made, raw, **allowed)
+    refuse_cut(file, start)
     return f"{file.room}/{raw}"
+
+
+def refuse_cut(file: Vips, start: bytes) -> None:
+    """Refuses a JPEG that is cut off where vips took it: whether it sees that is a matter of time, as its threads run."""
+    if not start.startswith(JPEG_START):
+        return
+    with open(f"{file.room}/given", "rb") as given:
+        if metadata.is_cut_jpeg(given.read()):
+            raise Refused(f"{file.name}: vips cannot do this: premature end of the JPEG")
 
 
 def start_of(file: Vips) -> bytes:

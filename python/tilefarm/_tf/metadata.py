@@ -14,6 +14,7 @@ ORIENTATION_IN_XMP = rb"""(tiff:Orientation(?:\s*=\s*["']|>)\s*)[1-8]"""
 # markers of JPEG: the application segments, the start of the scan, and the starts of frames, which have the sides and the sampling
 JFIF_SEGMENT, EXIF_SEGMENT, ICC_SEGMENT, BLOCKS_SEGMENT, SCAN = 0xE0, 0xE1, 0xE2, 0xED, 0xDA
 FRAMES = (0xC0, 0xC1, 0xC2)
+END = b"\xff\xd9"
 # the most bytes of a profile in one segment, of EXIF, and of XMP and IPTC
 PROFILE_PART, MOST_EXIF, MOST_TEXT = 65519, 65520, 65400
 # the bits of a WebP's first chunk that say that it has EXIF, and XMP
@@ -140,6 +141,13 @@ def sides_of_jpeg(data: bytes) -> JpegSides | None:
     except (struct.error, IndexError):
         pass
     return None
+
+
+def is_cut_jpeg(data: bytes) -> bool:
+    """Whether a JPEG that has a frame ends before its end, whose mark stands nowhere else behind the start of the scan."""
+    if data.endswith(END) or sides_of_jpeg(data) is None:
+        return False
+    return data.find(END, len(JPEG) + sum(4 + len(body) for _, body in segments(data))) < 0
 
 
 def of_jfif(unit: int, across: int, down: int) -> tuple[float, float] | None:

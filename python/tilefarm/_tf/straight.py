@@ -10,7 +10,7 @@ import os
 import threading
 from typing import TYPE_CHECKING, BinaryIO, Callable, Iterable, Iterator, NamedTuple
 
-from . import converters, cutting, jpeg_tools, leaving, ranges
+from . import converters, cutting, jpeg_tools, leaving, metadata, ranges
 from .joining import SEPARATOR, ended
 from .netpbm import HEAD, MOST_SIDE, Header, Picture, header_of
 from .output import ending, put_all, tell
@@ -109,7 +109,7 @@ def job_of(asked: Asked) -> Job | None:
     text, given = ended(content(asked.files[0])), content(asked.files[1])
     head = converters.head_in_jpeg(given)
     found = known_program(text) if b"\n" + SEPARATOR not in b"\n" + text else None
-    if found is None or head is None or head.orientation not in converters.NO_ORIENTATION or max(head.cols, head.rows) > MOST_SIDE:
+    if found is None or head is None or metadata.is_cut_jpeg(given) or head.orientation not in converters.NO_ORIENTATION or max(head.cols, head.rows) > MOST_SIDE:
         return None
     values, sides = given_values(asked.words), Header(True, head.bands, head.cols, head.rows, GREATEST, 0)
     text = with_greatest(text, found, values, sides)
