@@ -36,13 +36,15 @@ $(eval $(if $(NAME),$(NAME):;@:))
 endif
 
 # The proved program, over kept work, as fast as the machine allows, without any mutant or test; and one for processors with
-# AVX2, where this machine's has that.
+# AVX2, where this machine's has that. The modules of tf are compiled too, which Python may be told not to do at each start.
 build:
 	@tests/build
+	@python3 -m compileall -q python/tilefarm/_tf
 
-# The program without its proofs, in some three minutes: out/quick/tilefarm.
+# The program without its proofs, in some three minutes: out/quick/tilefarm. The modules of tf are compiled too.
 quick:
 	@tests/quick
+	@python3 -m compileall -q python/tilefarm/_tf
 
 # The program that was built, tf, man pages and completions, below a folder: make install PREFIX=/usr/local. It then works without this
 # repository.

@@ -2,6 +2,7 @@
 import os
 import random
 import resource
+import shutil
 import signal
 import subprocess
 import sys
@@ -17,7 +18,10 @@ WATCHED = (signal.SIGINT, signal.SIGTERM, signal.SIGHUP)
 LINES = ("eval p.pipe p.pgm -o made.pgm", "eval p.pipe p.pgm -o made.png", "eval p.pipe p.pgm --parts 40 --jobs 3 -o made.pgm", "eval p.pipe p.pgm --stages made",
          "eval p.pipe p.pgm --memory -o made.pgm", "report p.pipe p.pgm -o made.html", "tune p.pipe p.pgm -o made.txt",
          "eval p.pipe p.pgm --engine list --parts 40 -o made", "facts p.pipe p.pgm -o made.facts", "run p.pipe p.pgm --turns 65536 -o made.pgm",
-         "eval p.pipe p.pgm p2.pgm p3.pgm --jobs 2 -o made-{name}.pgm")
+         "eval p.pipe p.pgm p2.pgm p3.pgm --jobs 2 -o made-{name}.pgm", "frames p.pipe p%d.pgm -o made-%d.pgm", "frames p.pipe p%d.pgm --jobs 2 -o made-%d.png",
+         "eval c.pipe p.jpg -o made.jpg")
+# a program for a JPEG, from which djpeg and cjpeg make one where they are
+OF_JPEG = "param R; param C;\nimage I(R, C);\nfunc f(x in [0 .. R-1], y in [0 .. C-1]) { else : I(x, y); }\noutput f max 255;\n"
 # some seconds of one processor at least
 SLOW = ("image I(2, 3);\nfunc f(x in [0 .. 16000], y in [0 .. 16000]) { else : " + " + ".join(["x * y % 7"] * 600)
         + "; }\naccum a [0 .. 0] over (x in [0 .. 16000], y in [0 .. 16000]) sum f(x, y) at 0;\n")
@@ -85,7 +89,9 @@ class Signals(InRoom):
     def setUp(self):
         super().setUp()
         picture = b"P5\n128 128\n16\n" + bytes(range(16)) * 1024
-        self.files = {**FILES, "p.pgm": picture, "p2.pgm": picture, "p3.pgm": picture}
+        self.files = {**FILES, "p.pgm": picture, "p2.pgm": picture, "p3.pgm": picture, "c.pipe": OF_JPEG.encode(), "p.jpg": b""}
+        if shutil.which("cjpeg"):
+            self.files["p.jpg"] = subprocess.run(["cjpeg"], input=picture, capture_output=True, check=True).stdout
         for name, data in self.files.items():
             self.write(name, data)
         os.mkdir(f"{self.room}/tmp")
@@ -123,7 +129,7 @@ class Signals(InRoom):
             os.kill(process, number)
             status = self.ended(process)
             with self.subTest(line, number=number):
-                self.assertIn(status, (0, 128 + number))
+                self.assertIn(status, (0, 128 + number) if self.files["p.jpg"] or "jpg" not in line else (2, 128 + number))
                 self.assertEqual(left_of_session(process), [])
                 self.assertEqual(self.left(), [])
                 self.assertEqual([it for it, data in self.files.items() if self.content(it) != data], [])

@@ -1,9 +1,12 @@
 """Tests of what tf takes from a picture for the program: the greatest sample, values made of sides, and how much of the result is cut."""
 import os
+import random
 import subprocess
+import unittest
 
 from .shared import COPY, PROGRAM, InRoom
 
+from _tf import cutting
 from _tf.netpbm import Header
 from _tf.parser import known_program
 from _tf.ranges import can_be_above
@@ -55,6 +58,28 @@ class GreatestSamples(InRoom):
         self.assertEqual(self.tf("eval half.pipe p.pgm"), (0, b"P5\n2 2\n255\n\5\7\r\x0f", ""))
         self.write("odd.pgm", b"P5 3 3 255 abcdefghi")
         self.refused("eval half.pipe odd.pgm", 3, "no side of the picture gives it")
+
+
+class Counts(unittest.TestCase):
+    """How often the greatest sample stands in a result: in pieces, and no further than it takes to tell that it is often."""
+
+    def test_all_are_counted_where_none_is_too_many(self):
+        chance = random.Random(12)
+        for length, share in ((0, 0), (1, 1), (cutting.PIECE, 0), (cutting.PIECE + 1, 0.001), (5 * cutting.PIECE + 3, 0.01), (3 * cutting.PIECE, 1)):
+            data = bytes(255 if chance.random() < share else chance.randrange(255) for _ in range(length))
+            for start in (0, 1, 17):
+                for end in (length, length - 1, cutting.PIECE):
+                    self.assertEqual(cutting.count_of(b"\xff", data, start, end, length), data.count(b"\xff", start, end))
+                    self.assertEqual(cutting.count_of(b"\xff", bytearray(data), start, end, 3) > 3, data.count(b"\xff", start, end) > 3)
+
+    def test_samples_of_two_bytes_are_never_too_few(self):
+        chance = random.Random(13)
+        for most in (65535, 65280, 511, 256):
+            for share in (0.0, 0.004, 0.012, 0.5):
+                samples = [most if chance.random() < share else chance.choice((255, 65280, 65535, chance.randrange(most))) for _ in range(9000)]
+                data = b"P5\n90 100\n%d\n" % most + b"".join(min(it, most).to_bytes(2, "big") for it in samples)
+                found = cutting.head_if_cut(data)
+                self.assertTrue(found is not None or sum(it >= most for it in samples) <= cutting.MOST_SHARE * 9000)
 
 
 class CutResults(InRoom):

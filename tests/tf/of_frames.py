@@ -10,7 +10,7 @@ import time
 import unittest
 from typing import Callable
 
-from .shared import COPY, PROGRAM, TOP, InRoom
+from .shared import COPY, PROGRAM, TOP, InRoom, most_at_a_time
 
 from _tf import frame_files, frames, png
 from _tf.netpbm import Picture
@@ -141,6 +141,56 @@ class Frames(InRoom):
             self.assertLessEqual(len(written), frames.AHEAD + 3)
             self.assertEqual(len(ran.stdout.read()), every * len(frame))
             feeding.join()
+
+    def test_results_are_in_order_where_the_first_frame_is_slow(self):
+        env = self.noting('[ "$first" != 0 ] || until grep -q "ends 2" noted; do sleep 0.01; done')
+        self.assertEqual(self.tf("frames p.pipe - --jobs 3", b"".join(self.frames), **env), (0, b"".join(self.results), ""))
+        noted = self.noted()
+        self.assertLess(noted.index(("ends", 2)), noted.index(("ends", 0)))
+        self.assertEqual(self.tf("frames p.pipe in -o out --jobs 3", **env), (0, b"", ""))
+        self.assertEqual(self.contents("out", [f"f{at}.pgm" for at in range(3, 15)]), self.results)
+
+    def test_further_frames_are_begun_while_the_first_is_slow(self):
+        """As many as wait: two for each job."""
+        env = self.noting('[ "$first" != 0 ] || until grep -q "ends 3" noted; do sleep 0.01; done')
+        self.assertEqual(self.tf("frames p.pipe - --jobs 2", b"".join(self.frames), **env), (0, b"".join(self.results), ""))
+        noted = self.noted()
+        self.assertLess(noted.index(("ends", 3)), noted.index(("ends", 0)))
+        self.assertEqual(most_at_a_time(noted), 2)
+
+    def test_as_many_frames_are_done_at_a_time_as_jobs_says(self):
+        env = self.noting("sleep 0.02")
+        for words, jobs in (("", 1), ("--jobs 3", 3)):
+            self.assertEqual(self.tf(f"frames p.pipe - {words}", b"".join(self.frames), **env), (0, b"".join(self.results), ""))
+            self.assertEqual(most_at_a_time(self.noted()), jobs)
+
+    def test_nothing_of_a_frame_is_left_for_the_next(self):
+        """Long results are followed by short ones, by none, and by the line of a fault."""
+        self.stub('case $(tail -c 1) in l) printf "P5\\n9 1\\n255\\nabcdefghi";; s) printf "P5\\n1 1\\n255\\nz";; n) ;; f) echo memory; exit 5;; esac')
+        long, short, none, fault = (Picture(1, 1, 1, 255, it).raw() for it in (b"l", b"s", b"n", b"f"))
+        made_long, made_short = Picture(9, 1, 1, 255, b"abcdefghi").raw(), Picture(1, 1, 1, 255, b"z").raw()
+        for words in ("", "--jobs 2"):
+            status, written, told = self.tf(f"frames p.pipe - {words}", 3 * long + 3 * short + none + long + short + fault + long, TILEFARM=f"{self.room}/stub")
+            self.assertEqual((status, written), (5, 3 * made_long + 3 * made_short + made_long + made_short))
+            self.assertTrue(told.startswith("tf: frame 10 of the stream: memory\n"), told)
+            self.assertIn("9 frames were done before", told)
+
+    def test_a_program_that_is_ended_ends_the_others(self):
+        self.stub(f'cat > given.$$\ncase $(tail -c 1 given.$$) in {chr(7)}) kill -9 $$;; esac\n{PROGRAM} "$@" < given.$$\nrm given.$$')
+        for words in ("", "--jobs 4"):
+            status, _, told = self.tf(f"frames p.pipe in -o out {words}", TILEFARM=f"{self.room}/stub")
+            self.assertEqual((status, told.splitlines()[-1]), (128 + 9, "tf: 5 frames were done before this one failed"))
+            self.assertEqual(self.contents("out", [f"f{at}.pgm" for at in range(3, 8)]), self.results[:5])
+
+    def test_a_stream_that_nobody_reads_ends_the_programs(self):
+        env = self.noting()
+        os.mkdir(f"{self.room}/film")
+        for at in range(40):
+            self.write(f"film/{at}.pgm", Picture(400, 300, 1, 255, bytes([at]) * 120000).raw())
+        ran = subprocess.run(["bash", "-c", f"{{ {TOP}/tools/tf frames p.pipe film --jobs 3; echo $? > status; }} | head -c 200000 > taken"], cwd=self.room,
+                             env={**os.environ, **env}, capture_output=True, text=True)
+        self.assertEqual((self.content("status"), "Broken pipe" in ran.stderr, "Traceback" in ran.stderr), (b"4\n", True, False), ran.stderr)
+        self.assertLess(len(self.noted()), 40)
 
     def test_a_frame_takes_one_run_and_few_calls_whatever_its_size(self):
         """What is counted no busy machine changes: programs that are started, and calls of Python. Eight more frames are compared."""

@@ -2,14 +2,27 @@
 import os
 import pty
 import subprocess
+import sys
+from unittest import mock
 
-from .shared import COPY, GREY, PROGRAM, TOP, InRoom
+from .shared import COPY, GREY, PROGRAM, TOP, InRoom, most_at_a_time
 
 from _tf import blame_input, hist, many, png
+from _tf.netpbm import Picture
 from _tf.text import Refused
+from _tf.words import asked
 
 COUNTS = COPY + "accum h [0 .. 3] over (x in [0 .. R-1], y in [0 .. C-1]) sum 1 at I(x, y) / 5;\n"
 RAW = b"P5\n4 4\n255\n" + bytes(range(1, 17))
+# runs tf, and tells which files it opens
+OPENED = """import os, sys
+sys.path.insert(0, sys.argv.pop(1))
+from _tf.main import main
+opened = []
+sys.addaudithook(lambda event, given: event == "open" and isinstance(given[0], str) and opened.append(given[0]))
+status = main()
+print(*map(os.path.abspath, opened), sep="\\n")
+sys.exit(status)"""
 
 
 class ManyPictures(InRoom):
@@ -28,6 +41,51 @@ class ManyPictures(InRoom):
         self.assertEqual(self.content("out/p.pgm"), RAW)
         self.assertEqual(self.tf("eval p.pipe in1.pgm -o {name}.raw.pgm"), (0, b"", ""))
         self.assertEqual(self.content("in1.raw.pgm")[-1:], b"\1")
+
+    def test_as_many_programs_run_at_a_time_as_jobs_says(self):
+        """Of pictures that are read and written beside each other, and of others."""
+        for number in range(9):
+            self.write(f"b{number}.pgm", b"P5 3 1 255 %c%c%c" % (number, number, number))
+            self.write(f"b{number}.png", png.write(Picture(3, 1, 1, 255, bytes([number]) * 3))[0])
+        env = self.noting("sleep 0.02")
+        for form in ("pgm", "png"):
+            names = " ".join(f"b{number}.{form}" for number in range(9))
+            for words, jobs in (("", 1), ("--jobs 3", 3)):
+                self.assertEqual(self.tf(f"eval p.pipe {names} -o out/{{name}}.{form} {words}", **env), (0, b"", ""))
+                self.assertEqual(most_at_a_time(self.noted()), jobs)
+        self.assertEqual([self.content(f"out/b{number}.pgm")[-1] for number in range(9)], [*range(9)])
+
+    def test_results_are_told_in_order_where_the_first_is_slow(self):
+        self.write("p.pipe", COUNTS.encode())
+        for number in range(6):
+            self.write(f"b{number}.pgm", b"P5 3 1 255 %c%c%c" % (3 * number, 3 * number, 3 * number))
+        env = self.noting('[ "$first" != 0 ] || until grep -q "ends 6" noted; do sleep 0.01; done')
+        wanted = [f"b{at}.pgm: h 0..3: {' '.join('3' if bin == min(3 * at // 5, 3) else '0' for bin in range(4))}" for at in range(6)]
+        status, written, told = self.tf(f"eval p.pipe {' '.join(f'b{at}.pgm' for at in range(6))} -o out/{{name}}.pgm --jobs 3", **env)
+        self.assertEqual((status, written.decode().splitlines(), told), (0, wanted, ""))
+
+    def test_twice_as_many_pictures_take_twice_as_many_looks_at_files(self):
+        counts = []
+        for every in (20, 40):
+            pictures = [f"{self.room}/b{number}.pgm" for number in range(every)]
+            for it in pictures:
+                self.write(os.path.basename(it), b"P5 1 1 255 a")
+                self.write(f"out/{os.path.basename(it)}", b"older")
+            with mock.patch.object(os, "stat", side_effect=os.stat) as looks:
+                many.each(asked(["eval", f"{self.room}/p.pipe", *pictures, "-o", f"{self.room}/out/{{name}}.pgm"]))
+            counts.append(looks.call_count)
+        self.assertLess(counts[1], 2.5 * counts[0], counts)
+
+    def test_small_pictures_take_no_file_beside_their_results(self):
+        for name in ("in0.pgm", "in1.pgm", "p.pgm"):
+            self.write(f"{name.removesuffix('.pgm')}.ppm", self.content(name))
+        line = "eval p.pipe in0.ppm in1.ppm p.ppm -o out/{name}.pgm --jobs 2"
+        os.mkdir(f"{self.room}/tmp")
+        env = {**os.environ, "TILEFARM": PROGRAM, "TMPDIR": f"{self.room}/tmp"}
+        ran = subprocess.run([sys.executable, "-S", "-c", OPENED, f"{TOP}/python/tilefarm", *line.split()], cwd=self.room, env=env, capture_output=True, text=True,
+                             check=True)
+        opened = {it.partition("/.")[0] for it in ran.stdout.splitlines() if it.startswith(self.room)}
+        self.assertEqual(opened, {f"{self.room}/{it}" for it in ("p.pipe", "in0.ppm", "in1.ppm", "p.ppm", "out")})
 
     def test_what_failed_is_told_and_the_others_are_done(self):
         self.write("bad.pgm", b"P5 1 1 255 ")

@@ -3,6 +3,7 @@
 No time is judged here, which a busy machine could make longer: lines of Python that are run, processes and files are counted. bench/round_trips
 measures times.
 """
+import contextlib
 import itertools
 import os
 import random
@@ -10,11 +11,12 @@ import shutil
 import struct
 import subprocess
 import sys
+import tempfile
 import unittest
 import zlib
 from typing import Callable
 
-from .shared import PROGRAM, TOP, InRoom, wants_vips
+from .shared import COPY, PROGRAM, TOOLS, TOP, InRoom, wants_jpeg_tools, wants_vips, write
 
 from _tf import lanes, png, unfiltering
 from _tf.netpbm import Picture
@@ -37,6 +39,8 @@ sys.settrace(None)
 sys.stderr.write(str(count))
 sys.exit(status)"""
 NOT_FOR_HELP = ("subprocess", "tempfile", "_tf.words", "_tf.call")
+# what frames and a JPEG that goes straight are done without, too: to load all of these takes as long as all else of a start
+NOT_FOR_MANY = ("dataclasses", "inspect", "subprocess", "selectors", "shutil", "tempfile", "random", "concurrent.futures", "_tf.parts.planning", "_tf.blame")
 
 
 def grey(red: int, green: int, blue: int) -> int:
@@ -179,14 +183,16 @@ class RoundTheProgram(InRoom):
         chance = random.Random(11)
         return Picture(cols, rows, 3, 255, bytes(40 + at // 60 % 128 + chance.randrange(12) for at in range(3 * cols * rows)))
 
-    def started(self, line: str) -> list[str]:
-        """The programs that a call of tf starts, in their order: each is noted, and then run."""
+    def started(self, line: str, has_tools: bool = False) -> list[str]:
+        """The programs that a call of tf starts, in their order: each is noted, and then run. There are no others."""
         os.makedirs(f"{self.room}/bin", exist_ok=True)
-        for name, path in (("vips", shutil.which("vips")), ("vipsheader", shutil.which("vipsheader")), ("program", PROGRAM)):
+        for name, path in (("program", PROGRAM), *((it, shutil.which(it)) for it in ("vips", "vipsheader", *TOOLS[: 2 * has_tools]))):
             self.write(f"bin/{name}", f'#!/bin/sh\necho {name} "$@" >> {self.room}/started\nexec {path} "$@"\n'.encode())
             os.chmod(f"{self.room}/bin/{name}", 0o755)
         self.write("started", b"")
-        told = self.tf(line, TILEFARM=f"{self.room}/bin/program", PATH=f"{self.room}/bin:{os.environ['PATH']}")
+        with contextlib.suppress(FileExistsError):
+            os.symlink(sys.executable, f"{self.room}/bin/python3")
+        told = self.tf(line, TILEFARM=f"{self.room}/bin/program", PATH=f"{self.room}/bin")
         self.assertEqual(told, (0, b"", ""))
         return self.content("started").decode().splitlines()
 
@@ -203,6 +209,14 @@ class RoundTheProgram(InRoom):
         subprocess.run(["vips", "copy", "in.ppm", "in.jpg"], cwd=self.room, check=True)
         started = [it.split()[:2] for it in self.started("eval p.pipe in.jpg -o out.jpg")]
         self.assertEqual(sorted(started), [["program", "eval"], ["vips", "copy"], ["vips", "copy"]])
+
+    @wants_vips
+    @wants_jpeg_tools
+    def test_a_jpeg_to_a_jpeg_takes_no_vips_where_djpeg_and_cjpeg_are_there(self):
+        self.write("in.ppm", self.picture(70, 90).raw())
+        subprocess.run(["cjpeg", "-quality", "90", "-outfile", "in.jpg", "in.ppm"], cwd=self.room, check=True)
+        started = [it.split()[:2] for it in self.started("eval p.pipe in.jpg -o out.jpg", has_tools=True) if it.split()[0] != "program"]
+        self.assertEqual(sorted(started), [["cjpeg", "-quality"], ["cjpeg", "-version"], ["djpeg", "-maxscans"]])
 
     @wants_vips
     def test_what_cannot_be_cut_is_not_counted(self):
@@ -232,11 +246,31 @@ class Start(unittest.TestCase):
     def loaded(self, *words: str) -> set[str]:
         """What is loaded for a call."""
         code = "import sys; sys.path.insert(0, sys.argv.pop(1)); from _tf.main import main; main(); print(*sys.modules)"
-        ran = subprocess.run([sys.executable, "-S", "-c", code, f"{TOP}/python/tilefarm", *words], capture_output=True, text=True, check=True)
+        env = {**os.environ, "TILEFARM": PROGRAM}
+        ran = subprocess.run([sys.executable, "-S", "-c", code, f"{TOP}/python/tilefarm", *words], env=env, capture_output=True, text=True, check=True)
         return {*ran.stdout.splitlines()[-1].split()}
 
     def test_little_is_loaded(self):
         self.assertEqual({it for it in self.loaded("eval", "no.pipe", "no.pgm") if it in LATER}, set())
+
+    @wants_jpeg_tools
+    def test_a_jpeg_to_a_jpeg_loads_less(self):
+        with tempfile.TemporaryDirectory(prefix="test-tf-") as room:
+            for name, data in (("p.pipe", RoundTheProgram.COPY.encode()), ("in.ppm", Picture(20, 10, 3, 255, bytes(600)).raw())):
+                write(f"{room}/{name}", data)
+            subprocess.run(["cjpeg", "-outfile", f"{room}/in.jpg", f"{room}/in.ppm"], check=True)
+            loaded = self.loaded("eval", f"{room}/p.pipe", f"{room}/in.jpg", "-o", f"{room}/out.jpg")
+            self.assertTrue(os.path.isfile(f"{room}/out.jpg"))
+        self.assertEqual({it for it in loaded if it in NOT_FOR_MANY}, set())
+
+    def test_frames_load_less(self):
+        with tempfile.TemporaryDirectory(prefix="test-tf-") as room:
+            os.mkdir(f"{room}/in")
+            for name, data in (("p.pipe", COPY.encode()), *((f"in/{at}.pgm", Picture(20, 10, 1, 255, bytes(200)).raw()) for at in range(3))):
+                write(f"{room}/{name}", data)
+            loaded = self.loaded("frames", f"{room}/p.pipe", f"{room}/in", "-o", f"{room}/out")
+            self.assertEqual(len(os.listdir(f"{room}/out")), 3)
+        self.assertEqual({it for it in loaded if it in NOT_FOR_MANY}, set())
 
     def test_help_and_version_load_less(self):
         self.assertEqual({it for it in self.loaded("--help") if it in (*LATER, *NOT_FOR_HELP)}, set())

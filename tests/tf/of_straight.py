@@ -1,10 +1,13 @@
-"""Tests of pictures that go straight from a JPEG to a file that vips writes: they are what the usual way makes, and what does not go is left to it."""
+"""Tests of pictures that go straight from a JPEG to a file that vips or cjpeg writes: they are what the usual way makes, and what does not go is left
+to it."""
 import os
+import random
+import shutil
 import subprocess
 from unittest import mock
 
 from .of_metadata import COLOURS, COPY_COLOURS, XMP
-from .shared import PROGRAM, TOP, InRoom, content, wants_vips
+from .shared import COPY, PROGRAM, TOOLS, TOP, InRoom, content, wants_jpeg_tools, wants_vips
 
 from _tf import converters, metadata, running, straight, words
 from _tf.metadata import Metadata
@@ -13,21 +16,38 @@ from _tf.netpbm import Picture
 OWN = f"{TOP}/tests/tf/pictures"
 LARGE = Picture(700, 900, 3, 255, bytes(at * at // 7 % 256 for at in range(3 * 700 * 900)))
 DOUBLED = COPY_COLOURS.replace(": r(x, y)", ": 2 * r(x, y)")
+# how cjpeg is asked for JPEG of all kinds that go straight
+KINDS = ("-sample 1x1", "-sample 2x2", "-sample 2x1", "-sample 1x2", "-progressive", "-restart 1", "-optimize -quality 20")
 ASKING = "param R; param C; param M; # greatest sample\nimage I(2*R, C);\n" \
     "func f(x in [0 .. 2*R-1], y in [0 .. C-1]) { else : M - I(x, y); }\noutput f max 65535; # greatest sample\n"
 
 
 @wants_vips
 class Straight(InRoom):
+    """By vips: djpeg and cjpeg do nothing here."""
+
     def setUp(self):
         super().setUp()
         named = mock.patch.dict(os.environ, TILEFARM=PROGRAM)
         named.start()
         self.addCleanup(named.stop)
+        self.hide_tools()
         running.program.cache_clear()
         self.write("c.pipe", COPY_COLOURS.encode())
         self.write("in.ppm", COLOURS.raw())
         subprocess.run(["vips", "copy", "in.ppm", "in.jpg[Q=95]"], cwd=self.room, check=True)
+
+    def hide_tools(self) -> None:
+        for name in TOOLS:
+            self.stub(name, "exit 1")
+
+    def stub(self, name: str, script: str) -> None:
+        """Another program of this name, which is found first from here on."""
+        if not os.path.isdir(f"{self.room}/bin"):
+            os.mkdir(f"{self.room}/bin")
+            os.environ["PATH"] = f"{self.room}/bin:{os.environ['PATH']}"
+        self.write(f"bin/{name}", f"#!/bin/sh\n{script}\n".encode())
+        os.chmod(f"{self.room}/bin/{name}", 0o755)
 
     def is_straight(self, *line: str) -> bool:
         """Whether a call goes straight; its files are in the test's folder, and nothing is left there where it does not."""
@@ -101,34 +121,110 @@ class Straight(InRoom):
                 self.assertEqual(self.content("straight.jpg"), self.content("usual.jpg"))
                 os.remove(f"{self.room}/straight.jpg")
 
-    def with_vips(self, script: str) -> dict[str, str]:
-        """An environment where another program is called vips."""
-        os.makedirs(f"{self.room}/bin", exist_ok=True)
-        self.write("bin/vips", f"#!/bin/sh\n{script}\n".encode())
-        os.chmod(f"{self.room}/bin/vips", 0o755)
-        return {"PATH": f"{self.room}/bin:{os.environ['PATH']}"}
-
     def test_what_vips_says_is_told_by_the_usual_way(self):
-        real = subprocess.run(["sh", "-c", "command -v vips"], capture_output=True, text=True, check=True).stdout.strip()
-        env = self.with_vips(f'echo "VIPS-WARNING **: strange" >&2; exec {real} "$@"')
-        status, _, told = self.tf("eval c.pipe in.jpg -o out.jpg", **env)
+        self.stub("vips", f'echo "VIPS-WARNING **: strange" >&2; exec {shutil.which("vips")} "$@"')
+        self.hide_tools()
+        status, _, told = self.tf("eval c.pipe in.jpg -o out.jpg")
         self.assertEqual(status, 0, told)
         self.assertIn("in.jpg: vips warns: strange", told)
-        status, _, told = self.tf("eval c.pipe in.jpg -o out.jpg", **self.with_vips("exit 3"))
+        self.stub("vips", "exit 3")
+        status, _, told = self.tf("eval c.pipe in.jpg -o out.jpg")
         self.assertEqual((status, told), (2, "tf: in.jpg: vips cannot do this: status 3\n"))
 
+    def test_a_jpeg_that_is_cut_off_is_refused_whatever_vips_says(self):
+        """(Whether vips sees it is a matter of time.) What stands behind the end is no matter."""
+        whole = self.content("in.jpg")
+        self.stub("vips", "printf 'P6 24 16 255 ' > \"$3\"; head -c 1152 /dev/zero >> \"$3\"")
+        self.hide_tools()
+        for data in (whole[:-1], whole[:-2], whole[: -len(whole) // 3], whole[:200] + whole[-90:-2]):
+            self.write("cut.jpg", data)
+            for target in ("out.jpg", "out.pgm"):
+                status, _, told = self.tf(f"eval c.pipe cut.jpg -o {target}")
+                self.assertEqual((status, os.path.exists(f"{self.room}/{target}")), (2, False), told)
+                self.assertIn("cut.jpg: ", told)
+        self.write("more.jpg", whole + b"more" * 99)
+        self.assertEqual(self.tf("eval c.pipe more.jpg -o out.ppm"), (0, b"", ""))
+
     def test_a_program_that_does_not_start_is_told_by_the_usual_way(self):
-        self.write("bin", b"no program")
-        os.chmod(f"{self.room}/bin", 0o755)
-        told = [self.tf(f"eval c.pipe in.jpg -o out.jpg {more}", TILEFARM=f"{self.room}/bin") for more in ("", "--time")]
+        self.write("none", b"no program")
+        os.chmod(f"{self.room}/none", 0o755)
+        told = [self.tf(f"eval c.pipe in.jpg -o out.jpg {more}", TILEFARM=f"{self.room}/none") for more in ("", "--time")]
         self.assertEqual(told[0], told[1])
         self.assertEqual(told[0][0], 4)
 
     def test_what_takes_too_long_is_ended(self):
-        env, seconds = self.with_vips("sleep 60"), converters.SECONDS
-        path = os.environ["PATH"]
-        os.environ["PATH"], converters.SECONDS = env["PATH"], 0.5
-        try:
+        for name in ("vips", *TOOLS):
+            self.stub(name, "sleep 60")
+        with mock.patch.object(converters, "SECONDS", 0.5):
             self.assertFalse(self.is_straight("eval", "c.pipe", "in.jpg", "-o", "out.jpg"))
-        finally:
-            os.environ["PATH"], converters.SECONDS = path, seconds
+
+
+@wants_jpeg_tools
+class StraightByJpegTools(Straight):
+    """By djpeg and cjpeg: all of the same, and the very bytes that vips writes."""
+
+    def hide_tools(self) -> None:
+        """(Here they are asked.)"""
+
+    def test_what_vips_says_is_told_by_the_usual_way(self):
+        """Where djpeg says something, too."""
+        self.stub("djpeg", "echo strange >&2; exit 2")
+        super().test_what_vips_says_is_told_by_the_usual_way()
+
+    def test_vips_is_not_asked(self):
+        wanted = self.tf("eval c.pipe in.jpg -o usual.jpg --time")[0]
+        self.stub("vips", "exit 3")
+        self.assertEqual((wanted, self.tf("eval c.pipe in.jpg -o out.jpg")), (0, (0, b"", "")))
+        self.assertEqual(self.content("out.jpg"), self.content("usual.jpg"))
+        self.assertEqual(self.tf("eval c.pipe in.jpg -o out.webp")[0], 2)
+
+    def test_all_kinds_of_jpeg_are_read_and_written_as_by_vips(self):
+        chance, sides = random.Random(5), ((1, 1), (17, 13), (40, 33))
+        self.write("grey.pipe", COPY.encode())
+        for cols, rows in sides:
+            for planes, pipe in ((1, "grey.pipe"), (3, "c.pipe")):
+                samples = bytes(chance.randrange(90) + at // 7 * 40 % 160 for at in range(planes * cols * rows))
+                self.write("some.ppm", Picture(cols, rows, planes, 255, samples).raw())
+                for more in (*KINDS, *["-rgb"] * (planes == 3)):
+                    with self.subTest(more, cols=cols, planes=planes):
+                        subprocess.run(["cjpeg", *more.split(), "-outfile", "some.jpg", "some.ppm"], cwd=self.room, check=True, capture_output=True)
+                        self.same_by_both(f"eval {pipe} some.jpg", chance.choice(("", "--quality 5", "--quality 89 --strip", "--strip", "--quality 100")))
+
+    def same_by_both(self, line: str, more: str) -> None:
+        """Both ways go, and write the same."""
+        found = []
+        for way in (straight.by_jpeg_tools, straight.by_vips):
+            with mock.patch.object(straight, "ways", lambda _, way=way: (way,)):
+                self.assertTrue(self.is_straight(*line.split(), *more.split(), "-o", f"{way.__name__}.jpg"), way)
+            found.append(self.content(f"{way.__name__}.jpg"))
+        self.assertEqual(found[0], found[1])
+
+    def test_what_one_of_them_says_or_does_not_do_is_left_to_vips(self):
+        """It ends before its end, says something, is another make, or is none: the result is whole, and nothing of it is told."""
+        self.tf("eval c.pipe in.jpg -o usual.jpg --time")
+        real = {name: shutil.which(name) for name in TOOLS}
+        half = "head -c 200; exit"
+        names = f'case "$*" in -version) exec {real["cjpeg"]} "$@";; *)'
+        for name, script in (("djpeg", f'{real["djpeg"]} "$@" | {half} 0'), ("djpeg", f'{real["djpeg"]} "$@" | {half} 2'), ("djpeg", "exit 1"),
+                             ("djpeg", "kill -9 $$"), ("djpeg", f'echo odd >&2; exec {real["djpeg"]} "$@"'), ("cjpeg", "exit 1"), ("cjpeg", "kill -9 $$"),
+                             ("cjpeg", "exec <&-; exit 0"), ("cjpeg", f'{names} {real["cjpeg"]} "$@" | {half} 1;; esac'),
+                             ("cjpeg", f'{names} echo odd >&2; exec {real["cjpeg"]} "$@";; esac'),
+                             ("cjpeg", f'case "$*" in -version) echo mozjpeg version 4 >&2;; *) exec {real["cjpeg"]} "$@";; esac')):
+            with self.subTest(name, script=script):
+                self.stub(name, script)
+                self.write("out.jpg", b"older")
+                before = sorted(os.listdir(self.room))
+                self.assertEqual(self.tf("eval c.pipe in.jpg -o out.jpg"), (0, b"", ""))
+                self.assertEqual(self.content("out.jpg"), self.content("usual.jpg"))
+                self.assertEqual(sorted(os.listdir(self.room)), before)
+                os.remove(f"{self.room}/bin/{name}")
+
+    def test_an_older_result_stays_where_nothing_goes(self):
+        self.write("out.jpg", b"older")
+        self.stub("vips", "exit 3")
+        for name, script in (("djpeg", "exit 1"), ("cjpeg", "head -c 99; exit 1")):
+            self.stub(name, script)
+            before = sorted(os.listdir(self.room))
+            self.assertEqual(self.tf("eval c.pipe in.jpg -o out.jpg")[0], 2)
+            self.assertEqual((self.content("out.jpg"), sorted(os.listdir(self.room))), (b"older", before))
+            os.remove(f"{self.room}/bin/{name}")

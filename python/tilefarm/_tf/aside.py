@@ -26,11 +26,16 @@ def now() -> Said | None:
     return getattr(here, "said", None)
 
 
+def turn() -> contextlib.AbstractContextManager:
+    """What a run of the program waits for, where its call has no turn of its own."""
+    return getattr(here, "turns", None) or contextlib.nullcontext()
+
+
 @contextlib.contextmanager
-def kept() -> Iterator[Said]:
-    """Keeps what this thread says aside."""
-    here.said = Said()
+def kept(turns: threading.Semaphore | None = None) -> Iterator[Said]:
+    """Keeps what this thread says aside. Its runs of the program wait for their turns, where there are any."""
+    here.said, here.turns = Said(), turns
     try:
         yield here.said
     finally:
-        here.said = None
+        here.said = here.turns = None

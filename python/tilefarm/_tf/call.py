@@ -3,9 +3,9 @@
 What one command alone needs is loaded where that is done, since loading takes most of the time of a small picture.
 """
 import sys
-import tempfile
 from typing import Iterable
 
+from . import leaving
 from .joining import SEPARATOR, Input, Wanted, joined
 from .netpbm import Header, Picture, picture_of
 from .output import CONVERTED, PICTURES, encoded, ending, give, give_all, put, put_all, say, show, tell
@@ -394,7 +394,7 @@ def without_a_line(status: int) -> str:
         return (f"the program, which is not proved, stopped (status {status}): an index out of bounds, an overflow or the like, of which a "
                 "proof shows that there is none; this is a fault of tilefarm, and `make build` would refuse it")
     if status == OUTPUT_FAILED:
-        return f"the program could not write its result into a file of {tempfile.gettempdir()}, which may be full (TMPDIR names another folder)"
+        return f"the program could not write its result into a file of {leaving.usual_folder()}, which may be full (TMPDIR names another folder)"
     return f"the program ended with status {status} and said nothing"
 
 

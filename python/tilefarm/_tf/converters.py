@@ -5,12 +5,10 @@ more than a word can say is refused: several pages, samples that are no whole nu
 """
 import os
 import re
-import shutil
-import subprocess
-from dataclasses import dataclass, field
 from typing import NamedTuple
 
 from . import leaving, metadata
+from .joining import has_vips
 from .netpbm import MOST_SIDE, Picture, picture_of
 from .text import Refused, TooLarge
 from .writing import Writing
@@ -21,7 +19,7 @@ MOST = {"uchar": 255, "ushort": 65535}
 GREYS, COLOURS = ("b-w", "grey16"), ("srgb", "rgb16", "rgb")
 ONLY_BYTES = (".jpg", ".jpeg", ".gif", ".bmp", ".webp")
 # warnings that come where a part of a picture could not be read: vips may yet end with status 0 then
-NOT_WHOLE = re.compile(r"error in tile|premature|truncat|unexpected end", re.I)
+NOT_WHOLE = "(?i)error in tile|premature|truncat|unexpected end"
 # as many bytes of a JPEG have its sides, unless it says very much before them
 JPEG_BYTES = 1 << 20
 NO_ORIENTATION = ("1", "0", "")
@@ -30,8 +28,10 @@ NO_ORIENTATION = ("1", "0", "")
 HARDENED = {"VIPS_BLOCK_UNTRUSTED": "1"}
 # vips looks for its modules, which read and write further formats, below a folder of this name. To load them takes as long as all else of its start.
 WITHOUT_MODULES = {"VIPSHOME": "/nonexistent"}
+# how a JPEG begins
+JPEG_START = b"\xff\xd8\xff"
 # how files begin that vips reads without modules (JPEG, PNG, TIFF, GIF and WebP), and the endings of those that it writes without
-BUILT_IN, BUILT_IN_ENDINGS = (b"\xff\xd8\xff", b"\x89PNG\r\n\x1a\n", b"II*\0", b"MM\0*", b"GIF8", b"RIFF"), (".jpg", ".jpeg", ".tif", ".tiff", ".webp")
+BUILT_IN, BUILT_IN_ENDINGS = (JPEG_START, b"\x89PNG\r\n\x1a\n", b"II*\0", b"MM\0*", b"GIF8", b"RIFF"), (".jpg", ".jpeg", ".tif", ".tiff", ".webp")
 LOADERS = ((b"BM", "magickload"), (b"P7", "magickload"), (b"\0\0\0\x0cjP", "jp2kload"), (b"\xff\x4f\xff\x51", "jp2kload"), (b"\xff\x0a", "jxlload"),
            (b"\0\0\0\x0cJXL", "jxlload"), (b"v/1\x01", "openexrload"), (b"#?", "radload"))
 
@@ -48,17 +48,16 @@ class Head(NamedTuple):
     orientation: str
 
 
-@dataclass
 class Vips:
     """One file, in a folder of its own: vips takes brackets and other marks in a name for words to itself."""
 
-    name: str
-    room: str
-    said: list[str] = field(default_factory=list)
-    seconds: int | None = SECONDS
+    def __init__(self, name: str, room: str, said: list[str] | None = None, seconds: int | None = SECONDS):
+        self.name, self.room, self.said, self.seconds = name, room, [] if said is None else said, seconds
 
     def run(self, *words: str, **environment: str) -> str:
         """What a program of libvips writes; its warnings are passed on, and where it fails, why is told."""
+        import subprocess
+
         env = {**os.environ, **environment}
         try:
             ran = leaving.run([*words], timeout=self.seconds, cwd=self.room, env=env, stdin=subprocess.DEVNULL, stdout=subprocess.PIPE,
@@ -69,7 +68,7 @@ class Vips:
         except (OSError, subprocess.TimeoutExpired) as error:
             raise Refused(f"{self.name}: {error}") from error
         told = [it for it in map(message, ran.stderr.decode("utf-8", "replace").splitlines()) if it]
-        if ran.returncode or any(map(NOT_WHOLE.search, told)):
+        if ran.returncode or any(re.search(NOT_WHOLE, it) for it in told):
             raise Refused(f"{self.name}: {words[0]} cannot do this: {'; '.join(dict.fromkeys(told)) or f'status {ran.returncode}'}")
         self.said += [f"{self.name}: vips warns: {it}" for it in dict.fromkeys(told)]
         return ran.stdout.decode("utf-8", "replace")
@@ -87,7 +86,12 @@ class Vips:
 def head_of_jpeg(path: str) -> Head | None:
     """What vipsheader tells of an ordinary JPEG, read here: that takes less time than to start it."""
     with open(path, "rb") as file:
-        sides = metadata.sides_of_jpeg(file.read(JPEG_BYTES))
+        return head_in_jpeg(file.read(JPEG_BYTES))
+
+
+def head_in_jpeg(data: bytes) -> Head | None:
+    """The same of a file's bytes, or of the first of them."""
+    sides = metadata.sides_of_jpeg(data)
     if sides is None or sides.planes not in (1, 3) or sides.depth != 8:
         return None
     return Head(sides.cols, sides.rows, sides.planes, "uchar", "b-w" if sides.planes == 1 else "srgb", 1, sides.orientation)
@@ -99,7 +103,7 @@ def message(line: str) -> str:
 
 
 def is_there() -> bool:
-    return bool(shutil.which("vips"))
+    return has_vips()
 
 
 def place(given: bytes, path: str, room: str) -> None:
@@ -141,7 +145,17 @@ def unpacked(file: Vips, page: int | None, most_side: int | None) -> str:
         made, allowed = f"made{number}.v", WITHOUT_MODULES
     raw = "raw.pgm" if head.meaning in GREYS else "raw.ppm"
     file.run("vips", "copy", made, raw, **allowed)
+    refuse_cut(file, start)
     return f"{file.room}/{raw}"
+
+
+def refuse_cut(file: Vips, start: bytes) -> None:
+    """Refuses a JPEG that is cut off where vips took it: whether it sees that is a matter of time, as its threads run."""
+    if not start.startswith(JPEG_START):
+        return
+    with open(f"{file.room}/given", "rb") as given:
+        if metadata.is_cut_jpeg(given.read()):
+            raise Refused(f"{file.name}: vips cannot do this: premature end of the JPEG")
 
 
 def start_of(file: Vips) -> bytes:

@@ -16,18 +16,34 @@ MOST_SHARE = 0.01
 # what a line about it has, by which many runs count theirs
 SIGN = " of its samples are cut at "
 AT_A_TIME = 1 << 20
-
-
-def share_of_greatest(written: bytes, head: Header) -> float:
-    """The share of a result's samples that are the greatest: no more can be cut. Of samples of two bytes it may be less than this."""
-    sample = head.most.to_bytes(1 if head.most < 256 else 2, "big")
-    return written.count(sample, head.end, head.end + head.length()) * len(sample) / head.length()
+# how many bytes are looked at a time where most pieces have none of the greatest samples
+PIECE = 1 << 12
 
 
 def head_if_cut(written: bytes) -> Header | None:
     """The head of a result, where more of its samples than are told may be cut."""
     head = header_of(written) if written.startswith((b"P5\n", b"P6\n")) else None
-    return head if head and share_of_greatest(written, head) > MOST_SHARE else None
+    return head if head and has_many_greatest(written, head) else None
+
+
+def has_many_greatest(written: bytes, head: Header) -> bool:
+    """Whether the share of a result's samples that are the greatest, of which no more can be cut, is more than is told. Of samples of two bytes it may
+    be less than what is counted here."""
+    sample = head.most.to_bytes(1 if head.most < 256 else 2, "big")
+    least = MOST_SHARE * head.length() / len(sample)
+    return count_of(sample, written, head.end, head.end + head.length(), least) > least
+
+
+def count_of(sample: bytes, data: bytes | bytearray, start: int, end: int, least: float) -> int:
+    """How often a sample stands there. Pieces without any are passed over, and what stands behind more than the least is not looked at."""
+    found = 0
+    for at in range(start, end, PIECE):
+        first = data.find(sample, at, min(at + PIECE, end))
+        if first >= 0:
+            found += data.count(sample, first, min(at + PIECE, end))
+            if found > least:
+                break
+    return found
 
 
 def share_cut(head: Header, given: Input, program: Program, words: list[str]) -> float:

@@ -1,6 +1,5 @@
 """What each case of a stage is bounded by, and what it reads from where: the boxes of docs/SCHEDULES.md are made of these."""
 import re
-from dataclasses import dataclass, field
 from typing import Iterator, NamedTuple
 
 from .parser import TermParser
@@ -76,12 +75,12 @@ class Read(NamedTuple):
         return Area(self.rows.image(area.rows), self.cols.image(area.cols))
 
 
-@dataclass
 class Part:
     """A case: its tests of bounds, each of a variable, and its reads."""
 
-    bounds: list[tuple[int, str, Affine]] = field(default_factory=list)
-    reads: list[Read] = field(default_factory=list)
+    def __init__(self):
+        self.bounds: list[tuple[int, str, Affine]] = []
+        self.reads: list[Read] = []
 
     def box(self, domain: Area, settings: dict[str, int]) -> Area:
         """The part of the domain where the tests hold."""

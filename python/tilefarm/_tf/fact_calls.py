@@ -1,7 +1,6 @@
 """Calls of tf that take fact files which may be large: merge and answer. The facts are on the disk, and no more than a piece of them is held."""
 import contextlib
 import re
-from dataclasses import replace
 from typing import BinaryIO, Iterable, Iterator, NoReturn
 
 from .answering import Answer
@@ -115,7 +114,7 @@ class Answering(Call):
                 return found
             spools = [spool_of(section.text.name, [section.data])]
         self.files = FactFiles(spools, {}, ["tf", *self.all_words], section)
-        return replace(found, sections={it: found.sections[it] for it in ONE}, data=b"")
+        return Input({it: found.sections[it] for it in ONE}, b"", found.tables, found.supplied)
 
     def blocks(self, more: Iterable[bytes] = (), has_facts: bool = False) -> Iterator[bytes]:
         """The input of the program, with facts or without."""

@@ -1,12 +1,11 @@
 """From the user's files to the input of `tilefarm`: the program, a line `%%`, and the picture; or what else a command takes."""
-from dataclasses import dataclass, field
-from shutil import which
-from typing import Iterable, NamedTuple, NoReturn
+from typing import Iterable, Mapping, NamedTuple, NoReturn
 
 from . import leaving
 from .netpbm import MOST_SIDE, Header, Picture, bits, header_of, picture_of
 from .parser import known_program
 from .program import Item
+from .running import on_path
 from .settings import given_values, supplied, with_greatest
 from .tables import Line, lines_of, ordered
 from .text import Refused, Text, content, standard_input
@@ -42,28 +41,22 @@ class Wanted(NamedTuple):
             raise Refused(f"{path}: it has no page {self.page}, but 1", 1)
 
 
-@dataclass
 class Section:
     """A part of the input: the user's text, what stands for it in the input, and whether these are the same. Where several
     files stand one behind the other, `more` has the texts behind the first."""
 
-    text: Text
-    data: bytes
-    is_own: bool = True
-    more: list[Text] = field(default_factory=list)
+    def __init__(self, text: Text, data: bytes, is_own: bool = True, more: Iterable[Text] = ()):
+        self.text, self.data, self.is_own, self.more = text, data, is_own, [*more]
 
     def texts(self) -> list[Text]:
         return [self.text, *self.more]
 
 
-@dataclass
 class Input:
     """The sections of an input by name, the lines of tables before its picture, its bytes, and values that `tf` supplies."""
 
-    sections: dict[str, Section]
-    data: bytes
-    tables: list[Line] = field(default_factory=list)
-    supplied: dict[str, int] = field(default_factory=dict)
+    def __init__(self, sections: dict[str, Section], data: bytes, tables: Iterable[Line] = (), supplied: Mapping[str, int] | None = None):
+        self.sections, self.data, self.tables, self.supplied = sections, data, [*tables], {**(supplied or {})}
 
     def last(self) -> bytes:
         """The last section: the lines of tables, and the picture."""
@@ -248,7 +241,7 @@ def converted(path: str, data: bytes, page: int | None) -> tuple[Picture, list[s
     is_png = data.startswith(PNG)
     if is_png and page not in (None, 1):
         raise Refused(f"{path}: it has no page {page}, but 1", 1)
-    if is_png and (len(data) < SMALL or not which("vips")):
+    if is_png and (len(data) < SMALL or not has_vips()):
         from . import png
 
         return png.read(data, path)
@@ -256,6 +249,10 @@ def converted(path: str, data: bytes, page: int | None) -> tuple[Picture, list[s
 
     with leaving.room() as room:
         return converters.read(data, path, room, page)
+
+
+def has_vips() -> bool:
+    return on_path("vips") is not None
 
 
 def is_foreign(data: bytes) -> bool:

@@ -1,23 +1,25 @@
 """One program over many pictures, each as by a tf of its own, but in one process."""
+import contextlib
 import os
 import re
-from dataclasses import replace
+import threading
 from typing import NamedTuple
 
 from . import aside
 from .cutting import SIGN
-from .finding_dask import go_on_with_dask
-from .output import say, tell
+from .output import ending, say, tell
 from .progress import counting
 from .joining import read_file
-from .running import program
+from .running import MOST_IN_MEMORY, program
 from .text import Refused
-from .targets import judge, judge_stages
+from .targets import identities, judge, judge_stages
 from .whole_numbers import whole_number
 from .words import NAME, Asked
 
 ENDING = "{ending}"
 OWN_HERE = ("-o", "--jobs", "--skip-done")
+# the options of calls that do nothing beside one run of the program, where the picture is one of these, and the result too, or a PNG
+LIGHT, RAW = {*OWN_HERE, "--strict", "--quiet", "--table"}, (".pgm", ".ppm", ".pnm")
 # what a line about a picture that the program refuses says to people
 FAULTS = {"OtherFormat": "no picture that is known", "HeaderCut": "the file ends within its header", "BadNumber": "something else than a number",
           "BadSize": "sides that no picture has", "BadMax": "a greatest sample that no picture has", "RasterCut": "the picture is cut off",
@@ -59,11 +61,12 @@ def each(asked: Asked) -> list[One]:
         raise Refused("--stages writes the stages of one picture: give one at a time", 1)
     found = [One(it, named(it, target), {stage: named(it, file) for stage, file in asked.stages.items()}) for it in asked.files[1:]]
     first: dict[str, str] = {}
+    read = identities(asked)
     for it in found:
         refuse_twice(it, first)
-        own = replace(asked, own={**asked.own, "-o": it.target}, stages=it.stages)
-        judge(own, makes_folder=True)
-        judge_stages(own, makes_folder=True)
+        own = asked.with_target(it.target, it.stages)
+        judge(own, makes_folder=True, read=read)
+        judge_stages(own, makes_folder=True, read=read)
     return found
 
 
@@ -118,23 +121,36 @@ def eval_many(asked: Asked) -> int:
     rest = [it for it in every if not ("--skip-done" in asked.own and is_done(asked, it))]
     make_folders(rest)
     if asked.own.get("--engine") == "dask":
+        from .finding_dask import go_on_with_dask
+
         go_on_with_dask()
     program(), read_pipes(asked)
     done: list[int] = []
+    turns = threading.BoundedSemaphore(jobs)
 
     def run(it: One) -> Ran:
-        with aside.kept() as said:
+        is_light = asked.own.keys() <= LIGHT and not it.stages and is_small(it.picture) and ending(it.target) in (*RAW, ".png")
+        with contextlib.nullcontext() if is_light else turns, aside.kept(turns if is_light else None) as said:
             status = status_of(words_of(asked, it))
         done.append(status)
         return Ran(status, said.lines_written(), said.lines_told())
 
     cut = 0
-    with ThreadPoolExecutor(jobs) as pool, counting(asked.name, lambda: len(done), len(rest)):
+    # (so many programs run at a time; where pictures are light, one more is read or written beside them)
+    with ThreadPoolExecutor(jobs + 1) as pool, counting(asked.name, lambda: len(done), len(rest)):
         for it, ran in zip(rest, pool.map(run, rest)):
             report(it, ran)
             cut += not ran.status and any(SIGN in line for line in ran.told)
     tell_counts(len(every), skipped=len(every) - len(rest), failed=sum(map(bool, done)), cut=cut)
     return max(done, default=0)
+
+
+def is_small(picture: str) -> bool:
+    """Whether this is a PGM or PPM that a run has in memory."""
+    try:
+        return ending(picture) in RAW and os.stat(picture).st_size <= MOST_IN_MEMORY
+    except OSError:
+        return False
 
 
 def tell_counts(every: int, skipped: int, failed: int, cut: int) -> None:

@@ -10,10 +10,11 @@ PNG, JPEG, EXIF, ICC = b"\x89PNG\r\n\x1a\n", b"\xff\xd8", b"Exif\0\0", b"ICC_PRO
 # what stands before XMP in a JPEG and in a PNG, and before the blocks of which one has IPTC
 XMP, XMP_TEXT, BLOCKS = b"http://ns.adobe.com/xap/1.0/\0", b"XML:com.adobe.xmp\0", b"Photoshop 3.0\0"
 BLOCK, IPTC_BLOCK = b"8BIM", 0x0404
-ORIENTATION_IN_XMP = re.compile(rb"""(tiff:Orientation(?:\s*=\s*["']|>)\s*)[1-8]""")
+ORIENTATION_IN_XMP = rb"""(tiff:Orientation(?:\s*=\s*["']|>)\s*)[1-8]"""
 # markers of JPEG: the application segments, the start of the scan, and the starts of frames, which have the sides and the sampling
 JFIF_SEGMENT, EXIF_SEGMENT, ICC_SEGMENT, BLOCKS_SEGMENT, SCAN = 0xE0, 0xE1, 0xE2, 0xED, 0xDA
 FRAMES = (0xC0, 0xC1, 0xC2)
+END = b"\xff\xd9"
 # the most bytes of a profile in one segment, of EXIF, and of XMP and IPTC
 PROFILE_PART, MOST_EXIF, MOST_TEXT = 65519, 65520, 65400
 # the bits of a WebP's first chunk that say that it has EXIF, and XMP
@@ -142,12 +143,25 @@ def sides_of_jpeg(data: bytes) -> JpegSides | None:
     return None
 
 
+def is_cut_jpeg(data: bytes) -> bool:
+    """Whether a JPEG that has a frame ends before its end, whose mark stands nowhere else behind the start of the scan."""
+    if data.endswith(END) or sides_of_jpeg(data) is None:
+        return False
+    return data.find(END, len(JPEG) + sum(4 + len(body) for _, body in segments(data))) < 0
+
+
 def of_jfif(unit: int, across: int, down: int) -> tuple[float, float] | None:
     return {1: (down, across), 2: (down * 2.54, across * 2.54)}.get(unit)
 
 
 def with_jpeg(data: bytes, it: Metadata) -> bytes:
     """A JPEG that says this, and nothing else of the same kind."""
+    beginning, start = beginning_of_jpeg(data, it)
+    return beginning + data[start:]
+
+
+def beginning_of_jpeg(data: bytes, it: Metadata) -> tuple[bytes, int]:
+    """What stands before the scan of that JPEG, and where the scan begins in the given one."""
     down, across = it.resolution or (1, 1)
     jfif = b"JFIF\0\1\1" + struct.pack(">BHHBB", bool(it.resolution), round(across), round(down), 0, 0)
     exif = [(EXIF_SEGMENT, EXIF + it.exif)] if it.exif and len(it.exif) < MOST_EXIF else []
@@ -159,7 +173,7 @@ def with_jpeg(data: bytes, it: Metadata) -> bytes:
     others = [(marker, body) for marker, body in segments(data) if marker not in (JFIF_SEGMENT, EXIF_SEGMENT, ICC_SEGMENT)]
     start = len(JPEG) + sum(4 + len(body) for _, body in segments(data))
     every = [(JFIF_SEGMENT, jfif), *exif, *texts, *profile, *others]
-    return JPEG + b"".join(struct.pack(">BBH", 0xFF, marker, len(body) + 2) + body for marker, body in every) + data[start:]
+    return JPEG + b"".join(struct.pack(">BBH", 0xFF, marker, len(body) + 2) + body for marker, body in every), start
 
 
 # PNG
@@ -305,7 +319,7 @@ def for_result(exif: bytes, rows: int, cols: int) -> bytes:
 
 def upright(xmp: bytes) -> bytes:
     """XMP for a picture that stands upright."""
-    return ORIENTATION_IN_XMP.sub(rb"\g<1>1", xmp)
+    return re.sub(ORIENTATION_IN_XMP, rb"\g<1>1", xmp) if xmp else xmp
 
 
 def set_number(made: bytearray, found: Directory, tag: int, value: int) -> None:

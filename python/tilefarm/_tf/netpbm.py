@@ -1,7 +1,6 @@
 """PGM and PPM pictures, as far as tf needs them: their header, and the samples of raw ones."""
 import re
 from array import array
-from dataclasses import dataclass
 from typing import NamedTuple
 import sys
 
@@ -16,8 +15,6 @@ MOST_SIDE = 4096
 MOST_NUMBER, MOST_DIGITS = 2**31 - 1, 64
 # as many bytes as hold a header with its comments
 HEAD = 1 << 16
-# the eight points of each byte of a bitmap
-OF_BYTE = [bytes(0 if byte >> at & 1 else 255 for at in range(7, -1, -1)) for byte in range(256)]
 
 
 class Header(NamedTuple):
@@ -45,8 +42,7 @@ def header_of(data: bytes) -> Header | None:
     return Header(kind > 3, 3 if kind in (3, 6) else 1, cols, rows, most, found.end())
 
 
-@dataclass
-class Picture:
+class Picture(NamedTuple):
     """Samples row by row, one or three a point; a sample is a byte, or two where `most` is 256 or more."""
 
     cols: int
@@ -138,7 +134,8 @@ def bits(data: bytes, name: str) -> Picture:
     packed = data[head.end() :]
     if len(packed) != stride * rows:
         raise Refused(f"{name}: a raw bitmap of {cols} by {rows} points has {stride * rows} bytes behind its head, and this one {len(packed)}")
-    whole = b"".join(OF_BYTE[it] for it in packed)
+    points = [bytes(0 if byte >> at & 1 else 255 for at in range(7, -1, -1)) for byte in range(256)]
+    whole = b"".join(points[it] for it in packed)
     return Picture(cols, rows, 1, 255, b"".join(whole[at : at + cols] for at in range(0, len(whole), 8 * stride)))
 
 

@@ -2,7 +2,6 @@
 import contextlib
 import errno
 import os
-import shutil
 import stat
 import sys
 import threading
@@ -107,7 +106,7 @@ def put_all(path: str, blocks: Iterable[bytes]) -> None:
         elif there and stat.S_ISSOCK(there.st_mode):
             send(path, blocks)
         elif there is None or can_be_replaced(path, there):
-            replace(os.path.realpath(path), blocks, there)
+            replace(followed(path), blocks, there)
         else:
             write_into(path, blocks)
     except OSError as error:
@@ -134,7 +133,12 @@ def can_be_replaced(path: str, there: os.stat_result) -> bool:
     if not os.access(path, os.W_OK):
         raise PermissionError(errno.EACCES, os.strerror(errno.EACCES))
     is_own = os.geteuid() in (0, there.st_uid)
-    return stat.S_ISREG(there.st_mode) and is_own and os.access(os.path.dirname(os.path.realpath(path)), os.W_OK)
+    return stat.S_ISREG(there.st_mode) and is_own and os.access(os.path.dirname(followed(path)) or ".", os.W_OK)
+
+
+def followed(path: str) -> str:
+    """Where a link leads; what is none, and what is not there, is itself."""
+    return os.path.realpath(path) if os.path.islink(path) else path
 
 
 def replace(path: str, blocks: Iterable[bytes], there: os.stat_result | None) -> None:
@@ -186,14 +190,16 @@ def keep_attributes(path: str, made: str) -> None:
 
 def put_file(path: str | None, made: str) -> None:
     """Puts a file that was made beside its place there, as `put` does with bytes, or writes it to standard output."""
+    from shutil import copyfileobj
+
     try:
         there = stat_of(path) if path else None
         is_replaced = path and (there is None or (not is_standard_output(there) and can_be_replaced(path, there)))
-        if is_replaced and settle(made, os.path.realpath(path), there):
+        if is_replaced and settle(made, followed(path), there):
             return
         to_output = path is None or is_standard_output(there)
         with open(made, "rb") as source, open(1 if to_output else os.open(path, os.O_WRONLY | os.O_TRUNC), "wb", closefd=not to_output) as file:
-            shutil.copyfileobj(source, file, AT_A_TIME)
+            copyfileobj(source, file, AT_A_TIME)
     except OSError as error:
         raise Refused(f"{path or 'standard output'}: {error.strerror}", 4) from error
 

@@ -16,7 +16,7 @@ from .settings import given_values
 from .tables import Line, ordered
 from .text import Refused, Text
 from .whole_numbers import whole_number
-from .words import SETTING, Asked
+from .words import Asked
 
 
 class Given(NamedTuple):
@@ -89,7 +89,7 @@ def whole(path: str, data: bytes, at: int) -> Given:
 
 def job_of(words: list[str], text: bytes) -> Job:
     """The job that options and values of a command line ask for."""
-    job, rest = Job(text, given_values([it for it in words if SETTING.fullmatch(it) and not it.startswith("--")])), list(words)
+    job, rest = Job(text, given_values([it for it in words if "=" in it and not it.startswith("--")])), list(words)
     while rest:
         name, is_joined, value = rest.pop(0).partition("=")
         if name == "--stored":

@@ -1,5 +1,4 @@
 """A job of a page over its picture: what is run, and what is told of it."""
-from dataclasses import replace
 
 from .blame import Situation
 from .joining import SEPARATOR, Input, Section, ended, refuse_separator
@@ -44,7 +43,8 @@ class Work:
         """A program over the picture, with those tables that the job's own program declares: what is made of it has the same."""
         own, lines = Section(Text(self.name, program), program), self.tables()
         found = Input({"program": own, "picture": self.shown.section}, b"", lines)
-        return replace(found, data=SEPARATOR.join((program, found.last())))
+        found.data = SEPARATOR.join((program, found.last()))
+        return found
 
     def tables(self) -> list[Line]:
         """The lines of the tables that are declared; all of them where it is no program. One that lacks is a refusal."""

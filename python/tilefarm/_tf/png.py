@@ -214,14 +214,21 @@ def smallest(raster: bytes, stride: int) -> bytes:
 
 def soon(raster: bytes, stride: int) -> bytes:
     """The rows of a large picture, with what makes a strip of its middle shorter. Strips are compressed side by side, each for itself."""
-    from concurrent.futures import ThreadPoolExecutor
-
     middle = len(raster) // stride // 2 * stride
     strip = raster[middle : middle + 32 * stride]
     rows = min((plain_rows, upper_rows), key=lambda it: len(zlib.compress(it(strip, stride), 1)))(raster, stride)
+    strips = [rows[at : at + LARGE] for at in range(0, len(rows), LARGE)]
+    return b"".join((b"\x78\x01", *all_deflated(strips), END, struct.pack(">I", zlib.adler32(rows))))
+
+
+def all_deflated(strips: list[bytes]) -> list[bytes]:
+    """The strips compressed; one alone takes no thread."""
+    if len(strips) == 1:
+        return [deflated(strips[0])]
+    from concurrent.futures import ThreadPoolExecutor
+
     with ThreadPoolExecutor(os.cpu_count()) as pool:
-        parts = pool.map(deflated, (rows[at : at + LARGE] for at in range(0, len(rows), LARGE)))
-        return b"".join((b"\x78\x01", *parts, END, struct.pack(">I", zlib.adler32(rows))))
+        return [*pool.map(deflated, strips)]
 
 
 def deflated(strip: bytes) -> bytes:

@@ -1,5 +1,4 @@
 """A program as items, with the place of all that a fault line can blame."""
-from dataclasses import dataclass, field
 from typing import NamedTuple
 
 from .tokens import Token
@@ -78,35 +77,33 @@ class Node(NamedTuple):
     numbers: tuple[int, ...] = ()
 
 
-@dataclass
 class Case:
     """A case, an `else`, or an accumulator: its expression, of an accumulator also that of the bin, and what it reads, in the order of the text."""
 
-    span: Span
-    reads: list[Read] = field(default_factory=list)
-    value: Node | None = None
-    bin: Node | None = None
+    def __init__(self, span: Span):
+        self.span = span
+        self.reads: list[Read] = []
+        self.value: Node | None = None
+        self.bin: Node | None = None
 
 
-@dataclass
 class Item:
     """An item: its kind, the names that it declares (or, of an output, uses), the parts that faults blame, and the comment behind it in
     its last line."""
 
-    kind: str
-    span: Span
-    names: list[Token] = field(default_factory=list)
-    variables: list[Token] = field(default_factory=list)
-    extents: list[Affine] = field(default_factory=list)
-    intervals: list[Interval] = field(default_factory=list)
-    cases: list[Case] = field(default_factory=list)
-    uses: list[Use | Number | Kernel] = field(default_factory=list)
-    most: Number | None = None
-    comment: str = ""
+    def __init__(self, kind: str, span: Span):
+        self.kind, self.span = kind, span
+        self.names: list[Token] = []
+        self.variables: list[Token] = []
+        self.extents: list[Affine] = []
+        self.intervals: list[Interval] = []
+        self.cases: list[Case] = []
+        self.uses: list[Use | Number | Kernel] = []
+        self.most: Number | None = None
+        self.comment = ""
 
 
-@dataclass
-class Program:
+class Program(NamedTuple):
     """The items of a text, in its order."""
 
     items: list[Item]

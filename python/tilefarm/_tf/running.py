@@ -2,13 +2,11 @@
 import contextlib
 import functools
 import os
-import shutil
 import sys
-import tempfile
 import time
 from typing import BinaryIO, Iterable, Iterator, NamedTuple
 
-from . import leaving
+from . import aside, leaving
 from .output import tell
 from .progress import doing
 from .text import Refused, content
@@ -20,6 +18,8 @@ WIDE = f"{BUILT}.x86-64-v3"
 FEATURES = {"avx2", "bmi1", "bmi2", "f16c", "fma", "abm", "movbe"}
 # what `make quick` leaves: the same text, of which nothing is proved
 QUICK = f"{TOP}/out/quick/tilefarm"
+# of as many bytes a run of a batch has its input and its result in memory, and in no file
+MOST_IN_MEMORY = 1 << 24
 # A small process of its own runs the program: what a process has held before it begins another counts as the other's.
 # It ends the program where it is to end itself.
 MEASURE = """import os, resource, signal, subprocess, sys
@@ -73,12 +73,24 @@ def program() -> str:
     """The program: the one that TILEFARM names, else the built one, else one on the path, else what `make quick` made, with a word, which
     TILEFARM_QUIET keeps back."""
     named = os.environ.get("TILEFARM")
-    found = next(filter(is_program, [named] if named else [fastest_built(), shutil.which("tilefarm"), QUICK]), None)
+    found = next(filter(is_program, [named] if named else candidates()), None)
     if found and not named and os.path.realpath(found) == QUICK and not os.environ.get("TILEFARM_QUIET"):
         tell(f"{os.path.relpath(QUICK)} is not proved (`make build` makes the proved program)")
     if named and not found:
         raise Refused(f"TILEFARM names {named}, which is no program")
     return found or none_is_there()
+
+
+def candidates() -> Iterator[str | None]:
+    """The places of the program, in the order in which it is looked for."""
+    yield fastest_built()
+    yield on_path("tilefarm")
+    yield QUICK
+
+
+def on_path(name: str) -> str | None:
+    """The program of a name in the folders of PATH."""
+    return next(filter(is_program, (os.path.join(it, name) for it in os.get_exec_path())), None)
 
 
 def fastest_built(plain: str = BUILT, wide: str = WIDE, processors: str = "/proc/cpuinfo") -> str:
@@ -105,7 +117,12 @@ def is_program(path: str | None) -> bool:
 
 def run(words: list[str], data: bytes, memory: bool = False, length: int = 0) -> Ended:
     """Runs the program with these words on these bytes. `length` is how many bytes it is to write, where that is known."""
-    return run_on(words, [data], memory, length)
+    if memory or not aside.now() or len(data) + length > MOST_IN_MEMORY:
+        return run_on(words, [data], memory, length)
+    from . import memory_runs
+
+    with aside.turn():
+        return memory_runs.run(words, [data])
 
 
 def run_on(words: list[str], blocks: Iterable[bytes], memory: bool = False, length: int = 0) -> Ended:
@@ -126,13 +143,13 @@ def run_files(words: list[str], blocks: Iterable[bytes], memory: bool = False, l
             stdout.seek(0)
             yield ended, stdout
     except OSError as error:
-        raise Refused(f"{error.filename or tempfile.gettempdir()}: {error.strerror}", 4) from error
+        raise Refused(f"{error.filename or leaving.usual_folder()}: {error.strerror}", 4) from error
 
 
 def plain(words: list[str], stdin: BinaryIO, stdout: BinaryIO) -> Ended:
     began = time.perf_counter()
     try:
-        status = leaving.run(words, stdin=stdin, stdout=stdout).returncode
+        status = leaving.Child(words, stdin.fileno(), stdout.fileno()).wait()
     except OSError as error:
         raise Refused(f"{words[0]} does not start: {error.strerror}", 4) from error
     return Ended(status if status >= 0 else 128 - status, b"", time.perf_counter() - began)

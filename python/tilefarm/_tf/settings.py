@@ -14,7 +14,7 @@ from .whole_numbers import whole_number
 # the ends of a parameter's values
 LEAST, MOST = -(2**31), 2**31 - 1
 GREATEST = "greatest sample"
-SHARE = re.compile(rf"(?P<top>\w+) */ *(?P<last>{GREATEST}|\d+)(?P<up>, rounded up)?")
+SHARE = rf"(?P<top>\w+) */ *(?P<last>{GREATEST}|\d+)(?P<up>, rounded up)?"
 
 
 def settings(program: Program, given: dict[str, int], head: Header | None) -> dict[str, int]:
@@ -63,7 +63,7 @@ def asked_value(comment: str, found: dict[str, int], most: int | None) -> int | 
     """The value that a comment asks for: the greatest sample, a number divided by it, or a parameter divided by a number."""
     if comment == GREATEST:
         return most
-    share = SHARE.fullmatch(comment)
+    share = re.fullmatch(SHARE, comment) if comment else None
     if not share:
         return None
     top = found.get(share["top"], whole_number(share["top"], 0, MOST))

@@ -8,8 +8,7 @@ from .tokens import RESERVED
 from .whole_numbers import whole_number
 
 WIDE, MOST_ENTRIES, LONGEST_NAME = 16384, 4096, 32
-NAME = re.compile(rb"[A-Za-z][A-Za-z0-9_]*")
-NUMBER = re.compile(rb"-?[0-9]+")
+NAME, NUMBER = rb"[A-Za-z][A-Za-z0-9_]*", rb"-?[0-9]+"
 FORM = "a table is one line NAME LO..HI: V V V, with one blank before each number and nothing else"
 
 
@@ -52,9 +51,9 @@ class Reader:
             raise Broken(Fault(self.at, why))
         self.at += len(mark)
 
-    def match(self, form: re.Pattern[bytes], why: str) -> tuple[bytes, int]:
+    def match(self, form: bytes, why: str) -> tuple[bytes, int]:
         """What stands next, and where it begins."""
-        found, at = form.match(self.line, self.at), self.at
+        found, at = re.compile(form).match(self.line, self.at), self.at
         if not found:
             raise Broken(Fault(at, why))
         self.at = found.end()

@@ -2,12 +2,13 @@
 import os
 import stat
 import sys
-from dataclasses import dataclass
-from typing import BinaryIO
+from typing import BinaryIO, NamedTuple
 
 WIDEST = 100
 # a device that gives so many bytes is taken for one that gives them without end
 MOST_OF_DEVICE = 1 << 20
+# how many bytes are read at a time of a file that has more than it says
+AT_LEAST = 1 << 16
 # what came by pipes, by their names, and by standard input, which is -: it comes once
 piped: dict[str, bytes] = {}
 
@@ -37,14 +38,26 @@ def content(path: str) -> bytes:
     if path in piped:
         return piped[path]
     try:
-        with open(path, "rb") as file:
-            mode = os.fstat(file.fileno()).st_mode
-            if stat.S_ISREG(mode):
-                return file.read()
-            piped[path] = of_device(path, file) if stat.S_ISCHR(mode) and not file.isatty() else file.read()
+        handle = os.open(path, os.O_RDONLY | os.O_CLOEXEC)
+        there = os.fstat(handle)
+        if stat.S_ISREG(there.st_mode):
+            return of_file(handle, there.st_size)
+        with open(handle, "rb") as file:
+            piped[path] = of_device(path, file) if stat.S_ISCHR(there.st_mode) and not file.isatty() else file.read()
             return piped[path]
     except OSError as error:
         raise Refused(f"{path}: {error.strerror}") from error
+
+
+def of_file(handle: int, size: int) -> bytes:
+    """All bytes of an open file that probably has so many, by few calls of the system. It is closed then."""
+    try:
+        found = [os.read(handle, size + 1)]
+        while found[-1] and (len(found) > 1 or len(found[0]) != size):
+            found.append(os.read(handle, max(size, AT_LEAST)))
+        return b"".join(found)
+    finally:
+        os.close(handle)
 
 
 def of_device(path: str, file: BinaryIO) -> bytes:
@@ -74,8 +87,7 @@ def beginning(path: str, count: int) -> bytes:
         raise Refused(f"{path}: {error.strerror}") from error
 
 
-@dataclass(frozen=True)
-class Text:
+class Text(NamedTuple):
     """A text of a file. `first` is where it begins in that file, for the texts that are parts of one."""
 
     name: str
@@ -88,8 +100,7 @@ class Text:
         return Place(self, min(offset, len(self.data)), max(length, 1))
 
 
-@dataclass(frozen=True)
-class Place:
+class Place(NamedTuple):
     """Where something stands: lines and columns count from 1, and columns count characters."""
 
     text: Text

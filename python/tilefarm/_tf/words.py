@@ -1,13 +1,11 @@
 """The words of tf's command line, parted into what is tf's own and what the program judges."""
 import os
-import re
-from dataclasses import dataclass, field
+from typing import Iterable, Mapping
 
 from .near import meant
 from .text import Refused
 from .usage import COMMANDS, OPTIONS, OWN_OPTIONS, Command, valued
 
-SETTING = re.compile(r"[^=]*=.*", re.S)
 OWN = {it.name: it.value for it in OWN_OPTIONS}
 # what stands for the name of each picture in that of its result, and the commands that take several pictures
 NAME = "{name}"
@@ -16,16 +14,18 @@ OF_MANY = ("eval", "run")
 OF_DASK = ("--scheduler", "--facts", "--audit", "--task-seconds", "--scheduler-file", "--wait")
 
 
-@dataclass
 class Asked:
     """The words of the command line, parted: the command, files, words for the program, tf's own options, and files by stages."""
 
-    name: str = ""
-    files: list[str] = field(default_factory=list)
-    words: list[str] = field(default_factory=list)
-    own: dict[str, str] = field(default_factory=dict)
-    tables: list[str] = field(default_factory=list)
-    stages: dict[str, str] = field(default_factory=dict)
+    def __init__(self, name: str = "", files: Iterable[str] = (), own: Mapping[str, str] | None = None, tables: Iterable[str] = (),
+                 stages: Mapping[str, str] | None = None):
+        self.name, self.files, self.tables = name, [*files], [*tables]
+        self.own, self.stages = {**(own or {})}, {**(stages or {})}
+        self.words: list[str] = []
+
+    def with_target(self, target: str, stages: Mapping[str, str] | None = None) -> "Asked":
+        """What is asked of the same files, with another one for the result, and for the results of stages."""
+        return Asked(self.name, self.files, {**self.own, "-o": target}, self.tables, stages)
 
     @property
     def target(self) -> str | None:
@@ -62,7 +62,7 @@ def asked(words: list[str]) -> Asked:
             found.words += [word, *([rest.pop(0)] if not is_joined and takes_next(name, rest) else [])]
         elif not is_named and "--join" not in found.own:
             found.name, is_named = word, True
-        elif SETTING.fullmatch(word) and not os.path.exists(word):
+        elif "=" in word and not os.path.exists(word):
             found.words.append(word)
         else:
             found.files.append(word)

@@ -50,6 +50,13 @@ class Writing(NamedTuple):
         """The file with what vips did not put into it."""
         return metadata.put_into(data, self.metadata)
 
+    def finished_blocks(self, data: bytes) -> list[bytes | memoryview]:
+        """The same in blocks. The samples of a JPEG are not copied."""
+        if not data.startswith(metadata.JPEG):
+            return [self.finished(data)]
+        beginning, start = metadata.beginning_of_jpeg(data, self.metadata)
+        return [beginning, memoryview(data)[start:]]
+
 
 def writing(given: bytes, own: dict[str, str], target: str, ending: str) -> Writing:
     """How a result is written, of a file that was read and of tf's own options."""

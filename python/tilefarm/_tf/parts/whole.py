@@ -3,7 +3,6 @@
 What `tilefarm` refuses over the whole is refused here in the same words, but for the limits that parts are there to lift: the sides of the
 picture and of the result, and how far a domain reaches.
 """
-from dataclasses import dataclass
 from functools import cached_property
 from typing import Iterator, NamedTuple
 
@@ -51,8 +50,7 @@ class CaseReader(Reader):
         self.tests.setdefault(id(self.case), []).append(Test(axis, mark, *found, span))
 
 
-@dataclass
-class WholeCase:
+class WholeCase(NamedTuple):
     """A case, an `else` or the two expressions of an accumulator: its text, the box of its tests of bounds, all tests, and its reads."""
 
     case: Case
@@ -69,8 +67,7 @@ class WholeCase:
         return not self.case.reads[number].indices
 
 
-@dataclass
-class Stage:
+class Stage(NamedTuple):
     """A plane, a function or an accumulator."""
 
     name: str
