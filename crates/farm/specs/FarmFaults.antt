@@ -20,7 +20,7 @@ abbrev pub fault_of_close : CloseFault → FarmFault
 fault_of_close (closes.ReceiptMismatch number) = Close (record { number = number })
 fault_of_close closes.Memory = Memory
 
--- no node was closed in vain
+-- the fault names no receipt of a node
 abbrev pub IsBeforeClosing : FarmFault → Type 0
 IsBeforeClosing (SpawnFailed refusal) = Unit {0}
 IsBeforeClosing Memory = Unit {0}

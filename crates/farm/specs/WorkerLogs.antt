@@ -1,5 +1,5 @@
--- What a worker's place shows of the calls of its log: each is a receipt of the worker's node, a move through a port, an answer of
--- the desk's history, or a look that leaves nothing.
+-- What a worker's place shows of the calls of its log: each leaves a receipt of the worker's node, a move through a port, an answer of
+-- the desk's history, or nothing.
 use Rattle.std.specs.Prelude.{◌≡◌, ◌≤◌, ◌⊎◌, ℕ, Bool, true, false, Some, None, List, [], ◌∷◌, ◌++◌, Contains, length, map, set, slice_get}
 use Rattle.catalog.specs.Entries.{Entry}
 use Rattle.fact_audit.specs.TrueFacts.{IsTrueFact}
@@ -65,7 +65,7 @@ pub record Traces : Type 0 where
 abbrev pub new_port : ℕ → PortTrace
 new_port capacity = record { capacity = capacity; moved = moves [] [] }
 
--- no call has left anything, and there is a port to the mailbox of each node
+-- no receipt and no move yet, and there is a port to the mailbox of each node; of the desk's history anything may have been seen
 abbrev pub AreFresh : WorkedFarm → Traces → Type 0
 AreFresh farm traces = (traces.receipts ≡ []) × (traces.ports ≡ map new_port farm.mailboxes)
 
@@ -135,7 +135,7 @@ IsCall catalog farm old new (Released time worker key) =
 IsCall catalog farm old new Kept = LeavesReceipt old new event.Kept
 IsCall catalog farm old new Restarted = LeavesReceipt old new event.Restarted
 
--- a place that shows this has made just the calls of the log, one after another
+-- the calls of the log, one after another, leave these traces
 pub data HasLog (catalog : List Entry) (farm : WorkedFarm) : Traces → List Call → Type 0 where
   no_call : (traces : Traces) → AreFresh farm traces → HasLog catalog farm traces []
   one_more : (old new : Traces) (log : List Call) (call : Call) → HasLog catalog farm old log → IsCall catalog farm old new call → HasLog catalog farm new (log ++ call ∷ [])

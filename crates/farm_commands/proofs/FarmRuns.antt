@@ -12,6 +12,7 @@ use Rattle.command_outcomes.proofs.Written.{said_of}
 use Rattle.command_outcomes.specs.Outcomes.{IsSaid}
 use Rattle.command_outcomes.specs.Replies.{reply_bytes}
 use Rattle.farm.specs.Reports.{IsSoundEnd, all_held}
+use Rattle.farm.specs.WorkerRuns.{HaveRun}
 use Rattle.farm_answers.specs.Answering.{missing_work}
 use Rattle.farm_commands.specs.FarmRuns.{IsRunOnInput, IsRunOnJob}
 use Rattle.farm_commands.specs.declared.farm_run.FarmResult.{FarmResult}
@@ -24,13 +25,16 @@ use Rattle.job.specs.declared.job.Job.{Job}
 -- a run on the only job of a catalog, by the schedule that the options request
 pub run_on_job : (setup : FarmSetup) (options : Options) (job : Entry) (catalog : List Entry) (inlining : List Bool) (run : FarmResultRun)
     → catalog ≡ job ∷ [] → inlining ≡ requested_inlining options.stored options.percent job.pipeline → run.setup ≡ setup
-    → length run.closed.items ≡ setup.nodes → All (IsSoundEnd catalog) run.closed.items
+    → length run.closed.items ≡ setup.nodes → All (IsSoundEnd catalog) run.closed.items → HaveRun catalog 0 inlining setup run.closed.items
     → run.by_caller ≡ length (missing_work catalog 0 inlining (all_held run.closed.items)) → IsRunOnJob setup options job run
-run_on_job setup options job catalog inlining run alone requested as_set_up nodes closed by_caller =
+run_on_job setup options job catalog inlining run alone requested as_set_up nodes closed worked by_caller =
     record {
       as_set_up = as_set_up;
       nodes = nodes;
       closed = subst (λ (jobs : List Entry). All (IsSoundEnd jobs) run.closed.items) alone closed;
+      worked =
+          subst (λ (jobs : List Entry). HaveRun jobs 0 (requested_inlining options.stored options.percent job.pipeline) setup run.closed.items) alone
+          (subst (λ (stored : List Bool). HaveRun catalog 0 stored setup run.closed.items) requested worked);
       by_caller =
           by_caller ∙ ap (λ (jobs : List Entry). length (missing_work jobs 0 inlining (all_held run.closed.items))) alone
           ∙ ap (λ (stored : List Bool). length (missing_work (job ∷ []) 0 stored (all_held run.closed.items))) requested;

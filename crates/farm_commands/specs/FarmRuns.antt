@@ -8,6 +8,7 @@ use Rattle.command_jobs.specs.Results.{result_bytes}
 use Rattle.command_line.specs.declared.options.Options.{Options}
 use Rattle.command_outcomes.specs.Outcomes.{Saying}
 use Rattle.farm.specs.Reports.{IsSoundEnd, all_held}
+use Rattle.farm.specs.WorkerRuns.{HaveRun}
 use Rattle.farm_answers.specs.Answering.{missing_work}
 use Rattle.farm_commands.specs.declared.result_run.FarmResultRun.{FarmResultRun}
 use Rattle.farm_setup.specs.declared.setup.FarmSetup.{FarmSetup}
@@ -23,12 +24,13 @@ abbrev pub tiles_left : Options → Entry → List (List Event) → List Key
 tiles_left options job histories =
     missing_work (job ∷ []) 0 (requested_inlining options.stored options.percent job.pipeline) (all_held histories)
 
--- A farm of this setup ran on the job. Each of its nodes is closed with a legal history that leaves only true facts, and the
--- caller made the tiles that these leave.
+-- A farm of this setup ran on the job, by the schedule that the options request. Each of its nodes is closed with a legal history
+-- that leaves only true facts, and that its two workers account for. The caller made as many tiles as these leave.
 pub record IsRunOnJob (setup : FarmSetup) (options : Options) (job : Entry) (run : FarmResultRun) : Type 0 where
   pub as_set_up : run.setup ≡ setup
   pub nodes : length run.closed.items ≡ setup.nodes
   pub closed : All (IsSoundEnd (job ∷ [])) run.closed.items
+  pub worked : HaveRun (job ∷ []) 0 (requested_inlining options.stored options.percent job.pipeline) setup run.closed.items
   pub by_caller : run.by_caller ≡ length (tiles_left options job run.closed.items)
 
 -- the input has a job at the values that are given, the farm ran on it, and the bytes are its result

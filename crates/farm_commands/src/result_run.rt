@@ -2,6 +2,7 @@
 
 ghost use Rattle.std.specs.Prelude.{◌≡◌, All, IfOk, length};
 ghost use Rattle.farm.specs.Reports.{IsSoundEnd, all_held};
+ghost use Rattle.farm.specs.WorkerRuns.{HaveRun};
 ghost use Rattle.farm_answers.specs.Answering.{IsAnswerOf, IsPlanned, missing_work};
 
 use accumulators::Answer;
@@ -57,6 +58,7 @@ pub(crate) fn run_farm_for_farm_result<H: AllocGlobal + Threads + Wait + Sync>(
     ensures setup { IfOk result (λ done. done.1.setup ≡ setup.now) }
     ensures nodes { IfOk result (λ done. length done.1.closed.items ≡ setup.now.nodes) }
     ensures closed { IfOk result (λ done. All (IsSoundEnd catalog.now) done.1.closed.items) }
+    ensures worked { IfOk result (λ done. HaveRun catalog.now 0 schedule.now.inlining setup.now done.1.closed.items) }
     ensures by_caller { IfOk result (λ done. done.1.by_caller ≡ length
         (missing_work catalog.now 0 schedule.now.inlining (all_held done.1.closed.items))) }
 {

@@ -83,7 +83,7 @@ fn measure_normal_reach(terms: &[NormalTerm], stage: usize) -> NormalReach {
     reach
 }
 
-/// The kernel that terms are, if there is one: reads of one stage that fill a rectangle around the point.
+/// The kernel among terms, if there is one: reads of one stage that fill a rectangle around the point.
 pub(crate) fn find_normal_kernel(terms: &[NormalTerm]) -> Option<NormalKernel> {
     let stage = find_stage_of_normal_kernel(terms)?;
     let reach = measure_normal_reach(terms, stage);
@@ -112,7 +112,7 @@ fn make_normal_index(place: usize, side: usize) -> Option<Index>
     Index::new(1, place as i32 - (side / 2) as i32, 1)
 }
 
-// Takes a read out of a sum. Its factor is left.
+// Takes a read out of a sum, and returns its factor.
 fn take_normal_read(
     terms: &mut Vec<NormalTerm>,
     stage: usize,
@@ -127,7 +127,7 @@ fn take_normal_read(
     Some(terms.remove(place).factor)
 }
 
-// Takes the reads of a row of a kernel out of a sum. Their factors are left.
+// Takes the reads of a row of a kernel out of a sum, and returns their factors.
 fn take_normal_factors(
     alloc: Global,
     terms: &mut Vec<NormalTerm>,
@@ -151,7 +151,7 @@ fn take_normal_factors(
     Ok(Some(KernelFactors::new(factors)))
 }
 
-/// Takes the reads of a kernel out of a sum. Its factors are left.
+/// Takes the reads of a kernel out of a sum, and returns its factors.
 pub(crate) fn take_normal_kernel(
     alloc: Global,
     terms: &mut Vec<NormalTerm>,

@@ -30,7 +30,7 @@ pub(crate) fn is_same_normal_read(first: &Formula, second: &Formula) -> bool
     is_same_normal_index(column, other_column)
 }
 
-/// Whether two formulas are the same: reads and numbers, and operators on them.
+/// Whether two formulas are found to be the same: reads, numbers, and operators on one or two of them. Of any others the answer is no.
 pub(crate) fn is_same_normal_formula(first: &Formula, second: &Formula) -> bool
     ensures { result ≡ true → formula_view first.now ≡ formula_view second.now }
 {

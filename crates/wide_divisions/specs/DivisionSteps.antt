@@ -59,7 +59,7 @@ pub record IsRightStep (s : DivisionStep) : Type 0 where
 
 -- ---- what it is at a point
 
--- a number, shifted to the left if there is by how much
+-- a number, times a power of two if there is one, in 32 bits
 abbrev pub shifted : Option ℕ → ℤ → ℤ
 shifted None v = v
 shifted (Some bits) v = wrapped (v *ℤ pos (2 ^ bits))

@@ -76,7 +76,7 @@ fn is_division_step_power(formula: &Formula, bits: u32) -> bool
     }
 }
 
-// A read, and by which power of two it is multiplied, if it is.
+// A read, and the exponent of the power of two by which it is multiplied, if it is.
 fn match_division_step_divisor(formula: &Formula) -> Option<(DivisionStepRead<'_>, Option<u32>)>
     ensures some { IfSome result (λ it. formula_view formula.now ≡ shifted_formula it.1 (read_formula it.0)) }
     ensures right { IfSome result (λ it. IsAdjacentRead it.0) }

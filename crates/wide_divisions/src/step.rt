@@ -24,7 +24,7 @@ pub struct DivisionStep<'a> {
     pub rest: DivisionStepRest<'a>,
     /// The divisor before it is multiplied.
     pub divisor: DivisionStepRead<'a>,
-    /// The power of two by which the divisor is multiplied, if it is, from 0 to 31.
+    /// The exponent of the power of two by which the divisor is multiplied, if it is, from 0 to 31.
     pub shift: Option<u32>,
     /// How many bits the partial remainder has, from 0 to 31.
     pub bits: u32,

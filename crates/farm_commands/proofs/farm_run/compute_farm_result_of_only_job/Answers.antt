@@ -21,5 +21,5 @@ make_result_reply-requires g c = c.in-Ok.ensures.answer (entry_of c.args.job.now
 pub returns-in-Ok-clause-run : goal.returns-in-Ok-clause-run
 returns-in-Ok-clause-run g c =
     run_on_job c.args.setup.now c.args.options.now (entry_of c.args.job.now) c.args.catalog.now c.in_ok-schedule.schedule.inlining _
-    c.requires c.in_ok-schedule.ensures.inlining c.in-Ok.ensures.setup c.in-Ok.ensures.nodes c.in-Ok.ensures.closed
+    c.requires c.in_ok-schedule.ensures.inlining c.in-Ok.ensures.setup c.in-Ok.ensures.nodes c.in-Ok.ensures.closed c.in-Ok.ensures.worked
     c.in-Ok.ensures.by_caller
