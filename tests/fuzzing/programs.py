@@ -202,7 +202,23 @@ class Writer:
         tests = [["case", "xy"[axis], "%", str(divisor), "==", str(it)] for it in rests[: divisor - self.random.randint(0, 1)]]
         return [token for test in [*tests, ["else"]] for token in (*test, ":", *self.template(stage.spans), ";")]
 
+    def copy(self, spans: tuple[Span, Span]) -> list[str]:
+        """What readers may read through: a neighbour of a point, a number, or what finishes the point of one stage."""
+        stage = self.random.choice([*self.readable, self.readable[-1]])
+        kind = self.random.random()
+        if kind < 0.1:
+            return [str(self.random.choice([0, 1, 255, 2147483647]))]
+        if kind < 0.6 or self.room(spans[0], stage.spans[0]) < 0 or self.room(spans[1], stage.spans[1]) < 0:
+            return self.near(stage, spans)
+        read = [stage.name, "(", "x", ",", "y", ")"]
+        marks = [[*read, *it] for it in (["/", "3"], [">>", "2"], ["+", "1"], ["*", "x"])]
+        calls = [[word, "(", *read, ",", *rest, ")"] for word, rest in (("clamp", ["0", ",", "255"]), ("min", ["99"]), ("max", ["y"]))]
+        point = ["stencil", "(", stage.name, ",", self.random.choice(["1", "4"]), ",", "[", "[", self.random.choice(["1", "3"]), "]", "]", ")"]
+        return self.random.choice([*marks, *calls, point])
+
     def function(self, stage: Stage) -> list[str]:
+        if self.random.random() < 0.2:
+            return ["func", stage.name, *self.variables(stage.spans), "{", "else", ":", *self.copy(stage.spans), ";", "}"]
         if self.is_templated and self.random.random() < 0.85:
             body = self.phases(stage) if self.random.random() < 0.2 else ["else", ":", *self.template(stage.spans), ";"]
             return ["func", stage.name, *self.variables(stage.spans), "{", *body, "}"]
@@ -219,7 +235,9 @@ class Writer:
         least = self.random.randint(-3, 3)
         bins = self.span(Span(least, least + self.random.randint(0, 9)))
         head = ["accum", name, *bins, "over", *self.variables(stage.spans), self.random.choice(OPERATORS)]
-        return [*head, *self.expression(stage.spans, 2), "at", *self.expression(stage.spans, 2), ";"]
+        point = [stage.name, "(", "x", ",", "y", ")"]
+        value, bin_ = (point if self.random.random() < 0.3 else self.expression(stage.spans, 2) for _ in range(2))
+        return [*head, *value, "at", *bin_, ";"]
 
     def program(self) -> Program:
         planes = ["a", "b", "c"][: self.picture.planes]

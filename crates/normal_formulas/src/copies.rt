@@ -20,8 +20,12 @@ pub(crate) fn copy_normal_formula_in_box(
 }
 
 /// A copy of a formula.
+///
+/// # Errors
+///
+/// Fails only where memory is refused.
 #[cycle(copy_normal_formula)]
-pub(crate) fn copy_normal_formula(alloc: Global, formula: &Formula) -> Result<Formula, AllocError>
+pub fn copy_normal_formula(alloc: Global, formula: &Formula) -> Result<Formula, AllocError>
     ensures { IfOk result (λ copy. formula_view copy ≡ formula_view formula.now) }
 {
     match formula {

@@ -16,4 +16,5 @@ mod relations;
 mod same;
 mod sums;
 
+pub use copies::copy_normal_formula;
 pub use normal::normalize_formula;

@@ -1,6 +1,7 @@
 pub mod Zipped
-pub mod Ranked
+pub mod Formulas
 pub mod Reading
 pub mod Valued
+pub mod Whole
 pub mod StayingJobs
 pub mod Answering

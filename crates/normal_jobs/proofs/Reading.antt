@@ -6,35 +6,16 @@ use Rattle.domains.specs.Area.{HoldsPoint}
 use Rattle.domains.specs.Index.{index_at}
 use Rattle.domains.specs.declared.area.Area.{Area}
 use Rattle.job.specs.Formula.{Formula}
-use Rattle.job.specs.Pipeline.{JobCase, Body, plane, function, accumulator, Stage}
+use Rattle.job.specs.Pipeline.{JobCase, Body, plane, function, accumulator, Stage, Pipeline}
 use Rattle.job.specs.Values.{kernel_row, kernel_column}
 use Rattle.job.specs.Reads.{Read, point, window, EachRead, EachTaken, CaseReads, BodyReads}
-use Rattle.job.specs.WellFormed.{IsReadable, IsValued}
+use Rattle.job.specs.WellFormed.{IsJob, IsReadable, IsValued}
 use Rattle.job.proofs.Solving.{BodyReads-both}
-use Rattle.normal_formulas.proofs.Standing.{stands}
+use Rattle.joined_formulas.specs.Joins.{AreFormulasOf, Joins}
+use Rattle.joined_formulas.specs.StandsIn.{StandsIn}
+use Rattle.joined_formulas.specs.declared.known.StageFormula.{StageFormula}
 use Rattle.normal_jobs.specs.StandIns.{StandsForCase, StandsForOther, StandsForBody, StandsForStage, StandForStages}
 use Rattle.normal_jobs.proofs.Zipped.{After, find_after, zip_all}
-
--- ---- stages that can be read
-
-pub valued_stays : (b d : Body) → StandsForBody b d → IsValued b → IsValued d
-valued_stays (plane n) (plane m) z is = tt
-valued_stays (plane n) (function others other) z is = absurd z
-valued_stays (plane n) (accumulator other ends amount place) z is = absurd z
-valued_stays (function cases otherwise) (plane m) z is = absurd z
-valued_stays (function cases otherwise) (function others other) z is = tt
-valued_stays (function cases otherwise) (accumulator other ends amount place) z is = absurd z
-valued_stays (accumulator fold bins value bin) d z is = absurd is
-
-pub readable_stays : (ss ts : List Stage) → StandForStages ss ts → (g : ℕ) (r c : ℤ) → IsReadable ss g r c → IsReadable ts g r c
-readable_stays ss ts z g r c x =
-    let found : After StandsForStage ts g x.stage = find_after StandsForStage ss ts z g x.stage x.there in
-    record {
-      stage = found.item;
-      there = found.there;
-      valued = valued_stays x.stage.body found.item.body found.related.body x.valued;
-      within = subst (λ (a : Area). HoldsPoint a r c) (sym found.related.domain) x.within;
-    }
 
 -- ---- what is read
 
@@ -50,30 +31,62 @@ pub reads_weaker : (P Q : ℕ → ℤ → ℤ → Type 0) → ((g : ℕ) (r c : 
 reads_weaker P Q f body r c reads =
     BodyReads-both P Q (λ x. Unit {0}) body r c (λ x static. taken_weaker P Q f r c x) (λ k d within. tt) reads
 
-case_reads_stay : (P : ℕ → ℤ → ℤ → Type 0) (r c : ℤ) (p q : JobCase) → StandsForCase p q → CaseReads P p r c → CaseReads P q r c
-case_reads_stay P r c p q z reads = λ box is inside. (stands p.formula q.formula z.formula).reads P r c (reads box (sym z.box ∙ is) inside)
+module _ (known : List StageFormula) where
+  -- ---- stages that can be read
 
-other_reads_stay : (P : ℕ → ℤ → ℤ → Type 0) (r c : ℤ) (o u : Option Formula) → StandsForOther o u → ForSome o (λ f. EachRead P f r c)
-    → ForSome u (λ f. EachRead P f r c)
-other_reads_stay P r c None None z reads = λ f is. absurd (none-some f is)
-other_reads_stay P r c None (Some g) z reads = absurd z
-other_reads_stay P r c (Some f) None z reads = absurd z
-other_reads_stay P r c (Some f) (Some g) z reads =
-    λ h is. subst (λ (k : Formula). EachRead P k r c) (same_Some g h is) ((stands f g z).reads P r c (reads f refl))
+  pub valued_stays : (b d : Body) → StandsForBody known b d → IsValued b → IsValued d
+  valued_stays (plane n) (plane m) z is = tt
+  valued_stays (plane n) (function others other) z is = absurd z
+  valued_stays (plane n) (accumulator other ends amount place) z is = absurd z
+  valued_stays (function cases otherwise) (plane m) z is = absurd z
+  valued_stays (function cases otherwise) (function others other) z is = tt
+  valued_stays (function cases otherwise) (accumulator other ends amount place) z is = absurd z
+  valued_stays (accumulator fold bins value bin) d z is = absurd is
 
-pub body_reads_stay : (P : ℕ → ℤ → ℤ → Type 0) (r c : ℤ) (b d : Body) → StandsForBody b d → BodyReads P b r c → BodyReads P d r c
-body_reads_stay P r c (plane n) (plane m) z reads = tt
-body_reads_stay P r c (plane n) (function others other) z reads = absurd z
-body_reads_stay P r c (plane n) (accumulator other ends amount place) z reads = absurd z
-body_reads_stay P r c (function cases otherwise) (plane m) z reads = absurd z
-body_reads_stay P r c (function cases otherwise) (function others other) z reads = (
-  zip_all StandsForCase (λ p. CaseReads P p r c) (λ q. CaseReads P q r c) (case_reads_stay P r c) cases others z.0 reads.0,
-  other_reads_stay P r c otherwise other z.1 reads.1,
-)
-body_reads_stay P r c (function cases otherwise) (accumulator other ends amount place) z reads = absurd z
-body_reads_stay P r c (accumulator fold bins value bin) (plane m) z reads = absurd z
-body_reads_stay P r c (accumulator fold bins value bin) (function others other) z reads = absurd z
-body_reads_stay P r c (accumulator fold bins value bin) (accumulator other ends amount place) z reads = (
-  (stands value amount z.amounts).reads P r c reads.0,
-  (stands bin place z.places).reads P r c reads.1,
-)
+  pub valued_back : (b d : Body) → StandsForBody known b d → IsValued d → IsValued b
+  valued_back (plane n) d z is = tt
+  valued_back (function cases otherwise) d z is = tt
+  valued_back (accumulator fold bins value bin) (plane m) z is = absurd z
+  valued_back (accumulator fold bins value bin) (function others other) z is = absurd z
+  valued_back (accumulator fold bins value bin) (accumulator other ends amount place) z is = absurd is
+
+  pub readable_stays : (ss ts : List Stage) → StandForStages known ss ts → (g : ℕ) (r c : ℤ) → IsReadable ss g r c → IsReadable ts g r c
+  readable_stays ss ts z g r c x =
+      let found : After (StandsForStage known) ts g x.stage = find_after (StandsForStage known) ss ts z g x.stage x.there in
+      record {
+        stage = found.item;
+        there = found.there;
+        valued = valued_stays x.stage.body found.item.body found.related.body x.valued;
+        within = subst (λ (a : Area). HoldsPoint a r c) (sym found.related.domain) x.within;
+      }
+
+  -- ---- what is read in the job
+
+  module _ (job : Pipeline) (whole : IsJob job) (of : AreFormulasOf job known) where
+    case_reads_stay : (r c : ℤ) (p q : JobCase) → StandsForCase known p q → CaseReads (IsReadable job.stages) p r c → CaseReads (IsReadable job.stages) q r c
+    case_reads_stay r c p q z reads = λ box is inside. (z.formula.stands job whole of).reads r c (reads box (sym z.box ∙ is) inside)
+
+    other_reads_stay : (r c : ℤ) (o u : Option Formula) → StandsForOther known o u → ForSome o (λ f. EachRead (IsReadable job.stages) f r c)
+        → ForSome u (λ f. EachRead (IsReadable job.stages) f r c)
+    other_reads_stay r c None None z reads = λ f is. absurd (none-some f is)
+    other_reads_stay r c None (Some g) z reads = absurd z
+    other_reads_stay r c (Some f) None z reads = absurd z
+    other_reads_stay r c (Some f) (Some g) z reads =
+        λ h is. subst (λ (k : Formula). EachRead (IsReadable job.stages) k r c) (same_Some g h is) ((z.stands job whole of).reads r c (reads f refl))
+
+    pub body_reads_stay : (r c : ℤ) (b d : Body) → StandsForBody known b d → BodyReads (IsReadable job.stages) b r c → BodyReads (IsReadable job.stages) d r c
+    body_reads_stay r c (plane n) (plane m) z reads = tt
+    body_reads_stay r c (plane n) (function others other) z reads = absurd z
+    body_reads_stay r c (plane n) (accumulator other ends amount place) z reads = absurd z
+    body_reads_stay r c (function cases otherwise) (plane m) z reads = absurd z
+    body_reads_stay r c (function cases otherwise) (function others other) z reads = (
+      zip_all (StandsForCase known) (λ p. CaseReads (IsReadable job.stages) p r c) (λ q. CaseReads (IsReadable job.stages) q r c) (case_reads_stay r c) cases others z.0 reads.0,
+      other_reads_stay r c otherwise other z.1 reads.1,
+    )
+    body_reads_stay r c (function cases otherwise) (accumulator other ends amount place) z reads = absurd z
+    body_reads_stay r c (accumulator fold bins value bin) (plane m) z reads = absurd z
+    body_reads_stay r c (accumulator fold bins value bin) (function others other) z reads = absurd z
+    body_reads_stay r c (accumulator fold bins value bin) (accumulator other ends amount place) z reads = (
+      (z.amounts.stands job whole of).reads r c reads.0,
+      (z.places.stands job whole of).reads r c reads.1,
+    )

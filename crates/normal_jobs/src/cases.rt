@@ -1,5 +1,5 @@
 #![tactic(auto)]
-//! Cases of functions whose formulas are in normal form.
+//! Cases of functions whose formulas are joined and in normal form.
 
 ghost use Rattle.std.specs.Prelude.{◌≡◌, IfOk, map};
 ghost use Rattle.std.specs.List.{AllZip};
@@ -8,25 +8,33 @@ ghost use Rattle.job.specs.Views.{case_view, formula_view};
 ghost use Rattle.normal_jobs.specs.StandIns.{StandsForCase, StandsForOther};
 
 use job::{Formula, Function, JobCase};
-use normal_formulas::normalize_formula;
+use joined_formulas::{StageFormula, make_joined_formula};
 use std::alloc::{AllocError, Global};
 
 // The case with its formula in normal form.
-fn make_normal_case(alloc: Global, case: &JobCase) -> Result<JobCase, AllocError>
-    ensures { IfOk result (λ made. StandsForCase (case_view case.now) (case_view made)) }
+fn make_normal_case(
+    alloc: Global,
+    known: &[StageFormula],
+    case: &JobCase,
+) -> Result<JobCase, AllocError>
+    ensures { IfOk result (λ made. StandsForCase known.now (case_view case.now) (case_view made)) }
 {
-    let formula = normalize_formula(alloc, case.formula())?;
+    let formula = make_joined_formula(alloc, known, case.formula())?;
     JobCase::new(alloc, *case.area(), case.tests().to_vec(alloc)?, formula)
 }
 
 // All cases of a function.
-fn make_normal_cases(alloc: Global, cases: &[JobCase]) -> Result<Vec<JobCase>, AllocError>
-    ensures { IfOk result (λ made. AllZip StandsForCase (map case_view cases.now)
+fn make_normal_cases(
+    alloc: Global,
+    known: &[StageFormula],
+    cases: &[JobCase],
+) -> Result<Vec<JobCase>, AllocError>
+    ensures { IfOk result (λ made. AllZip (StandsForCase known.now) (map case_view cases.now)
         (map case_view made.items)) }
 {
     let mut made = Vec::with_capacity(alloc, cases.len())?;
     for case in cases {
-        made.push(make_normal_case(alloc, case)?)?;
+        made.push(make_normal_case(alloc, known, case)?)?;
     }
     Ok(made)
 }
@@ -34,33 +42,35 @@ fn make_normal_cases(alloc: Global, cases: &[JobCase]) -> Result<Vec<JobCase>, A
 // The formula outside the cases, if there is one.
 fn make_normal_otherwise(
     alloc: Global,
+    known: &[StageFormula],
     otherwise: &Option<Formula>,
 ) -> Result<Option<Formula>, AllocError>
-    ensures { IfOk result (λ made. StandsForOther (option_map formula_view otherwise.now)
+    ensures { IfOk result (λ made. StandsForOther known.now (option_map formula_view otherwise.now)
         (option_map formula_view made)) }
 {
     match otherwise {
-        Some(formula) => Ok(Some(normalize_formula(alloc, formula)?)),
+        Some(formula) => Ok(Some(make_joined_formula(alloc, known, formula)?)),
         None => Ok(None),
     }
 }
 
-/// The function with its formulas in normal form.
+/// The function with its formulas joined and in normal form.
 ///
 /// # Errors
 ///
 /// Fails only where memory is refused.
 pub(crate) fn make_normal_function(
     alloc: Global,
+    known: &[StageFormula],
     function: &Function,
 ) -> Result<Function, AllocError>
-    ensures cases { IfOk result (λ made. AllZip StandsForCase
+    ensures cases { IfOk result (λ made. AllZip (StandsForCase known.now)
         (map case_view function.now.cases.items) (map case_view made.cases.items)) }
-    ensures other { IfOk result (λ made. StandsForOther
+    ensures other { IfOk result (λ made. StandsForOther known.now
         (option_map formula_view function.now.otherwise)
         (option_map formula_view made.otherwise)) }
 {
-    let cases = make_normal_cases(alloc, function.cases())?;
-    let otherwise = make_normal_otherwise(alloc, function.otherwise())?;
+    let cases = make_normal_cases(alloc, known, function.cases())?;
+    let otherwise = make_normal_otherwise(alloc, known, function.otherwise())?;
     Function::new(alloc, cases, otherwise)
 }

@@ -1,15 +1,43 @@
 #![tactic(auto)]
-//! Jobs whose formulas are in normal form.
+//! Jobs whose formulas are joined and in normal form.
 
-ghost use Rattle.std.specs.Prelude.{◌≡◌, IfOk};
+ghost use Rattle.std.specs.Prelude.{◌≡◌, IfOk, IfSome, map};
 ghost use Rattle.job.specs.Kept.{pipeline_in, program_id_in, program_text_in};
+ghost use Rattle.job.specs.Reads.{IsRanked};
+ghost use Rattle.job.specs.Views.{stage_view};
 ghost use Rattle.normal_jobs.specs.Alike.{AnswersAlike};
+ghost use Rattle.normal_jobs.specs.StandIns.{StandForStages};
 
+use crate::joins::list_normal_joins;
+use crate::ranks::{find_normal_ranks, have_normal_ranks};
 use crate::stages::make_normal_stages;
-use job::Job;
+use job::{Job, Stage};
+use joined_formulas::StageFormula;
 use std::alloc::{AllocError, Global};
 
-/// The job with all formulas in normal form. It answers what the job answers, keeps its text and has its identities.
+// The stages of a job in normal form, if they have the ranks that they are given.
+fn make_ranked_normal_stages(
+    alloc: Global,
+    known: &[StageFormula],
+    stages: &[Stage],
+) -> Result<Option<Vec<Stage>>, AllocError>
+    ensures stages { IfOk result (λ found. IfSome found (λ made. StandForStages known.now (map stage_view stages.now)
+        (map stage_view made.items))) }
+    ensures ranks { IfOk result (λ found. IfSome found (λ made. IsRanked (map stage_view made.items))) }
+{
+    let made = make_normal_stages(alloc, known, stages, &[])?;
+    if have_normal_ranks(&made) {
+        return Ok(Some(made));
+    }
+    let ranks = find_normal_ranks(alloc, &made)?;
+    let made = make_normal_stages(alloc, known, stages, &ranks)?;
+    if have_normal_ranks(&made) {
+        return Ok(Some(made));
+    }
+    Ok(None)
+}
+
+/// The job with all formulas joined and in normal form. It answers what the job answers, keeps its text and has its identities.
 ///
 /// # Errors
 ///
@@ -19,6 +47,9 @@ pub fn make_normal_job(alloc: Global, job: Job) -> Result<Job, AllocError>
     ensures text { IfOk result (λ made. program_text_in made ≡ program_text_in job) }
     ensures program { IfOk result (λ made. program_id_in made ≡ program_id_in job) }
 {
-    let stages = make_normal_stages(alloc, job.stages())?;
-    Ok(job.with_stages(stages))
+    let known = list_normal_joins(alloc, &job)?;
+    match make_ranked_normal_stages(alloc, &known, job.stages())? {
+        Some(stages) => Ok(job.with_stages(stages)),
+        None => Ok(job),
+    }
 }

@@ -5,4 +5,4 @@ use Rattle.normal_jobs.specs.StandIns.{StandsForCase}
 use Rattle.normal_jobs.proofs.cases.make_normal_cases.Given as goal
 
 abbrev pub invariant-loop-case : goal.invariant-loop-case
-invariant-loop-case l = AllZip StandsForCase (map case_view (take l.case-index l.cases)) (map case_view l.made.items)
+invariant-loop-case l = AllZip (StandsForCase l.known) (map case_view (take l.case-index l.cases)) (map case_view l.made.items)

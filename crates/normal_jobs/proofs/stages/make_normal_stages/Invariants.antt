@@ -4,4 +4,4 @@ use Rattle.normal_jobs.specs.StandIns.{StandForStages}
 use Rattle.normal_jobs.proofs.stages.make_normal_stages.Given as goal
 
 abbrev pub invariant-loop-stage : goal.invariant-loop-stage
-invariant-loop-stage l = StandForStages (map stage_view (take l.stage-index l.stages)) (map stage_view l.made.items)
+invariant-loop-stage l = StandForStages l.known (map stage_view (take l.stage-index l.stages)) (map stage_view l.made.items)

@@ -1,0 +1,4 @@
+pub mod Parts
+pub mod StageFormulas
+pub mod Composed
+pub mod Points

@@ -1,0 +1,3 @@
+pub mod StandsIn
+pub mod Joins
+pub mod inside

@@ -1,0 +1,3 @@
+-- Definitions that only clauses of inner functions cite.
+pub mod Found
+pub mod Moved

@@ -1,0 +1,12 @@
+//! Formulas in which reads of stages that are one formula at all points become this formula.
+//!
+//! Words: joined formula, join formula, joined read, join read, join stencil, joined index, joined indices, joined source, joined kernel, own
+//! index, stage formula.
+#![tactic(auto)]
+
+mod indices;
+mod joined;
+mod known;
+
+pub use joined::{join_formula, make_joined_formula};
+pub use known::StageFormula;

@@ -1,0 +1,105 @@
+#![tactic(auto)]
+//! Ranks of stages whose reads changed.
+
+ghost use Rattle.std.specs.Prelude.{◌≡◌, IsTrue, map};
+ghost use Rattle.domains.specs.Greatest.{greatest};
+ghost use Rattle.job.specs.Pipeline.{rank_of};
+ghost use Rattle.job.specs.Reads.{IsRanked, rank_by, stage_read};
+ghost use Rattle.job.specs.ReadViews.{read_view};
+ghost use Rattle.job.specs.Views.{stage_view};
+
+use job::{Body, Read, Stage};
+use std::alloc::{AllocError, Global};
+
+// The greatest rank of the stages that are read; 0 where nothing is.
+fn find_greatest_normal_rank(stages: &[Stage], reads: &[Read]) -> usize
+    ensures { result ≡ greatest
+        (map (λ x. rank_of (map stage_view stages.now) (stage_read (read_view x))) reads.now) }
+{
+    let mut greatest = 0;
+    for read in reads {
+        greatest = find_normal_rank(stages, read.stage()).max(greatest);
+    }
+    greatest
+}
+
+// The rank of the stage of this number.
+fn find_normal_rank(stages: &[Stage], number: usize) -> usize
+    ensures { result ≡ rank_of (map stage_view stages.now) number }
+{
+    match stages.get(number) {
+        Some(stage) => stage.rank(),
+        None => 0,
+    }
+}
+
+// Whether a stage has the rank that it has by those which it reads.
+fn has_normal_rank(stages: &[Stage], stage: &Stage) -> bool
+    ensures { IsTrue result → (stage_view stage.now).rank
+        ≡ rank_by (map stage_view stages.now) (stage_view stage.now).body }
+{
+    match stage.body() {
+        Body::Plane(_) => stage.rank() == 0,
+        Body::Function(_) | Body::Accumulator(_) => {
+            let below = find_greatest_normal_rank(stages, stage.reads());
+            stage.rank().checked_sub(1) == Some(below)
+        }
+    }
+}
+
+/// Whether each stage has the rank that it has by those which it reads.
+pub(crate) fn have_normal_ranks(stages: &[Stage]) -> bool
+    ensures { IsTrue result → IsRanked (map stage_view stages.now) }
+{
+    for stage in stages {
+        if !has_normal_rank(stages, stage) {
+            return false;
+        }
+    }
+    true
+}
+
+// The rank of a stage by those of the stages that it reads.
+fn find_normal_rank_of_stage(ranks: &[usize], stage: &Stage) -> usize {
+    let mut rank = 1;
+    for read in stage.reads() {
+        if let Some(below) = ranks.get(read.stage()) {
+            rank = below.saturating_add(1).max(rank);
+        }
+    }
+    match stage.body() {
+        Body::Plane(_) => 0,
+        Body::Function(_) | Body::Accumulator(_) => rank,
+    }
+}
+
+// Writes the ranks of the stages that had this rank.
+fn write_normal_ranks(ranks: &mut Vec<usize>, stages: &[Stage], rank: usize) {
+    for (number, stage) in stages.iter().enumerate() {
+        if stage.rank() == rank {
+            let found = find_normal_rank_of_stage(ranks, stage);
+            if let Some(own) = ranks.get_mut(number) {
+                *own = found;
+            }
+        }
+    }
+}
+
+/// The ranks of stages that read what had lower ranks.
+///
+/// # Errors
+///
+/// Fails only where memory is refused.
+pub(crate) fn find_normal_ranks(
+    alloc: Global,
+    stages: &[Stage],
+) -> Result<Vec<usize>, AllocError> {
+    let mut ranks = Vec::with_capacity(alloc, stages.len())?;
+    for stage in stages {
+        ranks.push(stage.rank())?;
+    }
+    for rank in 0..=stages.len() {
+        write_normal_ranks(&mut ranks, stages, rank);
+    }
+    Ok(ranks)
+}
