@@ -1,7 +1,6 @@
 -- A job whose stages stand for those of another one answers what that answers: the values of the one solve the other.
 use Rattle.std.proofs.Common.{ℕ, ◌≡◌, ℤ, List, [], ◌∷◌, Option, Some, None, FitsSigned, w32, map, ap, sym, subst, ◌∙◌, refl}
 use Rattle.std.specs.Prelude.{slice_get, slice_index}
-use Rattle.std.specs.List.{AllZip}
 use Rattle.std.specs.Option.{ForSome, option_map, option_map_or}
 use Rattle.std.proofs.lemmas.List.Elements.{All-weaker}
 use Rattle.domains.specs.Area.{HoldsPoint, IsArea, points_of}
@@ -9,7 +8,7 @@ use Rattle.domains.specs.declared.area.Area.{Area}
 use Rattle.job.specs.Answers.{height_of, width_of, picture_of, sample_of, samples, samples_over}
 use Rattle.job.specs.OtherStages.{with_stages}
 use Rattle.job.specs.Pipeline.{Body, plane, function, accumulator, Stage, Output, Pipeline}
-use Rattle.job.specs.Reads.{BodyReads, IsRanked, SameAt}
+use Rattle.job.specs.Reads.{IsRanked, SameAt}
 use Rattle.job.specs.Totals.{body_totals}
 use Rattle.job.specs.Values.{value}
 use Rattle.job.specs.WellFormed.{IsFunction, IsJob, IsOutput, IsOutputPlane, IsReadable, IsStage, IsValued, Solves}
@@ -17,7 +16,7 @@ use Rattle.job.proofs.Solving.{near_fits, one_solution, ranked_is, value_solves}
 use Rattle.job.proofs.TotalLaws.{body_totals-agrees, points_inside}
 use Rattle.joined_formulas.specs.Joins.{AreFormulasOf}
 use Rattle.joined_formulas.specs.declared.known.StageFormula.{StageFormula}
-use Rattle.normal_jobs.specs.Alike.{AnswersAlike, IsSameKind, LookAlike, LooksAlike}
+use Rattle.normal_jobs.specs.Alike.{AnswersAlike, IsSameKind, LookAlike}
 use Rattle.normal_jobs.specs.StandIns.{StandsForBody, StandsForStage, StandForStages}
 use Rattle.normal_jobs.proofs.StayingJobs.{height_stays, job_stays, width_stays}
 use Rattle.normal_jobs.proofs.Reading.{body_reads_stay, readable_stays, reads_weaker, valued_back}

@@ -11,8 +11,7 @@ use Rattle.job.specs.Values.{kernel_row, kernel_column}
 use Rattle.job.specs.Reads.{Read, point, window, EachRead, EachTaken, CaseReads, BodyReads}
 use Rattle.job.specs.WellFormed.{IsJob, IsReadable, IsValued}
 use Rattle.job.proofs.Solving.{BodyReads-both}
-use Rattle.joined_formulas.specs.Joins.{AreFormulasOf, Joins}
-use Rattle.joined_formulas.specs.StandsIn.{StandsIn}
+use Rattle.joined_formulas.specs.Joins.{AreFormulasOf}
 use Rattle.joined_formulas.specs.declared.known.StageFormula.{StageFormula}
 use Rattle.normal_jobs.specs.StandIns.{StandsForCase, StandsForOther, StandsForBody, StandsForStage, StandForStages}
 use Rattle.normal_jobs.proofs.Zipped.{After, find_after, zip_all}

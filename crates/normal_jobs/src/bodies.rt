@@ -1,13 +1,12 @@
 #![tactic(auto)]
 //! What stages are at each point, with their formulas joined and in normal form.
 
-ghost use Rattle.std.specs.Prelude.{IfOk, map};
-ghost use Rattle.std.specs.List.{AllZip};
-ghost use Rattle.job.specs.Views.{body_view, formula_view, stage_view};
-ghost use Rattle.normal_jobs.specs.StandIns.{StandsForBody, StandsForSums, StandsForStageBody};
+ghost use Rattle.std.specs.Prelude.{IfOk};
+ghost use Rattle.job.specs.Views.{body_view, formula_view};
+ghost use Rattle.normal_jobs.specs.StandIns.{StandsForBody, StandsForSums};
 
 use crate::cases::make_normal_function;
-use job::{Accumulator, Body, Stage};
+use job::{Accumulator, Body};
 use joined_formulas::{StageFormula, make_joined_formula};
 use std::alloc::{AllocError, Global};
 

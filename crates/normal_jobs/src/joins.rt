@@ -48,13 +48,14 @@ fn is_normal_join(job: &Job, uses: &[NormalUse], number: usize, formula: &Formul
     }
 }
 
-// Adds the formula of the stage of this number to what is known, if it is joined.
+// Adds the formula of the stage of this number to what is known, if it has this rank and is joined.
 fn push_normal_join(
     alloc: Global,
     job: &Job,
     uses: &[NormalUse],
     known: &mut Vec<StageFormula>,
     number: usize,
+    rank: usize,
 ) -> Result<(), AllocError>
     ensures { OnOk result (AreFormulasOf (pipeline_in job.now) known.old.items
         → AreFormulasOf (pipeline_in job.now) known.new.items) }
@@ -62,6 +63,9 @@ fn push_normal_join(
     let Some(stage) = job.stage(number) else {
         return Ok(());
     };
+    if stage.rank() != rank {
+        return Ok(());
+    }
     let Some(formula) = find_only_normal_formula(stage.body()) else {
         return Ok(());
     };
@@ -87,9 +91,7 @@ fn push_normal_joins_of_rank(
         → AreFormulasOf (pipeline_in job.now) known.new.items) }
 {
     for number in 0..job.stages().len() {
-        if job.rank(number) == Some(rank) {
-            push_normal_join(alloc, job, uses, known, number)?;
-        }
+        push_normal_join(alloc, job, uses, known, number, rank)?;
     }
     Ok(())
 }
@@ -104,8 +106,8 @@ pub(crate) fn list_normal_joins(alloc: Global, job: &Job) -> Result<Vec<StageFor
 {
     let uses = count_normal_uses(alloc, job)?;
     let mut known = Vec::new(alloc);
-    for rank in 1..=job.stages().len() {
-        push_normal_joins_of_rank(alloc, job, &uses, &mut known, rank)?;
+    for below in 0..job.stages().len() {
+        push_normal_joins_of_rank(alloc, job, &uses, &mut known, below + 1)?;
     }
     Ok(known)
 }

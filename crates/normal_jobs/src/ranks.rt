@@ -14,7 +14,7 @@ use std::alloc::{AllocError, Global};
 // The greatest rank of the stages that are read; 0 where nothing is.
 fn find_greatest_normal_rank(stages: &[Stage], reads: &[Read]) -> usize
     ensures { result ≡ greatest
-        (map (λ x. rank_of (map stage_view stages.now) (stage_read (read_view x))) reads.now) }
+        (map (λ x. rank_of (map stage_view stages.now) (stage_read x)) (map read_view reads.now)) }
 {
     let mut greatest = 0;
     for read in reads {

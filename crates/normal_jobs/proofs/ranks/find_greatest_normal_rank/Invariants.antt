@@ -8,5 +8,5 @@ use Rattle.normal_jobs.proofs.ranks.find_greatest_normal_rank.Given as goal
 
 abbrev pub invariant-loop-read : goal.invariant-loop-read
 invariant-loop-read l =
-    max l.greatest (greatest (map (λ x. rank_of (map stage_view l.stages) (stage_read (read_view x))) (drop l.read-index l.reads)))
-    ≡ greatest (map (λ x. rank_of (map stage_view l.stages) (stage_read (read_view x))) l.reads)
+    max l.greatest (greatest (map (λ x. rank_of (map stage_view l.stages) (stage_read x)) (map read_view (drop l.read-index l.reads))))
+    ≡ greatest (map (λ x. rank_of (map stage_view l.stages) (stage_read x)) (map read_view l.reads))
