@@ -27,8 +27,11 @@ more : (z a d : ℤ) → pos 0 <ℤ d → floor_div (z +ℤ a *ℤ d) d ≡ floo
 more z a d above =
     let own = floor_splits z d above in
     sym (floor_only (z +ℤ a *ℤ d) d (floor_div z d +ℤ a) (floor_rem z d) above
-    (record { split = parted z (floor_div z d *ℤ d) (a *ℤ d) (floor_rem z d) own.split ∙ ap (λ (p : ℤ). p +ℤ floor_rem z d) (sym (sum_times (floor_div z d) a d));
-    least = own.least; below = own.below })).0
+    (record {
+      split = parted z (floor_div z d *ℤ d) (a *ℤ d) (floor_rem z d) own.split ∙ ap (λ (p : ℤ). p +ℤ floor_rem z d) (sym (sum_times (floor_div z d) a d));
+      least = own.least;
+      below = own.below;
+    })).0
   where
     parted : (u p q r : ℤ) → u ≡ p +ℤ r → u +ℤ q ≡ p +ℤ q +ℤ r
     parted u p q r e = omega (arith, ints, e)

@@ -1,7 +1,7 @@
 //! Formulas in which reads of stages that are one formula at all points become this formula.
 //!
 //! Words: joined formula, join formula, joined read, join read, join stencil, joined index, joined indices, joined source, joined kernel, own
-//! index, stage formula.
+//! index, own stencil, wide stencil, stage formula.
 #![tactic(auto)]
 
 mod indices;

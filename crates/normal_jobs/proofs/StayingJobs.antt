@@ -81,7 +81,6 @@ module _ (known : List StageFormula) where
     -- ---- stages and outputs
 
     module _ (whole : IsJob job) (of : AreFormulasOf job known) (ranked : IsRanked ts) where
-
       stage_stays : (g : ℕ) (s t : Stage) → slice_get ts g ≡ Some t → StandsForStage known s t → IsStage job s → IsStage (with_stages ts job) t
       stage_stays g s t there stands is =
           record {

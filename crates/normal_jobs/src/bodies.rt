@@ -40,7 +40,9 @@ pub(crate) fn make_normal_body(
 {
     match body {
         Body::Plane(plane) => Ok(Body::Plane(*plane)),
-        Body::Function(function) => Ok(Body::Function(make_normal_function(alloc, known, function)?)),
+        Body::Function(function) => Ok(Body::Function(make_normal_function(
+            alloc, known, function,
+        )?)),
         Body::Accumulator(accumulator) => Ok(Body::Accumulator(make_normal_accumulator(
             alloc,
             known,

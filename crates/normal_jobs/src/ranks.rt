@@ -90,10 +90,7 @@ fn write_normal_ranks(ranks: &mut Vec<usize>, stages: &[Stage], rank: usize) {
 /// # Errors
 ///
 /// Fails only where memory is refused.
-pub(crate) fn find_normal_ranks(
-    alloc: Global,
-    stages: &[Stage],
-) -> Result<Vec<usize>, AllocError> {
+pub(crate) fn find_normal_ranks(alloc: Global, stages: &[Stage]) -> Result<Vec<usize>, AllocError> {
     let mut ranks = Vec::with_capacity(alloc, stages.len())?;
     for stage in stages {
         ranks.push(stage.rank())?;

@@ -22,27 +22,27 @@ pub(crate) struct NormalUse {
 const MOST_PARTS: usize = 16;
 
 // Whether a read is one at the point itself.
-fn is_normal_own_read(read: &Read) -> bool {
+fn is_normal_use_in_place(read: &Read) -> bool {
     match read {
-        Read::Point(_, row, column) => is_normal_own_index(row) && is_normal_own_index(column),
+        Read::Point(_, row, column) => has_no_normal_step(row) && has_no_normal_step(column),
         Read::Window(_, _) => false,
     }
 }
 
 // Whether an index is the number itself.
-fn is_normal_own_index(index: &Index) -> bool {
+fn has_no_normal_step(index: &Index) -> bool {
     index.mul() == 1 && index.add() == 0 && index.div() == 1
 }
 
 // Counts what a stage reads.
-fn count_normal_reads(uses: &mut Vec<NormalUse>, job: &Job, reader: usize) {
+fn count_normal_uses_of_reader(uses: &mut Vec<NormalUse>, job: &Job, reader: usize) {
     let Some(stage) = job.stage(reader) else {
         return;
     };
     let is_accumulator = stage.kind() == StageKind::Accumulator;
     for read in stage.reads() {
         if let Some(found) = uses.get_mut(read.stage()) {
-            found.count_normal_read(read, reader, is_accumulator);
+            found.count_normal_use(read, reader, is_accumulator);
         }
     }
 }
@@ -72,7 +72,7 @@ pub(crate) fn count_normal_uses(alloc: Global, job: &Job) -> Result<Vec<NormalUs
         })?;
     }
     for reader in 0..job.stages().len() {
-        count_normal_reads(&mut uses, job, reader);
+        count_normal_uses_of_reader(&mut uses, job, reader);
     }
     mark_normal_outputs(&mut uses, job);
     Ok(uses)
@@ -80,14 +80,14 @@ pub(crate) fn count_normal_uses(alloc: Global, job: &Job) -> Result<Vec<NormalUs
 
 impl NormalUse {
     // Counts a read.
-    fn count_normal_read(&mut self, read: &Read, reader: usize, is_accumulator: bool) {
+    fn count_normal_use(&mut self, read: &Read, reader: usize, is_accumulator: bool) {
         self.reader = reader;
         if is_accumulator {
             self.accumulators = self.accumulators.saturating_add(1);
         } else {
             self.functions = self.functions.saturating_add(1);
         }
-        if !is_normal_own_read(read) {
+        if !is_normal_use_in_place(read) {
             self.is_wanted = true;
         }
     }
