@@ -7,7 +7,7 @@ ghost use Rattle.job.specs.Pipeline.{function};
 ghost use Rattle.job.specs.Views.{body_view, formula_view};
 ghost use Rattle.joined_formulas.specs.Joins.{AreFormulasOf};
 
-use crate::uses::{NormalUse, count_normal_uses};
+use crate::uses::{NormalUse, count_normal_uses, is_light_formula};
 use domains::Index;
 use job::{Body, Formula, Job};
 use joined_formulas::{StageFormula, make_joined_formula};
@@ -34,6 +34,14 @@ fn is_normal_copy(formula: &Formula) -> bool {
         Formula::Number(_) => true,
         Formula::Read(_, row, column) => is_normal_step(row) && is_normal_step(column),
         _ => false,
+    }
+}
+
+// Whether a stage may be joined: if not, its formula is brought to its normal form once only.
+fn may_be_normal_join(job: &Job, uses: &[NormalUse], number: usize, formula: &Formula) -> bool {
+    match formula {
+        Formula::Stencil(_, _, kernel) => kernel.as_slice().len() == 1,
+        _ => is_light_formula(formula) || is_normal_join(job, uses, number, formula),
     }
 }
 
@@ -69,6 +77,9 @@ fn push_normal_join(
     let Some(formula) = find_only_normal_formula(stage.body()) else {
         return Ok(());
     };
+    if !may_be_normal_join(job, uses, number, formula) {
+        return Ok(());
+    }
     let formula = make_joined_formula(alloc, known, formula)?;
     if is_normal_join(job, uses, number, &formula) {
         known.push(StageFormula {

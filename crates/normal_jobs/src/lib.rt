@@ -2,7 +2,8 @@
 //!
 //! Words: normal job, normal stage, normal stages, normal body, normal function, only normal formula, normal case, normal cases, normal
 //! otherwise, normal accumulator, normal rank, normal ranks, normal copy, normal join, normal joins, normal step, normal use, normal
-//! uses, normal outputs, normal finish, light formula.
+//! uses, normal outputs, normal finish, light formula, light
+//! divisor, light literal, short formula.
 #![tactic(auto)]
 
 mod bodies;

@@ -21,6 +21,9 @@ pub(crate) struct NormalUse {
 // The most parts of a formula that accumulators compute for themselves.
 const MOST_PARTS: usize = 16;
 
+// The most parts of a formula that another one finishes.
+const MOST_FINISHED: usize = 256;
+
 // Whether a read is one at the point itself.
 fn is_normal_use_in_place(read: &Read) -> bool {
     match read {
@@ -99,30 +102,68 @@ impl NormalUse {
             return false;
         }
         match (self.functions, self.accumulators) {
-            (0, _) => find_rest_of_light_formula(formula, MOST_PARTS).is_some(),
-            (1, 0) => is_normal_finish_of_stage(job, self.reader, stage),
+            (0, _) => is_light_formula(formula),
+            (1, 0) => {
+                is_short_formula(formula) && is_normal_finish_of_stage(job, self.reader, stage)
+            }
             _ => false,
         }
     }
 }
 
-// How many more parts a formula may have, if it has at most so many, and they are light: an operation on rows is enough for each.
-fn find_rest_of_light_formula(formula: &Formula, most: usize) -> Option<usize> {
+/// Whether a formula has few parts, for each of which an operation on rows is enough.
+pub(crate) fn is_light_formula(formula: &Formula) -> bool {
+    find_rest_of_light_formula(formula, MOST_PARTS, true).is_some()
+}
+
+// Whether a formula may stand in another one: so deep formulas grow no deeper.
+fn is_short_formula(formula: &Formula) -> bool {
+    find_rest_of_light_formula(formula, MOST_FINISHED, false).is_some()
+}
+
+// Whether a quotient is a shift.
+fn is_light_divisor(divisor: u32) -> bool {
+    let bits = divisor.trailing_zeros();
+    bits < 31 && 1 << bits == divisor
+}
+
+// Whether an operation with a number of the text takes one pass of a row.
+fn is_light_literal(op: LiteralOp, number: u32) -> bool {
+    match op {
+        LiteralOp::Shl | LiteralOp::Shr => true,
+        LiteralOp::Div => is_light_divisor(number),
+        LiteralOp::Rem => false,
+    }
+}
+
+// How many more parts a formula may have, if it has at most so many; and if, where that is asked, they are light.
+fn find_rest_of_light_formula(formula: &Formula, most: usize, is_light: bool) -> Option<usize> {
     let rest = most.checked_sub(1)?;
     match formula {
         Formula::Number(_) | Formula::Coordinate(_) | Formula::Read(_, _, _) => Some(rest),
-        Formula::Unary(_, of) | Formula::Literal(LiteralOp::Shl | LiteralOp::Shr, of, _) => {
-            find_rest_of_light_formula(of, rest)
+        Formula::Unary(_, of) => find_rest_of_light_formula(of, rest, is_light),
+        Formula::Literal(op, of, number) if !is_light || is_light_literal(*op, *number) => {
+            find_rest_of_light_formula(of, rest, is_light)
         }
         Formula::Binary(_, left, right) => {
-            let rest = find_rest_of_light_formula(left, rest)?;
-            find_rest_of_light_formula(right, rest)
+            let rest = find_rest_of_light_formula(left, rest, is_light)?;
+            find_rest_of_light_formula(right, rest, is_light)
         }
         Formula::Ternary(_, first, second, third) => {
-            let rest = find_rest_of_light_formula(first, rest)?;
-            let rest = find_rest_of_light_formula(second, rest)?;
-            find_rest_of_light_formula(third, rest)
+            let rest = find_rest_of_light_formula(first, rest, is_light)?;
+            let rest = find_rest_of_light_formula(second, rest, is_light)?;
+            find_rest_of_light_formula(third, rest, is_light)
         }
+        Formula::Select(left, _, right, then, otherwise) if !is_light => {
+            let rest = find_rest_of_light_formula(left, rest, is_light)?;
+            let rest = find_rest_of_light_formula(right, rest, is_light)?;
+            let rest = find_rest_of_light_formula(then, rest, is_light)?;
+            find_rest_of_light_formula(otherwise, rest, is_light)
+        }
+        Formula::Lookup(_, index) if !is_light => {
+            find_rest_of_light_formula(index, rest, is_light)
+        }
+        Formula::Stencil(_, _, _) if !is_light => Some(rest),
         _ => None,
     }
 }
