@@ -1,23 +1,16 @@
 -- Which rows of accumulators are accumulated.
-use Rattle.std.specs.Prelude.{ℕ, ◌≡◌, List, Some, length, filter, slice_get, slice_set}
-use Rattle.std.specs.List.{range_with_len}
+use Rattle.std.specs.Prelude.{ℕ, ◌≡◌, List, [], ◌∷◌, Some, slice_get, slice_set}
 use Rattle.job.specs.Answers.{height_of}
 use Rattle.job.specs.Kept.{pipeline_in}
-use Rattle.job.specs.Pipeline.{Pipeline}
-use Rattle.row_totals.specs.RowTotals.{is_summed}
 use Rattle.row_totals.specs.declared.row_total.RowTotal.{RowTotal}
-
--- the accumulators of a job, by their numbers
-abbrev pub summed_stages : Pipeline → List ℕ
-summed_stages job = filter (is_summed job) (range_with_len 0 (length job.stages))
 
 abbrev pub stage_of_total : RowTotal → ℕ
 stage_of_total total = total.stage
 
--- no row is accumulated, and the first one of the domain is the next one
-pub record IsTotalOfNone (total : RowTotal) : Type 0 where
-  pub first : total.first ≡ 0
-  pub next : total.next ≡ 0
+-- no row is accumulated, and the one at this place is the next one
+pub record IsTotalOfNone (first : ℕ) (total : RowTotal) : Type 0 where
+  pub begun : total.first ≡ first
+  pub next : total.next ≡ first
 
 -- all rows of the domain are accumulated
 pub record IsTotalOfAll (total : RowTotal) : Type 0 where
@@ -40,3 +33,8 @@ pub record IsJoinedBy (old : List RowTotal) (other : RowTotal) (new : List RowTo
   pub first : joined.first ≡ total.first
   pub next : joined.next ≡ other.next
   pub others : new ≡ slice_set old place joined
+
+-- each of the others is joined, one after the other
+abbrev pub AreJoinedBy : List RowTotal → List RowTotal → List RowTotal → Type 0
+AreJoinedBy old [] new = new ≡ old
+AreJoinedBy old (other ∷ others) new = (one : List RowTotal) × IsJoinedBy old other one × AreJoinedBy one others new

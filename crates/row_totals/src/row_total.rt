@@ -92,6 +92,16 @@ impl<'a> RowTotal<'a> {
         self.next
     }
 
+    /// Whether the row that is accumulated next is one of the domain.
+    pub fn has_summed_row_left(&self) -> bool
+        ensures { IsTrue result ↔ self.now.next < height_of (pipeline_in self.now.job.now) self.now.stage }
+    {
+        match self.job.domain(self.stage) {
+            Some(domain) => self.next < domain.rows.len() as usize,
+            None => false,
+        }
+    }
+
     /// Accumulates the next row of the domain, from a source that has all that is read there. It takes no memory that an
     /// earlier row did not take.
     ///

@@ -6,55 +6,76 @@ ghost use Rattle.job.specs.Kept.{pipeline_in};
 ghost use Rattle.job.specs.Totals.{totals as totals_of};
 ghost use Rattle.row_totals.specs.RowTotals.{is_summed};
 ghost use Rattle.row_totals.specs.declared.row_total.RowTotal.{RowTotal as RowTotalNow};
-ghost use Rattle.row_totals.specs.Spans.{summed_stages, stage_of_total, IsFollowedBy, IsJoinedBy, IsTotalOfAll, IsTotalOfNone};
+ghost use Rattle.row_totals.specs.Spans.{stage_of_total, AreJoinedBy, IsFollowedBy, IsJoinedBy, IsTotalOfAll, IsTotalOfNone};
 
 use crate::row_total::RowTotal;
 use job::Job;
 use std::alloc::{AllocError, Global};
 
-/// What all accumulators of a job have in their bins, in the order of the stages.
+/// What some accumulators of a job have in their bins.
 #[derive(Drop)]
 pub struct RowTotals<'a> {
     job: &'a Job,
-    totals: Vec<RowTotal<'a>>,
+    /// The totals, in the order in which the accumulators were named.
+    pub totals: Vec<RowTotal<'a>>,
     ghost own: { All (λ total. total.job.now ≡ job.now) totals.items },
 }
 
 impl<'a> RowTotals<'a> {
-    /// No row of any accumulator yet.
+    /// No row yet of the accumulators among these stages, from the row at this place on.
     ///
     /// # Errors
     ///
     /// Fails only where memory is refused.
-    pub fn new(alloc: Global, job: &'a Job) -> Result<RowTotals<'a>, AllocError>
+    pub fn new(
+        alloc: Global,
+        job: &'a Job,
+        stages: &[usize],
+        first: usize,
+    ) -> Result<RowTotals<'a>, AllocError>
         ensures job { IfOk result (λ totals. totals.job.now ≡ job.now) }
         ensures stages { IfOk result (λ totals. map stage_of_total totals.totals.items
-            ≡ summed_stages (pipeline_in job.now)) }
-        ensures none { IfOk result (λ totals. All IsTotalOfNone totals.totals.items) }
+            ≡ filter (is_summed (pipeline_in job.now)) stages.now) }
+        ensures none { IfOk result (λ totals. All (IsTotalOfNone first) totals.totals.items) }
     {
         let mut totals = RowTotals {
             job,
             totals: Vec::new(alloc),
         };
-        for stage in 0..job.stages().len() {
-            totals.add_row_total(alloc, stage)?;
+        for stage in stages {
+            totals.add_row_total(alloc, *stage, first)?;
         }
         Ok(totals)
     }
 
-    // Adds an accumulator of which no row is there yet. A stage that is no accumulator is left out.
-    fn add_row_total(&mut self, alloc: Global, stage: usize) -> Result<(), AllocError>
+    // Adds an accumulator of which no row is there yet, from the one at this place on. A stage that is no accumulator is left out.
+    fn add_row_total(&mut self, alloc: Global, stage: usize, first: usize) -> Result<(), AllocError>
         ensures job { self.new.job ≡ self.old.job }
         ensures stages { OnOk result (map stage_of_total self.new.totals.items
             ≡ map stage_of_total self.old.totals.items
             ++ filter (is_summed (pipeline_in self.old.job.now)) (stage ∷ [])) }
-        ensures none { OnOk result (All IsTotalOfNone self.old.totals.items
-            → All IsTotalOfNone self.new.totals.items) }
+        ensures none { OnOk result (All (IsTotalOfNone first) self.old.totals.items
+            → All (IsTotalOfNone first) self.new.totals.items) }
     {
-        if let Some(total) = RowTotal::new(alloc, self.job, stage, 0)? {
+        if let Some(total) = RowTotal::new(alloc, self.job, stage, first)? {
             self.totals.push(total)?;
         }
         Ok(())
+    }
+
+    /// Joins totals over the rows that follow, which were accumulated apart. False if one of them does not follow one of these.
+    pub fn join_following_row_totals(&mut self, others: &RowTotals<'_>) -> bool
+        requires { others.now.job.now ≡ self.old.job.now }
+        ensures job { self.new.job ≡ self.old.job }
+        ensures joined { result ≡ true
+            → AreJoinedBy self.old.totals.items others.now.totals.items self.new.totals.items }
+    {
+        for place in 0..others.totals.len() {
+            if !self.join_following_row_total(&others.totals[place]) {
+                return false;
+            }
+        }
+        true
     }
 
     /// Joins the total of one of these accumulators over the rows that follow, which were accumulated apart. False if it is not over
