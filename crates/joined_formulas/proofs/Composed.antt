@@ -1,17 +1,15 @@
 -- Indices of indices, and formulas at them.
-use Rattle.std.proofs.Common.{arith, ℕ, ℤ, pos, ◌≡◌, ◌+ℤ◌, ◌*ℤ◌, ◌≤ℤ◌, ◌<ℤ◌, List, [], ap, refl, sym, subst, ◌∙◌}
-use Rattle.std.specs.Prelude.{All, Option, Some, None, IfSome}
-use Rattle.std.proofs.Math.IntN.{*ℤ_comm}
+use Rattle.std.proofs.Common.{arith, ℕ, ℤ, pos, ◌≡◌, ◌+ℤ◌, ◌*ℤ◌, ◌<ℤ◌, [], ap, refl, sym, subst, ◌∙◌}
+use Rattle.std.specs.Prelude.{Option, Some, None, IfSome}
 use Rattle.std.proofs.lemmas.Int.{ints}
 use Rattle.std.proofs.lemmas.List.Elements.{All-nil, All-cons, All-head}
-use Rattle.domains.specs.Arithmetic.{floor_div, floor_rem, IsFloor}
+use Rattle.domains.specs.Arithmetic.{floor_div, floor_rem}
 use Rattle.domains.specs.Index.{Scale, IsIndex, index_at}
 use Rattle.domains.proofs.Floors.{floor_only, floor_splits}
 use Rattle.job.specs.Formula.{Formula, number, read}
-use Rattle.job.specs.Pipeline.{Stage}
 use Rattle.job.specs.Reads.{point, EachRead, EachTaken}
-use Rattle.job.specs.Values.{Valuation, formula_value}
-use Rattle.job.specs.WellFormed.{IsFormula, IsReadable}
+use Rattle.job.specs.Values.{formula_value}
+use Rattle.job.specs.WellFormed.{IsReadable}
 use Rattle.normal_formulas.proofs.Laws.{divided_by_one}
 use Rattle.normal_formulas.proofs.Products.{over_sum, sum_times, one_times, three_factors}
 use Rattle.joined_formulas.specs.inside.Moved.{IsAt}

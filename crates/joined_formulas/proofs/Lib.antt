@@ -1,4 +1,6 @@
 pub mod Parts
 pub mod StageFormulas
+pub mod ColumnLaws
+pub mod KnownColumns
 pub mod Composed
 pub mod Points

@@ -1,5 +1,5 @@
 -- Formulas that may stand for others in a job: in steps, and part by part.
-use Rattle.std.proofs.Common.{ℕ, ℤ, ◌≡◌, List, ◌++◌, FitsSigned, w32, ap, refl, sym, subst, ◌∙◌}
+use Rattle.std.proofs.Common.{ℕ, ℤ, ◌≡◌, List, ◌++◌, ap, refl, sym, subst, ◌∙◌}
 use Rattle.std.specs.Prelude.{All, if◌then◌else◌}
 use Rattle.std.proofs.lemmas.List.Elements.{All-weaker}
 use Rattle.operators.specs.declared.operator.UnaryOp.{UnaryOp}
@@ -12,15 +12,15 @@ use Rattle.domains.specs.Index.{index_at}
 use Rattle.job.specs.Formula.{Formula, unary, binary, ternary, literal, lookup, select}
 use Rattle.job.specs.Pipeline.{Pipeline}
 use Rattle.job.specs.Values.{formula_value, unary_value, binary_value, ternary_value, literal_value, is_related, value, kernel_row, kernel_column}
-use Rattle.job.specs.Reads.{Read, point, window, reads_in, EachTaken, EachRead}
-use Rattle.job.specs.WellFormed.{IsFormula, IsJob, IsReadable}
+use Rattle.job.specs.Reads.{Read, point, window, reads_in, EachTaken}
+use Rattle.job.specs.WellFormed.{IsJob, IsReadable}
 use Rattle.job.proofs.Agreeing.{All-left, All-right}
 use Rattle.job.proofs.Solving.{value_fits}
 use Rattle.normal_formulas.specs.Rewrites.{Fits32, Rewrites}
 use Rattle.normal_formulas.proofs.Standing.{Stands, stands}
 use Rattle.normal_formulas.proofs.Rewriting.{both_lists}
 use Rattle.joined_formulas.specs.StandsIn.{StandsIn}
-use Rattle.joined_formulas.specs.Joins.{Joins, AreFormulasOf}
+use Rattle.joined_formulas.specs.Joins.{Joins}
 use Rattle.joined_formulas.specs.declared.known.StageFormula.{StageFormula}
 
 module _ (job : Pipeline) where

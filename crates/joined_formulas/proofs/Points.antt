@@ -1,18 +1,16 @@
 -- A kernel of one factor 1 is a read of the point itself.
-use Rattle.std.proofs.Common.{arith, ℕ, ℤ, pos, ◌≡◌, ◌+ℤ◌, ◌*ℤ◌, ◌-ℤ◌, FitsSigned, w32, List, [], ◌∷◌, ap, refl, sym, subst, ◌∙◌}
-use Rattle.std.specs.Prelude.{All}
+use Rattle.std.proofs.Common.{arith, ℕ, ℤ, pos, ◌≡◌, ◌+ℤ◌, ◌*ℤ◌, ◌-ℤ◌, w32, List, [], ◌∷◌, ap, sym, subst, ◌∙◌}
 use Rattle.std.proofs.lemmas.Int.{ints, int_wrap_fits}
 use Rattle.std.proofs.lemmas.List.Elements.{All-nil, All-cons, All-head}
 use Rattle.domains.specs.Arithmetic.{floor_div, wrapped}
 use Rattle.domains.specs.Index.{Scale, IsIndex, index_at}
 use Rattle.operators.specs.declared.operator.LiteralOp.TheVariants.{Div}
-use Rattle.job.specs.Formula.{Formula, read, literal, stencil}
-use Rattle.job.specs.Reads.{point, window, stage_read, reads_in, EachRead, EachTaken}
-use Rattle.job.specs.Values.{Valuation, formula_value, kernel_column, kernel_row, weighted_sum}
+use Rattle.job.specs.Formula.{read, literal, stencil}
+use Rattle.job.specs.Reads.{point, window, stage_read, EachRead, EachTaken}
+use Rattle.job.specs.Values.{Valuation, kernel_column, kernel_row, weighted_sum}
 use Rattle.normal_formulas.specs.Rewrites.{Fits32, Rewrites}
 use Rattle.normal_formulas.proofs.Standing.{Stands, rewrites}
 use Rattle.normal_formulas.proofs.Products.{one_times}
-use Rattle.joined_formulas.proofs.Composed.{own_index}
 
 -- the kernel of the point itself
 abbrev pub own_kernel : List (List ℤ)

@@ -1,18 +1,18 @@
 -- What stands for reads and stencils of stages of which a formula is known.
-use Rattle.std.proofs.Common.{ℕ, ℤ, pos, ◌≡◌, ◌*ℤ◌, List, [], ◌∷◌, length, ap, refl, sym, subst, ◌∙◌}
-use Rattle.std.specs.Prelude.{All, slice_index_or}
+use Rattle.std.proofs.Common.{ℕ, ℤ, pos, ◌≡◌, ◌*ℤ◌, List, [], length, ap, sym, subst, ◌∙◌}
+use Rattle.std.specs.Prelude.{slice_index_or}
 use Rattle.std.proofs.lemmas.List.Elements.{All-nil, All-cons, All-head, All-contains}
 use Rattle.domains.specs.Arithmetic.{floor_div, wrapped}
 use Rattle.domains.specs.Index.{Scale, index_at}
 use Rattle.job.specs.Formula.{Formula, read, stencil}
 use Rattle.job.specs.Pipeline.{Pipeline}
-use Rattle.job.specs.Reads.{Read, point, window, EachTaken, EachRead}
-use Rattle.job.specs.Values.{formula_value, factors, kernel_row, kernel_column, value, weighted_sum}
+use Rattle.job.specs.Reads.{point, window, EachTaken, EachRead}
+use Rattle.job.specs.Values.{factors, kernel_row, kernel_column, value, weighted_sum}
 use Rattle.job.specs.Views.{formula_view}
-use Rattle.job.specs.WellFormed.{IsJob, IsReadable}
+use Rattle.job.specs.WellFormed.{IsReadable}
 use Rattle.operators.proofs.KernelSums.{sum_below-agrees}
 use Rattle.joined_formulas.specs.StandsIn.{StandsIn}
-use Rattle.joined_formulas.specs.Joins.{AreFormulasOf, IsFormulaOf, Joins}
+use Rattle.joined_formulas.specs.Joins.{AreFormulasOf, IsFormulaOf, IsKnown, Joins}
 use Rattle.joined_formulas.specs.inside.Found.{IsFound, IsSource}
 use Rattle.joined_formulas.specs.inside.Moved.{IsAt}
 use Rattle.joined_formulas.specs.declared.known.StageFormula.{StageFormula}
@@ -22,7 +22,7 @@ module _ (job : Pipeline) (known : List StageFormula) (of : AreFormulasOf job kn
   formula_of g f found =
       subst (λ (h : Formula). IsFormulaOf job g h) found.is
       (subst (λ (n : ℕ). IsFormulaOf job n (formula_view found.entry.formula)) found.of
-      (All-contains (λ k. IsFormulaOf job k.stage (formula_view k.formula)) known found.entry of found.there))
+      (All-contains (IsKnown job) known found.entry of found.there).formula)
 
   the_read : (g : ℕ) (i j : Scale) (r c : ℤ) → EachRead (IsReadable job.stages) (read g i j) r c
       → IsReadable job.stages g (index_at i r) (index_at j c)

@@ -1,3 +1,4 @@
 pub mod StandsIn
 pub mod Joins
+pub mod Columns
 pub mod inside

@@ -8,6 +8,7 @@ ghost use Rattle.job.specs.Views.{formula_view};
 ghost use Rattle.joined_formulas.specs.Joins.{Joins};
 ghost use Rattle.joined_formulas.specs.inside.Found.{IsSource};
 
+use crate::columns::join_stencil_by_columns;
 use crate::indices::{is_own_index, move_joined_formula};
 use crate::known::{StageFormula, find_stage_formula};
 use domains::Index;
@@ -98,7 +99,10 @@ fn join_stencil(
             return join_own_stencil(alloc, known, stage, divisor, own);
         }
     }
-    join_wide_stencil(known, stage, divisor, kernel)
+    match join_stencil_by_columns(alloc, known, stage, divisor, kernel)? {
+        Some(made) => Ok(made),
+        None => join_wide_stencil(known, stage, divisor, kernel),
+    }
 }
 
 #[cycle(join_formula)]

@@ -12,6 +12,8 @@ use job::Formula;
 pub struct StageFormula {
     pub stage: usize,
     pub formula: Formula,
+    /// Whether the stage has a value wherever all that the formula reads has one.
+    pub whole: bool,
 }
 
 /// The formula of this stage, if one is known.

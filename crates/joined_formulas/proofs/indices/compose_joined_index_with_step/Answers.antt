@@ -1,4 +1,4 @@
-use Rattle.std.proofs.Common.{rules, arith, ◌≡◌, ◌*ℤ◌, ◌+ℤ◌, ◌<ℤ◌, ℤ, pos, FitsSigned, w32, ap, ◌∙◌}
+use Rattle.std.proofs.Common.{rules, arith, ◌≡◌, ◌*ℤ◌, ◌+ℤ◌, ◌<ℤ◌, pos, FitsSigned, w32, ap, ◌∙◌}
 use Rattle.std.proofs.lemmas.Int.{ints, to_z-of_z}
 use Rattle.domains.specs.Index.{Scale}
 use Rattle.joined_formulas.proofs.Composed.{before_step, some_then}

@@ -1,4 +1,4 @@
-use Rattle.std.proofs.Common.{rules, ◌≡◌, ◌*ℤ◌, ◌+ℤ◌, ℤ, pos, FitsSigned, w32, ap, ◌∙◌}
+use Rattle.std.proofs.Common.{rules, ◌≡◌, ◌*ℤ◌, ◌+ℤ◌, pos, FitsSigned, w32, ap, ◌∙◌}
 use Rattle.std.proofs.lemmas.Int.{to_z-of_z}
 use Rattle.domains.specs.Index.{Scale}
 use Rattle.joined_formulas.proofs.Composed.{after_undivided, some_then}

@@ -1,8 +1,8 @@
-use Rattle.std.proofs.Common.{rules, List, ◌≡◌, ap, sym, subst, ◌∙◌}
+use Rattle.std.proofs.Common.{ap, sym, ◌∙◌}
 use Rattle.domains.proofs.Places.{ok_then}
-use Rattle.job.specs.Formula.{Formula, number, coordinate, read, unary, binary, ternary, literal, lookup, select, stencil}
+use Rattle.job.specs.Formula.{read, unary, binary, ternary, literal, lookup, select}
 use Rattle.job.specs.Views.{formula_view}
-use Rattle.joined_formulas.proofs.Parts.{same, from_same, unary_part, binary_parts, ternary_parts, literal_part, lookup_part, select_parts}
+use Rattle.joined_formulas.proofs.Parts.{from_same, unary_part, binary_parts, ternary_parts, literal_part, lookup_part, select_parts}
 use Rattle.joined_formulas.proofs.joined.+join_formula.Goals as goal
 
 pub join_formula-returns-in-Read : goal.join_formula-returns-in-Read

@@ -1,4 +1,4 @@
-use Rattle.std.proofs.Common.{rules, List, ℤ, pos, ◌≡◌, [], ◌∷◌, sym, subst, ap}
+use Rattle.std.proofs.Common.{rules, List, ℤ, pos, ◌≡◌, sym, subst}
 use Rattle.domains.proofs.Places.{ok_then}
 use Rattle.domains.specs.Index.{Scale, IsIndex, index_at}
 use Rattle.operators.specs.declared.operator.LiteralOp.TheVariants.{Div}

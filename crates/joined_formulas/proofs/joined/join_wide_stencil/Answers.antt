@@ -1,4 +1,4 @@
-use Rattle.std.proofs.Common.{List, ℤ, ◌≡◌, sym, subst}
+use Rattle.std.proofs.Common.{List, ℤ, sym, subst}
 use Rattle.job.specs.Formula.{stencil}
 use Rattle.joined_formulas.specs.Joins.{Joins}
 use Rattle.joined_formulas.proofs.StageFormulas.{copied_stencil}
