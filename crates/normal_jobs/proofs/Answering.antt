@@ -18,6 +18,7 @@ use Rattle.joined_formulas.specs.Joins.{AreFormulasOf}
 use Rattle.joined_formulas.specs.declared.known.StageFormula.{StageFormula}
 use Rattle.normal_jobs.specs.Alike.{AnswersAlike, IsSameKind, LookAlike}
 use Rattle.normal_jobs.specs.StandIns.{StandsForBody, StandsForStage, StandForStages}
+use Rattle.normal_jobs.proofs.Begins.{begins_alike, begins_itself}
 use Rattle.normal_jobs.proofs.StayingJobs.{height_stays, job_stays, width_stays}
 use Rattle.normal_jobs.proofs.Reading.{body_reads_stay, readable_stays, reads_weaker, valued_back}
 use Rattle.normal_jobs.proofs.Valued.{totals_stay, value_stays}
@@ -33,17 +34,8 @@ function_valued (accumulator fold bins value bin) is = absurd is
 
 -- ---- a job itself
 
-same_kind : (b : Body) → IsSameKind b b
-same_kind (plane n) = refl
-same_kind (function cases otherwise) = tt
-same_kind (accumulator fold bins value bin) = (refl, refl)
-
-looks_itself : (ss : List Stage) → LookAlike ss ss
-looks_itself [] = tt
-looks_itself (s ∷ ss) = (record { name = refl; domain = refl; body = same_kind s.body }, looks_itself ss)
-
 pub answers_itself : (job : Pipeline) → AnswersAlike job job
-answers_itself job = record { stages = looks_itself job.stages; values = λ g r c is. refl; image = refl; totals = λ g. refl }
+answers_itself job = record { stages = begins_itself job.stages; values = λ g r c is. refl; image = refl; totals = λ g. refl }
 
 module _ (known : List StageFormula) where
   -- ---- what stands for stages looks like them
@@ -154,7 +146,7 @@ module _ (known : List StageFormula) where
     pub answers_alike : AnswersAlike job other
     answers_alike =
         record {
-          stages = look_alike job.stages ts z;
+          stages = begins_alike job.stages ts (look_alike job.stages ts z);
           values = values_same;
           image = output_same job.output whole.output;
           totals = λ g.

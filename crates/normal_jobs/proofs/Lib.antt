@@ -5,4 +5,6 @@ pub mod Valued
 pub mod Whole
 pub mod EachRanked
 pub mod StayingJobs
+pub mod Begins
+pub mod Splits
 pub mod Answering

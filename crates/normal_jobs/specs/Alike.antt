@@ -1,11 +1,11 @@
 -- Jobs that answer alike.
-use Rattle.std.specs.Prelude.{◌≡◌, ℕ, ℤ, List}
+use Rattle.std.specs.Prelude.{◌≡◌, ℕ, ℤ, List, [], ◌∷◌, All}
 use Rattle.std.specs.List.{AllZip}
 use Rattle.job.specs.Answers.{image}
 use Rattle.job.specs.Pipeline.{Body, plane, function, accumulator, Stage, Pipeline}
 use Rattle.job.specs.Totals.{totals}
 use Rattle.job.specs.Values.{value}
-use Rattle.job.specs.WellFormed.{IsReadable}
+use Rattle.job.specs.WellFormed.{IsFunction, IsReadable}
 
 -- the same plane; two functions; or accumulators that join numbers in the same way, over the same bins
 abbrev pub IsSameKind : Body → Body → Type 0
@@ -28,9 +28,15 @@ pub record LooksAlike (s t : Stage) : Type 0 where
 abbrev pub LookAlike : List Stage → List Stage → Type 0
 LookAlike = AllZip LooksAlike
 
--- the stages of two jobs look alike, and have the same values; so pictures and totals are the same
+-- the stages of a job look like the first ones of another, behind which come functions
+abbrev pub BeginAlike : List Stage → List Stage → Type 0
+BeginAlike [] more = All (λ s. IsFunction s.body) more
+BeginAlike (s ∷ ss) [] = ⊥
+BeginAlike (s ∷ ss) (t ∷ ts) = LooksAlike s t × BeginAlike ss ts
+
+-- the stages of a job look like the first ones of another, and have the same values; so pictures and totals are the same
 pub record AnswersAlike (job other : Pipeline) : Type 0 where
-  pub stages : LookAlike job.stages other.stages
+  pub stages : BeginAlike job.stages other.stages
   pub values : (g : ℕ) (r c : ℤ) → IsReadable job.stages g r c → value other g r c ≡ value job g r c
   pub image : image other ≡ image job
   pub totals : (g : ℕ) → totals other g ≡ totals job g

@@ -10,6 +10,7 @@ ghost use Rattle.normal_jobs.specs.StandIns.{StandForStages};
 
 use crate::joins::list_normal_joins;
 use crate::ranks::{find_normal_ranks, have_normal_ranks};
+use crate::splitting::split_normal_job;
 use crate::stages::make_normal_stages;
 use job::{Job, Stage};
 use joined_formulas::StageFormula;
@@ -37,12 +38,8 @@ fn make_ranked_normal_stages(
     Ok(None)
 }
 
-/// The job with all formulas joined and in normal form. It answers what the job answers, keeps its text and has its identities.
-///
-/// # Errors
-///
-/// Fails only where memory is refused.
-pub fn make_normal_job(alloc: Global, job: Job) -> Result<Job, AllocError>
+// The job with all formulas joined and in normal form.
+fn join_normal_job(alloc: Global, job: Job) -> Result<Job, AllocError>
     ensures alike { IfOk result (λ made. AnswersAlike (pipeline_in job) (pipeline_in made)) }
     ensures text { IfOk result (λ made. program_text_in made ≡ program_text_in job) }
     ensures program { IfOk result (λ made. program_id_in made ≡ program_id_in job) }
@@ -52,4 +49,19 @@ pub fn make_normal_job(alloc: Global, job: Job) -> Result<Job, AllocError>
         Some(stages) => Ok(job.with_stages(stages)),
         None => Ok(job),
     }
+}
+
+/// The job with all formulas joined and in normal form, whose kernels go down columns first and then along rows where that is faster. It
+/// answers what the job answers, keeps its text and has its identities.
+///
+/// # Errors
+///
+/// Fails only where memory is refused.
+pub fn make_normal_job(alloc: Global, job: Job) -> Result<Job, AllocError>
+    ensures alike { IfOk result (λ made. AnswersAlike (pipeline_in job) (pipeline_in made)) }
+    ensures text { IfOk result (λ made. program_text_in made ≡ program_text_in job) }
+    ensures program { IfOk result (λ made. program_id_in made ≡ program_id_in job) }
+{
+    let joined = join_normal_job(alloc, job)?;
+    split_normal_job(alloc, joined)
 }

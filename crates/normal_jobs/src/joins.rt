@@ -85,6 +85,7 @@ fn push_normal_join(
         known.push(StageFormula {
             stage: number,
             formula,
+            whole: false,
         })?;
     }
     Ok(())

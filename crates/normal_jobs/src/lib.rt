@@ -11,6 +11,7 @@ mod cases;
 mod jobs;
 mod joins;
 mod ranks;
+mod splitting;
 mod stages;
 mod uses;
 

@@ -73,30 +73,28 @@ fn find_normal_rank_of_stage(ranks: &[usize], stage: &Stage) -> usize {
     }
 }
 
-// Writes the ranks of the stages that had this rank.
-fn write_normal_ranks(ranks: &mut Vec<usize>, stages: &[Stage], rank: usize) {
+// Writes the rank of each stage by those of the stages that it reads.
+fn write_normal_ranks(ranks: &mut Vec<usize>, stages: &[Stage]) {
     for (number, stage) in stages.iter().enumerate() {
-        if stage.rank() == rank {
-            let found = find_normal_rank_of_stage(ranks, stage);
-            if let Some(own) = ranks.get_mut(number) {
-                *own = found;
-            }
+        let found = find_normal_rank_of_stage(ranks, stage);
+        if let Some(own) = ranks.get_mut(number) {
+            *own = found;
         }
     }
 }
 
-/// The ranks of stages that read what had lower ranks.
+/// The ranks of stages by what they read. What stages read in the end has its rank once they were written as often as there are ranks.
 ///
 /// # Errors
 ///
 /// Fails only where memory is refused.
 pub(crate) fn find_normal_ranks(alloc: Global, stages: &[Stage]) -> Result<Vec<usize>, AllocError> {
     let mut ranks = Vec::with_capacity(alloc, stages.len())?;
-    for stage in stages {
-        ranks.push(stage.rank())?;
+    for _ in stages {
+        ranks.push(0)?;
     }
-    for rank in 0..=stages.len() {
-        write_normal_ranks(&mut ranks, stages, rank);
+    for _ in 0..stages.len() {
+        write_normal_ranks(&mut ranks, stages);
     }
     Ok(ranks)
 }

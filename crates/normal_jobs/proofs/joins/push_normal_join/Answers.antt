@@ -1,11 +1,11 @@
-use Rattle.std.proofs.Common.{◌≡◌, List, [], Some, sym, subst, ◌∙◌, ap}
+use Rattle.std.proofs.Common.{◌≡◌, List, [], Some, false, true≢false, sym, subst, ◌∙◌, ap}
 use Rattle.std.specs.Prelude.{slice_get}
 use Rattle.std.proofs.lemmas.List.Elements.{All-push}
 use Rattle.job.specs.Formula.{Formula}
 use Rattle.job.specs.Kept.{pipeline_in}
 use Rattle.job.specs.Pipeline.{function, Stage}
 use Rattle.job.specs.Views.{body_view, formula_view, stage_view}
-use Rattle.joined_formulas.specs.Joins.{AreFormulasOf, IsFormulaOf, Joins}
+use Rattle.joined_formulas.specs.Joins.{AreFormulasOf, IsFormulaOf, IsKnown, Joins}
 use Rattle.joined_formulas.specs.declared.known.StageFormula.{StageFormula}
 use Rattle.normal_jobs.proofs.Whole.{known_of}
 use Rattle.normal_jobs.proofs.joins.push_normal_join.Goals as goal
@@ -22,5 +22,5 @@ returns-in_ok-push c = λ of.
     let joins : Joins known f h = subst (λ (ks : List StageFormula). Joins ks f h) c.deref.ensures.value c.in_ok-formula.ensures in
     let is : IsFormulaOf job c.args.number h = known_of job c.args.job.now.well c.args.number s there f body known of h joins in
     subst (λ (ks : List StageFormula). AreFormulasOf job ks) (sym c.in_ok-push.ensures.items)
-    (All-push (λ (k : StageFormula). IsFormulaOf job k.stage (formula_view k.formula)) known
-    (record { stage = c.args.number; formula = c.in_ok-formula.formula }) of is)
+    (All-push (IsKnown job) known (record { stage = c.args.number; formula = c.in_ok-formula.formula; whole = false }) of
+    (record { formula = is; whole = λ yes. absurd (true≢false (sym yes)) }))
