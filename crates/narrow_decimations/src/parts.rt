@@ -9,8 +9,8 @@ ghost use Rattle.row_loops.specs.Rows.{EachPlace};
 ghost use Rattle.tile_eval.specs.Cases.{InBox};
 ghost use Rattle.narrow_decimations.specs.inside.Ready.{BoxBounds};
 
+use crate::places::find_places_in_area;
 use job::JobCase;
-use row_halves::find_places_in_area;
 use row_kernels::{RowMask, RowSpan, find_row_mask};
 
 /// The places of a row of points in the box of a case: the first one, and the end. None if no point lies there, or if the case may not

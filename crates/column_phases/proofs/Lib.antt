@@ -1,0 +1,9 @@
+pub mod Products
+pub mod Columns
+pub mod TestLaws
+pub mod FormulaLaws
+pub mod FunctionLaws
+pub mod Merely
+pub mod ListLaws
+pub mod RowLaws
+pub mod RowValues

@@ -1,0 +1,12 @@
+use Rattle.std.proofs.Common.{◌≡◌, ◌+◌, ◌*◌}
+use Rattle.std.specs.Prelude.{slice_index_or}
+use Rattle.row_loops.specs.Rows.{EachPlace}
+use Rattle.column_phases.proofs.weaving.weave_four_column_phases.Given as goal
+
+abbrev pub invariant-loop-k : goal.invariant-loop-k
+invariant-loop-k g l = record {
+  first : (d : g.row.T.Denot) → EachPlace l.k (λ k. slice_index_or l.out (4 * k) d ≡ slice_index_or l.first k d);
+  second : (d : g.row.T.Denot) → EachPlace l.k (λ k. slice_index_or l.out (4 * k + 1) d ≡ slice_index_or l.second k d);
+  third : (d : g.row.T.Denot) → EachPlace l.k (λ k. slice_index_or l.out (4 * k + 2) d ≡ slice_index_or l.third k d);
+  fourth : (d : g.row.T.Denot) → EachPlace l.k (λ k. slice_index_or l.out (4 * k + 3) d ≡ slice_index_or l.fourth k d);
+}

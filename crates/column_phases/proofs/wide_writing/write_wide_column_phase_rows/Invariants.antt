@@ -1,0 +1,15 @@
+use Rattle.std.proofs.Common.{◌≡◌, ◌<◌, ◌%◌, ◌+ℤ◌, pos, length, map}
+use Rattle.std.specs.Option.{option_map}
+use Rattle.job.specs.Views.{case_view, formula_view}
+use Rattle.row_loops.specs.Rows.{EachPlace, at}
+use Rattle.tile_eval.specs.Cases.{function_value}
+use Rattle.column_phases.specs.inside.Rows.{row_start, row_place}
+use Rattle.column_phases.proofs.wide_writing.write_wide_column_phase_rows.Given as goal
+
+abbrev pub invariant-loop-place : goal.invariant-loop-place
+invariant-loop-place g l = record {
+  begun : l.end ≡ row_start (length l.phases.functions.items) (length l.out) l.place;
+  made : EachPlace (length l.out) (λ k. k % length l.phases.functions.items < l.place
+      → at l.out (row_place (length l.phases.functions.items) (length l.out) k)
+      ≡ function_value (g.S.RowSource.samples l.source) (map case_view l.function.cases.items) (option_map formula_view l.function.otherwise) l.area.rows.lo (l.area.cols.lo +ℤ pos k));
+}

@@ -1,0 +1,2 @@
+-- What clauses of inner functions cite, and no public clause does.
+pub mod Rows
