@@ -1,0 +1,9 @@
+pub mod Areas
+pub mod Behind
+pub mod Closed
+pub mod LongerAnswers
+pub mod LongerJobs
+pub mod PartJobs
+pub mod Pushing
+pub mod Spans
+pub mod Weaker

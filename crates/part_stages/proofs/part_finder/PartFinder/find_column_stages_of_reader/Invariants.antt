@@ -1,0 +1,6 @@
+use Rattle.job.specs.Kept.{pipeline_in}
+use Rattle.part_stages.specs.Parts.{ArePartStages}
+use Rattle.part_stages.proofs.part_finder.PartFinder.find_column_stages_of_reader.Given as goal
+
+abbrev pub invariant-loop-read : goal.invariant-loop-read
+invariant-loop-read l = ArePartStages (pipeline_in l.job) l.fn.self.parts → ArePartStages (pipeline_in l.job) l.self.parts

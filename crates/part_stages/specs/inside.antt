@@ -1,0 +1,2 @@
+-- Definitions that only clauses of inner functions cite.
+pub mod Spans
