@@ -4,3 +4,5 @@ pub mod ColumnLaws
 pub mod KnownColumns
 pub mod Composed
 pub mod Points
+pub mod PartsAt
+pub mod PartReads

@@ -44,8 +44,8 @@ fn compose_joined_index_with_step(outer: &Index, inner: &Index) -> Option<Index>
     Index::new(outer.mul(), outer.add().checked_add(add)?, outer.div())
 }
 
-// The index that takes a number to the inner index of the outer one, where there is one.
-fn compose_joined_indices(outer: &Index, inner: &Index) -> Option<Index>
+/// The index that takes a number to the inner index of the outer one, where there is one.
+pub(crate) fn compose_joined_indices(outer: &Index, inner: &Index) -> Option<Index>
     ensures at { IfSome result (λ x. (v : ℤ) → index_at x v ≡ index_at inner.now (index_at outer.now v)) }
     ensures within { IfSome result IsIndex }
 {

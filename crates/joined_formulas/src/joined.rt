@@ -11,6 +11,7 @@ ghost use Rattle.joined_formulas.specs.inside.Found.{IsSource};
 use crate::columns::join_stencil_by_columns;
 use crate::indices::{is_own_index, move_joined_formula};
 use crate::known::{StageFormula, find_stage_formula};
+use crate::known_parts::find_joined_part;
 use domains::Index;
 use job::{Formula, Kernel, copy_kernel};
 use normal_formulas::normalize_formula;
@@ -118,13 +119,32 @@ fn join_formula_in_box(
 }
 
 /// The formula in which each read of a stage of which a formula is known became this formula, where it has one at the indices of
-/// the read.
+/// the read, and each part that a whole stage is known to have became a read of it.
 ///
 /// # Errors
 ///
 /// Fails only where memory is refused.
 #[cycle(join_formula)]
 pub fn join_formula(
+    alloc: Global,
+    known: &[StageFormula],
+    formula: &Formula,
+) -> Result<Formula, AllocError>
+    ensures { IfOk result (λ made. Joins known.now (formula_view formula.now) (formula_view made)) }
+{
+    match find_joined_part(known, formula) {
+        Some(read) => Ok(read),
+        None => join_formula_parts(alloc, known, formula),
+    }
+}
+
+/// The formula that is joined in each of its parts, but not as a whole.
+///
+/// # Errors
+///
+/// Fails only where memory is refused.
+#[cycle(join_formula)]
+fn join_formula_parts(
     alloc: Global,
     known: &[StageFormula],
     formula: &Formula,
@@ -183,6 +203,6 @@ pub fn make_joined_formula(
 ) -> Result<Formula, AllocError>
     ensures { IfOk result (λ made. Joins known.now (formula_view formula.now) (formula_view made)) }
 {
-    let joined = join_formula(alloc, known, formula)?;
+    let joined = join_formula_parts(alloc, known, formula)?;
     normalize_formula(alloc, &joined)
 }

@@ -12,16 +12,17 @@ use job::Formula;
 pub struct StageFormula {
     pub stage: usize,
     pub formula: Formula,
-    /// Whether the stage has a value wherever all that the formula reads has one.
+    /// Whether the stage has a value wherever all that the formula reads has one. Then it is read where the formula is, else the formula
+    /// stands where it is read.
     pub whole: bool,
 }
 
-/// The formula of this stage, if one is known.
+/// The formula of this stage, if one is known to stand for it where it is read.
 pub(crate) fn find_stage_formula(known: &[StageFormula], stage: usize) -> Option<&Formula>
     ensures { IfSome result (λ formula. IsFound known.now stage (formula_view formula.now)) }
 {
     for each in known {
-        if each.stage == stage {
+        if each.stage == stage && !each.whole {
             return Some(&each.formula);
         }
     }
