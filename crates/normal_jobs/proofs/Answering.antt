@@ -11,26 +11,24 @@ use Rattle.job.specs.Pipeline.{Body, plane, function, accumulator, Stage, Output
 use Rattle.job.specs.Reads.{IsRanked, SameAt}
 use Rattle.job.specs.Totals.{body_totals}
 use Rattle.job.specs.Values.{value}
-use Rattle.job.specs.WellFormed.{IsFunction, IsJob, IsOutput, IsOutputPlane, IsReadable, IsStage, IsValued, Solves}
+use Rattle.job.specs.WellFormed.{IsFunction, IsJob, IsOutput, IsOutputPlane, IsReadable, IsStage, Solves}
 use Rattle.job.proofs.Solving.{near_fits, one_solution, ranked_is, value_solves}
 use Rattle.job.proofs.TotalLaws.{body_totals-agrees, points_inside}
 use Rattle.joined_formulas.specs.Joins.{AreFormulasOf}
 use Rattle.joined_formulas.specs.declared.known.StageFormula.{StageFormula}
+use Rattle.part_stages.proofs.Behind.{map_within}
+use Rattle.part_stages.proofs.LongerAnswers.{function_valued}
+use Rattle.part_stages.proofs.Weaker.{reads_weaker}
 use Rattle.normal_jobs.specs.Alike.{AnswersAlike, IsSameKind, LookAlike}
 use Rattle.normal_jobs.specs.StandIns.{StandsForBody, StandsForStage, StandForStages}
 use Rattle.normal_jobs.proofs.Begins.{begins_alike, begins_itself}
 use Rattle.normal_jobs.proofs.StayingJobs.{height_stays, job_stays, width_stays}
-use Rattle.normal_jobs.proofs.Reading.{body_reads_stay, readable_stays, reads_weaker, valued_back}
+use Rattle.normal_jobs.proofs.Reading.{body_reads_stay, readable_stays, valued_back}
 use Rattle.normal_jobs.proofs.Valued.{totals_stay, value_stays}
-use Rattle.normal_jobs.proofs.Zipped.{After, Before, find_after, find_before, map_within, same_at}
+use Rattle.normal_jobs.proofs.Zipped.{After, Before, find_after, find_before, same_at}
 
 area_of_stage : (job : Pipeline) (s : Stage) → IsStage job s → IsArea s.domain
 area_of_stage job s is = record { rows = is.rows.span; cols = is.cols.span }
-
-function_valued : (b : Body) → IsFunction b → IsValued b
-function_valued (plane n) is = absurd is
-function_valued (function cases otherwise) is = tt
-function_valued (accumulator fold bins value bin) is = absurd is
 
 -- ---- a job itself
 

@@ -8,9 +8,9 @@ use Rattle.domains.specs.Area.{HoldsPoint}
 use Rattle.domains.specs.declared.area.Area.{Area}
 use Rattle.job.specs.Pipeline.{Body, plane, function, accumulator, Stage, Pipeline}
 use Rattle.job.specs.WellFormed.{IsFunction, IsReadable, IsValued}
-use Rattle.column_stages.specs.Columns.{job_with}
-use Rattle.column_stages.specs.HasMore.{HasMore}
-use Rattle.column_stages.specs.declared.column_stages.ColumnStages.{ColumnStages}
+use Rattle.part_stages.specs.Parts.{job_with}
+use Rattle.part_stages.specs.HasMore.{HasMore}
+use Rattle.part_stages.specs.declared.part_stages.PartStages.{PartStages}
 use Rattle.normal_jobs.specs.Alike.{AnswersAlike, BeginAlike, IsSameKind, LookAlike, LooksAlike}
 
 -- ---- kinds
@@ -137,8 +137,8 @@ alike_in_steps job middle other x y =
       totals = λ g. y.totals g ∙ x.totals g;
     }
 
-pub alike_with_more : (job : Pipeline) (columns : ColumnStages) → HasMore job columns → AnswersAlike job (job_with job columns)
-alike_with_more job columns has =
+pub alike_with_more : (job : Pipeline) (parts : PartStages) → HasMore job parts → AnswersAlike job (job_with job parts)
+alike_with_more job parts has =
     record {
       stages = begins_with job.stages _ has.functions;
       values = has.values;

@@ -3,32 +3,15 @@ use Rattle.std.proofs.Common.{ℕ, ℤ, List, Option, Some, None, subst, sym, �
 use Rattle.std.specs.Option.{ForSome}
 use Rattle.std.proofs.lemmas.Option.{none-some, same_Some}
 use Rattle.domains.specs.Area.{HoldsPoint}
-use Rattle.domains.specs.Index.{index_at}
 use Rattle.domains.specs.declared.area.Area.{Area}
 use Rattle.job.specs.Formula.{Formula}
 use Rattle.job.specs.Pipeline.{JobCase, Body, plane, function, accumulator, Stage, Pipeline}
-use Rattle.job.specs.Values.{kernel_row, kernel_column}
-use Rattle.job.specs.Reads.{Read, point, window, EachRead, EachTaken, CaseReads, BodyReads}
+use Rattle.job.specs.Reads.{EachRead, CaseReads, BodyReads}
 use Rattle.job.specs.WellFormed.{IsJob, IsReadable, IsValued}
-use Rattle.job.proofs.Solving.{BodyReads-both}
 use Rattle.joined_formulas.specs.Joins.{AreFormulasOf}
 use Rattle.joined_formulas.specs.declared.known.StageFormula.{StageFormula}
 use Rattle.normal_jobs.specs.StandIns.{StandsForCase, StandsForOther, StandsForBody, StandsForStage, StandForStages}
 use Rattle.normal_jobs.proofs.Zipped.{After, find_after, zip_all}
-
--- ---- what is read
-
-taken_weaker : (P Q : ℕ → ℤ → ℤ → Type 0) → ((g : ℕ) (r c : ℤ) → P g r c → Q g r c) → (r c : ℤ) (x : Read) → EachTaken P x r c
-    → EachTaken Q x r c
-taken_weaker P Q f r c (point g i j) taken = f g (index_at i r) (index_at j c) taken
-taken_weaker P Q f r c (window g kernel) taken =
-    λ a b la lb. f g (kernel_row kernel r a) (kernel_column kernel c b) (taken a b la lb)
-
--- what follows from what holds of a point holds of all that is read
-pub reads_weaker : (P Q : ℕ → ℤ → ℤ → Type 0) → ((g : ℕ) (r c : ℤ) → P g r c → Q g r c) → (body : Body) (r c : ℤ) → BodyReads P body r c
-    → BodyReads Q body r c
-reads_weaker P Q f body r c reads =
-    BodyReads-both P Q (λ x. Unit {0}) body r c (λ x static. taken_weaker P Q f r c x) (λ k d within. tt) reads
 
 module _ (known : List StageFormula) where
   -- ---- stages that can be read

@@ -19,7 +19,8 @@ use Rattle.joined_formulas.specs.declared.known.StageFormula.{StageFormula}
 use Rattle.normal_jobs.specs.StandIns.{StandsForCase, StandsForBody, StandsForStage, StandForStages}
 use Rattle.normal_jobs.proofs.Zipped.{Before, After, find_before, find_after, same_at, same_length, zip_all}
 use Rattle.normal_jobs.proofs.Formulas.{formulas_stand, formulas_stay}
-use Rattle.normal_jobs.proofs.Reading.{body_reads_stay, readable_stays, reads_weaker}
+use Rattle.part_stages.proofs.Weaker.{reads_weaker}
+use Rattle.normal_jobs.proofs.Reading.{body_reads_stay, readable_stays}
 
 module _ (known : List StageFormula) where
   -- ---- bodies

@@ -67,10 +67,6 @@ module _ {X : Type 0} (R : X → X → Type 0) where
   same_at f g d (x ∷ xs) (y ∷ ys) z zero each = each x y refl z.0
   same_at f g d (x ∷ xs) (y ∷ ys) z (suc k) each = same_at f g d xs ys z.1 k each
 
-pub map_within : {X Y : Type 0} (f g : X → Y) (xs : List X) → All (λ x. f x ≡ g x) xs → map f xs ≡ map g xs
-map_within f g [] same = refl
-map_within {X} {Y} f g (x ∷ xs) same = λ i. All-head (λ (v : X). f v ≡ g v) x xs same i ∷ map_within f g xs (All-tail (λ (v : X). f v ≡ g v) x xs same) i
-
 -- one item more of those in memory, which are seen as others
 pub zip_more : {K X : Type 0} (R : X → X → Type 0) (view : K → X) (xs ys : List K) (i : ℕ) (x y : K) → i < length xs
     → x ≡ slice_index_or xs i x → AllZip R (map view (take i xs)) (map view ys) → R (view x) (view y)

@@ -1,27 +1,16 @@
 #![tactic(auto)]
 //! Which stages are known by a formula: those that copy another one or are one number, and those that are joined.
 
-ghost use Rattle.std.specs.Prelude.{◌≡◌, [], Some, IfOk, IfSome, OnOk};
+ghost use Rattle.std.specs.Prelude.{IfOk, OnOk};
 ghost use Rattle.job.specs.Kept.{pipeline_in};
-ghost use Rattle.job.specs.Pipeline.{function};
-ghost use Rattle.job.specs.Views.{body_view, formula_view};
 ghost use Rattle.joined_formulas.specs.Joins.{AreFormulasOf};
 
 use crate::uses::{NormalUse, count_normal_uses, is_light_formula};
 use domains::Index;
-use job::{Body, Formula, Job};
+use job::{Formula, Job};
 use joined_formulas::{StageFormula, make_joined_formula};
+use part_stages::find_only_part_formula;
 use std::alloc::{AllocError, Global};
-
-// The formula of a function that has one for all points.
-fn find_only_normal_formula(body: &Body) -> Option<&Formula>
-    ensures { IfSome result (λ formula. body_view body.now ≡ function [] (Some (formula_view formula.now))) }
-{
-    match body {
-        Body::Function(function) if function.cases().is_empty() => function.otherwise().as_ref(),
-        _ => None,
-    }
-}
 
 // Whether an index is a step from the number.
 fn is_normal_step(index: &Index) -> bool {
@@ -74,7 +63,7 @@ fn push_normal_join(
     if stage.rank() != rank {
         return Ok(());
     }
-    let Some(formula) = find_only_normal_formula(stage.body()) else {
+    let Some(formula) = find_only_part_formula(stage.body()) else {
         return Ok(());
     };
     if !may_be_normal_join(job, uses, number, formula) {

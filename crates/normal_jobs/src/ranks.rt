@@ -2,36 +2,12 @@
 //! Ranks of stages whose reads changed.
 
 ghost use Rattle.std.specs.Prelude.{◌≡◌, IsTrue, map};
-ghost use Rattle.domains.specs.Greatest.{greatest};
-ghost use Rattle.job.specs.Pipeline.{rank_of};
-ghost use Rattle.job.specs.Reads.{IsRanked, rank_by, stage_read};
-ghost use Rattle.job.specs.ReadViews.{read_view};
+ghost use Rattle.job.specs.Reads.{IsRanked, rank_by};
 ghost use Rattle.job.specs.Views.{stage_view};
 
-use job::{Body, Read, Stage};
+use job::{Body, Stage};
+use part_stages::find_greatest_part_rank;
 use std::alloc::{AllocError, Global};
-
-// The greatest rank of the stages that are read; 0 where nothing is.
-fn find_greatest_normal_rank(stages: &[Stage], reads: &[Read]) -> usize
-    ensures { result ≡ greatest
-        (map (λ x. rank_of (map stage_view stages.now) (stage_read x)) (map read_view reads.now)) }
-{
-    let mut greatest = 0;
-    for read in reads {
-        greatest = find_normal_rank(stages, read.stage()).max(greatest);
-    }
-    greatest
-}
-
-// The rank of the stage of this number.
-fn find_normal_rank(stages: &[Stage], number: usize) -> usize
-    ensures { result ≡ rank_of (map stage_view stages.now) number }
-{
-    match stages.get(number) {
-        Some(stage) => stage.rank(),
-        None => 0,
-    }
-}
 
 // Whether a stage has the rank that it has by those which it reads.
 fn has_normal_rank(stages: &[Stage], stage: &Stage) -> bool
@@ -41,7 +17,7 @@ fn has_normal_rank(stages: &[Stage], stage: &Stage) -> bool
     match stage.body() {
         Body::Plane(_) => stage.rank() == 0,
         Body::Function(_) | Body::Accumulator(_) => {
-            let below = find_greatest_normal_rank(stages, stage.reads());
+            let below = find_greatest_part_rank(stages, stage.reads());
             stage.rank().checked_sub(1) == Some(below)
         }
     }
