@@ -6,6 +6,7 @@ use Rattle.std.proofs.lemmas.List.Elements.{All-get_or}
 use Rattle.domains.specs.declared.area.Area.{Area}
 use Rattle.job.specs.Pipeline.{Pipeline}
 use Rattle.job.specs.Views.{stage_view}
+use Rattle.job.specs.WellFormed.{IsValued}
 use Rattle.row_plans.specs.Checks.{AreStagesRead, AreStatesOf}
 use Rattle.row_plans.specs.Leads.{CanMakeRow}
 use Rattle.row_plans.specs.Plans.{CanMake, IsOutputKept, states_after}
@@ -37,17 +38,18 @@ read_stage_covered job list g x all is =
 
 -- a row can be made whose window leaves one more, if all is kept that it is made of, and these are the windows then
 pub window_made : (list : List StageRowsRead) (states : List RowState) (windows : List RowStateWindow) (g : ℕ) (x : StageRowsRead)
-    (w new : RowStateWindow) → AreWindowsOf states windows → slice_get list g ≡ Some x
+    (w new : RowStateWindow) → AreWindowsOf states windows → slice_get list g ≡ Some x → IsValued (stage_view x.stage.now).body
     → slice_get windows g ≡ Some w → w.next ≤ℤ w.last → All (AreTakenKept states g w.next) x.reads.items
     → ((s : RowState) → IsWindowOf s w → IsWindowOf (one_row_more s) new)
     → CanMakeRow list states g × AreWindowsOf (states_after states g) (slice_set windows g new)
-window_made list states windows g x w new are is there more reads step =
+window_made list states windows g x w new are is valued there more reads step =
     let window = are g w there in
     let state = window.0 in
     let own = window.1 in (
       record {
         read = x;
         there = is;
+        valued = valued;
         state = state;
         own = own;
         begun = window.2.begun;
@@ -67,14 +69,14 @@ row_can_be_made job list states g all areas can =
     record {
       stage = stage_view can.read.stage.now;
       there = read_stage_there job list g can.read all can.there;
-      valued = covered.valued;
+      valued = can.valued;
       state = can.state;
       own = can.own;
       area = rw (same_Some has.read can.read (sym has.there ∙ can.there)) at has.area;
       begun = can.begun;
       left = can.left;
       some = can.some;
-      reads = covered.covered states g (next_row can.state) can.reads;
+      reads = covered.covered can.valued states g (next_row can.state) can.reads;
     }
 
 -- a state after a row is made has the area of the one before it

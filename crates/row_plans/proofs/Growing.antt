@@ -1,5 +1,5 @@
 -- Lists of row reads that grow.
-use Rattle.std.proofs.Common.{ℕ, zero, suc, ◌+◌, ◌<◌, ◌≡◌, ℤ, sym, ap, ◌∙◌, List, [], ◌∷◌, ◌++◌, length, get_or, take, map, slice_get, slice_set, Option, Some, None, All, ◌≢◌}
+use Rattle.std.proofs.Common.{ℕ, zero, suc, ◌+◌, ◌<◌, ◌≡◌, ℤ, sym, ap, ◌∙◌, List, [], ◌∷◌, ◌++◌, length, get_or, take, map, slice_get, slice_set, Option, Some, None, All, ◌≢◌, IfOk, IfSome, Result, Ok, Err, subst}
 use Rattle.std.specs.List.{flat_map}
 use Rattle.std.specs.Option.{option_map, ForSome}
 use Rattle.std.proofs.lemmas.List.{append-nil, map-append, map_more}
@@ -12,8 +12,10 @@ use Rattle.job.specs.FormulaViews.{formula_view}
 use Rattle.job.specs.Pipeline.{function}
 use Rattle.job.specs.Reads.{reads_in, other_formula, BodyReads, CaseReads, EachRead}
 use Rattle.job.specs.ReadViews.{read_view}
-use Rattle.job.specs.Views.{stage_view}
-use Rattle.job.specs.declared.stage.Body.TheVariants.{Function}
+use Rattle.job.specs.Views.{body_view, stage_view}
+use Rattle.job.specs.WellFormed.{IsValued}
+use Rattle.job.specs.declared.stage.Body.TheVariants.{Accumulator, Function}
+use Rattle.job.specs.declared.stage.Accumulator.{Accumulator as KeptAccumulator}
 use Rattle.job.specs.declared.stage.Function.{Function as KeptFunction}
 use Rattle.job.specs.declared.stage.Stage.{Stage as KeptStage}
 use Rattle.job.specs.declared.formula.Formula.{Formula as KeptFormula}
@@ -124,9 +126,20 @@ pub stage_reads : (stage : KeptStage) (formulas : KeptFunction) (reads : List Ro
     → BodyReads (λ h q d. (h ≢ g) × IsKeptAt states h q) (function (map case_view formulas.cases.items) (option_map formula_view formulas.otherwise)) r col)
     → AreRowsReadOf (stage_view stage) reads
 stage_reads stage formulas reads is taken = record {
-  valued = rw is tt;
-  covered = λ states g r all col held. rw is (taken states g r col held.0 all);
+  covered = λ _ states g r all col held. rw is (taken states g r col held.0 all);
 }
+
+-- of an accumulator no row is made
+pub no_rows : (stage : KeptStage) (a : KeptAccumulator) (reads : List RowsRead) → stage.body ≡ Accumulator a → AreRowsReadOf (stage_view stage) reads
+no_rows stage a reads is = record {
+  covered = λ valued. absurd (subst (λ body. IsValued (body_view body)) is valued);
+}
+
+-- what holds of all holds of what is found
+pub any_ok : {A E : Type 0} {P : A → Type 0} (r : Result (Option A) E) → ((a : A) → P a) → IfOk r (λ found. IfSome found P)
+any_ok (Ok None) each = tt
+any_ok (Ok (Some a)) each = each a
+any_ok (Err e) each = tt
 
 -- one stage more
 pub stages_more : (list new : List StageRowsRead) (x : StageRowsRead) (stages : List KeptStage) (i : ℕ) (y : KeptStage) → new ≡ list ++ x ∷ []

@@ -184,6 +184,7 @@ row_moved list d states g left left_then reads can =
     record {
       read = can.read;
       there = can.there;
+      valued = can.valued;
       state = rows_more (d g) s;
       own = moved_get d states g s own;
       begun = omega (arith, begun);

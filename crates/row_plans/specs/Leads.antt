@@ -1,6 +1,8 @@
 -- Steps of plans that lead from some states to others.
 use Rattle.std.specs.Prelude.{ℕ, zero, suc, ◌+◌, ◌<◌, ◌≤◌, ◌≡◌, pos, ◌+ℤ◌, List, [], ◌∷◌, ◌++◌, All, Some, slice_get}
 use Rattle.domains.specs.Span.{len_of}
+use Rattle.job.specs.Views.{stage_view}
+use Rattle.job.specs.WellFormed.{IsValued}
 use Rattle.row_plans.specs.Plans.{states_after}
 use Rattle.row_plans.specs.Rows.{IsKeptRow, next_row}
 use Rattle.row_plans.specs.Taken.{AreTakenKept}
@@ -11,11 +13,12 @@ use Rattle.row_plans.specs.declared.row_state.RowState.{RowState}
 use Rattle.row_plans.specs.declared.row_state_window.RowStateWindow.{RowStateWindow}
 use Rattle.row_plans.specs.declared.stage_rows_read.StageRowsRead.{StageRowsRead}
 
--- the next row of stage g can be made: it lies in the domain, from the first row that is made on. A row is to be kept, and all that it
--- reads is
+-- the next row of stage g can be made: the stage has values, and the row lies in the domain, from the first row that is made on. A row
+-- is to be kept, and all that it reads is
 pub record CanMakeRow (list : List StageRowsRead) (states : List RowState) (g : ℕ) : Type 0 where
   pub read : StageRowsRead
   pub there : slice_get list g ≡ Some read
+  pub valued : IsValued (stage_view read.stage.now).body
   pub state : RowState
   pub own : slice_get states g ≡ Some state
   pub begun : state.first ≤ state.next

@@ -31,10 +31,9 @@ pub record AreTakenKept (states : List RowState) (g : ℕ) (r : ℤ) (x : RowsRe
 abbrev pub IsReadKept : List RowState → ℕ → ℤ → ℤ → Read → Type 0
 IsReadKept states g r c x = EachTaken (λ h q d. (h ≢ g) × IsKeptAt states h q) x r c
 
--- the stage has values, and it reads no other rows than those of the list
+-- a stage that has values reads no other rows than those of the list
 pub record AreRowsReadOf (s : Stage) (reads : List RowsRead) : Type 0 where
-  pub valued : IsValued s.body
-  pub covered : (states : List RowState) (g : ℕ) (r : ℤ) → All (AreTakenKept states g r) reads → AreReadsKept states g s r
+  pub covered : IsValued s.body → (states : List RowState) (g : ℕ) (r : ℤ) → All (AreTakenKept states g r) reads → AreReadsKept states g s r
 
 -- ---- lists that grow
 

@@ -33,7 +33,9 @@ pub struct RowPlan {
 }
 
 /// A plan that outputs the rows of the picture from row `first` up to row `end`, excluded. `outputs` are the numbers of its
-/// functions. None if no plan is found: if the job has an accumulator, say, or if more than 33,554,432 numbers would be kept.
+/// functions; with none it outputs rows of nothing. When a row is output, what the accumulators `summed` read in their rows of the same
+/// place is made and kept. No clause says so: who accumulates asks for it. None if no plan is found: if more than 33,554,432 numbers
+/// would be kept, say.
 ///
 /// # Errors
 ///
@@ -42,6 +44,7 @@ pub fn make_row_plan(
     alloc: Global,
     job: &Job,
     outputs: &[usize],
+    summed: &[usize],
     first: usize,
     end: usize,
 ) -> Result<Option<RowPlan>, AllocError>
@@ -56,7 +59,8 @@ pub fn make_row_plan(
     let Some(rows) = list_rows_read_of_stages(alloc, job)? else {
         return Ok(None);
     };
-    let (plan, repeated) = RowPlanner::new(alloc, &rows, outputs)?.plan_rows(alloc, first, end)?;
+    let planner = RowPlanner::new(alloc, &rows, outputs, summed)?;
+    let (plan, repeated) = planner.plan_rows(alloc, first, end)?;
     let Some(numbers) = count_numbers_kept_in_row_states(&plan.states) else {
         return Ok(None);
     };

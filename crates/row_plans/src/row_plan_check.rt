@@ -42,7 +42,10 @@ fn take_plan_step_of_stage(
     let (Some(read), Some(window)) = (rows.get(stage), windows.get(stage)) else {
         return false;
     };
-    if !window.has_next_row() || !read.are_rows_read_kept(windows, stage, window.next()) {
+    if !read.has_planned_rows()
+        || !window.has_next_row()
+        || !read.are_rows_read_kept(windows, stage, window.next())
+    {
         return false;
     }
     windows[stage] = window.make_next_row();

@@ -70,6 +70,11 @@ impl PlannedRows {
         self.kept = self.kept.max(1);
     }
 
+    // Reads the next row of an accumulator, of which none is made.
+    fn read_row(&mut self) {
+        self.next = self.next.saturating_add(1);
+    }
+
     // Keeps the rows that are made, from this row on.
     fn keep_rows_from(&mut self, row: i32) {
         self.kept = self.kept.max(self.next.saturating_sub(row));
@@ -111,6 +116,8 @@ fn count_steps_of_planned_rows(rows: &[StageRowsRead]) -> u64 {
 pub(crate) struct RowPlanner<'a> {
     rows: &'a [StageRowsRead<'a>],
     outputs: &'a [usize],
+    // The accumulators that read the rows of the same places.
+    summed: &'a [usize],
     // The stages in dependence order, each with its rank.
     order: Vec<(usize, usize)>,
     planned: Vec<PlannedRows>,
@@ -134,6 +141,7 @@ impl<'a> RowPlanner<'a> {
         alloc: Global,
         rows: &'a [StageRowsRead<'a>],
         outputs: &'a [usize],
+        summed: &'a [usize],
     ) -> Result<RowPlanner<'a>, AllocError> {
         let mut order = Vec::with_capacity(alloc, rows.len())?;
         let mut planned = Vec::with_capacity(alloc, rows.len())?;
@@ -145,6 +153,7 @@ impl<'a> RowPlanner<'a> {
         Ok(RowPlanner {
             rows,
             outputs,
+            summed,
             order,
             planned,
             demands: Vec::new(alloc),
@@ -170,7 +179,9 @@ impl<'a> RowPlanner<'a> {
         first: usize,
         end: usize,
     ) -> Result<(RowPlan, RepeatedPlanSteps), AllocError> {
-        self.request_output_rows(first, end.saturating_sub(1));
+        let (outputs, summed) = (self.outputs, self.summed);
+        self.request_planned_rows_of_stages(outputs, first, end.saturating_sub(1));
+        self.request_planned_rows_of_stages(summed, first, end.saturating_sub(1));
         self.request_rows_read_by_all_stages();
         let mut row = first;
         let mut height = 1;
@@ -286,7 +297,8 @@ impl<'a> RowPlanner<'a> {
 
     // Wants what the rows of a stage read that are wanted.
     fn request_rows_read_by_stage(&mut self, stage: usize) {
-        let Some(found) = self.rows.get(stage) else {
+        let rows = self.rows;
+        let Some(found) = rows.get(stage) else {
             return;
         };
         let PlannedRows { first, wanted, .. } = self.find_planned_rows(stage);
@@ -300,12 +312,12 @@ impl<'a> RowPlanner<'a> {
         }
     }
 
-    // Wants rows of the picture in all its planes.
-    fn request_output_rows(&mut self, first: usize, last: usize) {
-        for output in self.outputs {
+    // Wants the rows of some stages at these places.
+    fn request_planned_rows_of_stages(&mut self, stages: &[usize], first: usize, last: usize) {
+        for stage in stages {
             if let (Some(read), Some(planned)) = (
-                self.rows.get(*output),
-                self.planned.get_mut(*output),
+                self.rows.get(*stage),
+                self.planned.get_mut(*stage),
             ) {
                 planned.request_rows(read.find_row_at_place(first), read.find_row_at_place(last));
             }
@@ -320,7 +332,7 @@ impl<'a> RowPlanner<'a> {
         }
     }
 
-    // Makes what a row of the picture needs, and outputs it.
+    // Makes what a row of the picture needs and what accumulators read in the row at its place, and outputs it.
     fn plan_output_row(&mut self, row: usize) -> Result<(), AllocError> {
         for output in self.outputs {
             if let Some(read) = self.rows.get(*output) {
@@ -329,9 +341,59 @@ impl<'a> RowPlanner<'a> {
                 self.make_demanded_planned_rows()?;
             }
         }
+        for stage in self.summed {
+            self.make_planned_rows_of_accumulator(*stage, row)?;
+        }
         self.keep_output_rows(row);
+        for stage in self.summed {
+            self.keep_planned_rows_of_accumulator(*stage, row);
+        }
         self.steps.push(PlanStep::Output)?;
         Ok(())
+    }
+
+    // Makes what an accumulator reads in the row at this place.
+    fn make_planned_rows_of_accumulator(
+        &mut self,
+        stage: usize,
+        row: usize,
+    ) -> Result<(), AllocError> {
+        let rows = self.rows;
+        let Some(found) = rows.get(stage) else {
+            return Ok(());
+        };
+        for read in found.reads() {
+            if let Some((_, bottom)) = read.find_rows_read_at(found.find_row_at_place(row)) {
+                self.demands.push((read.stage(), bottom.saturating_add(1)))?;
+                self.make_demanded_planned_rows()?;
+            }
+        }
+        Ok(())
+    }
+
+    // Keeps what an accumulator reads in the row at this place.
+    fn keep_planned_rows_of_accumulator(&mut self, stage: usize, row: usize) {
+        let rows = self.rows;
+        let Some(found) = rows.get(stage) else {
+            return;
+        };
+        let read = found.find_row_at_place(row);
+        self.keep_planned_rows_read(found, read);
+        if let Some(planned) = self.planned.get_mut(stage) {
+            planned.read_row();
+        }
+    }
+
+    // Keeps what this row of a stage reads.
+    fn keep_planned_rows_read(&mut self, found: &StageRowsRead, row: i32) {
+        for read in found.reads() {
+            if let (Some((top, _)), Some(planned)) = (
+                read.find_rows_read_at(row),
+                self.planned.get_mut(read.stage()),
+            ) {
+                planned.keep_rows_from(top);
+            }
+        }
     }
 
     // Makes the rows that are demanded, each as soon as all is made that it reads. A plan lacks rows if the search for them takes more
@@ -376,15 +438,9 @@ impl<'a> RowPlanner<'a> {
 
     // Makes the next row of a stage, and keeps what it reads. The number of a stage that is too great is left out.
     fn make_planned_row(&mut self, stage: usize, row: i32) -> Result<(), AllocError> {
-        if let Some(found) = self.rows.get(stage) {
-            for read in found.reads() {
-                if let (Some((top, _)), Some(planned)) = (
-                    read.find_rows_read_at(row),
-                    self.planned.get_mut(read.stage()),
-                ) {
-                    planned.keep_rows_from(top);
-                }
-            }
+        let rows = self.rows;
+        if let Some(found) = rows.get(stage) {
+            self.keep_planned_rows_read(found, row);
         }
         if let Some(planned) = self.planned.get_mut(stage) {
             planned.make_row();

@@ -10,6 +10,7 @@ ghost use Rattle.job.specs.Kept.{pipeline_in};
 ghost use Rattle.job.specs.Pipeline.{function};
 ghost use Rattle.job.specs.Reads.{BodyReads};
 ghost use Rattle.job.specs.Views.{stage_view};
+ghost use Rattle.job.specs.WellFormed.{IsValued};
 ghost use Rattle.row_plans.specs.Moved.{AreWindowsMoved, IsReadMoved};
 ghost use Rattle.row_plans.specs.Rows.{IsKeptAt};
 ghost use Rattle.row_plans.specs.Taken.{AreTakenKept, AreRowsReadOf, AddsCases, AddsReads, IsJoined, IsWider};
@@ -19,7 +20,7 @@ ghost use Rattle.row_plans.specs.declared.row_state.RowState.{RowState};
 use crate::row_state_window::RowStateWindow;
 use crate::rows_read::RowsRead;
 use domains::{Area, Span};
-use job::{Body, Function, Job, JobCase, Read, Stage};
+use job::{Accumulator, Body, Function, Job, JobCase, Read, Stage};
 use std::alloc::{AllocError, Global};
 
 /// What each row of a stage is made of.
@@ -30,17 +31,21 @@ pub(crate) struct StageRowsRead<'a> {
 }
 
 impl<'a> StageRowsRead<'a> {
-    /// What each row of the stage is made of. None of an accumulator, or if a kernel is too high.
+    /// What each row of the stage is made of, or read by, if it is an accumulator. None if a kernel is too high.
     ///
     /// # Errors
     ///
     /// Fails only where memory is refused.
-    fn from_stage(alloc: Global, stage: &'a Stage) -> Result<Option<StageRowsRead<'a>>, AllocError>
+    fn from_stage(
+        alloc: Global,
+        job: &Job,
+        stage: &'a Stage,
+    ) -> Result<Option<StageRowsRead<'a>>, AllocError>
         ensures stage { IfOk result (λ found. IfSome found (λ x. x.stage.now ≡ stage.now)) }
         ensures covered { IfOk result (λ found. IfSome found
             (λ x. AreRowsReadOf (stage_view stage.now) x.reads.items)) }
     {
-        match list_rows_read_of_stage(alloc, stage)? {
+        match list_rows_read_of_stage(alloc, job, stage)? {
             Some(reads) => Ok(Some(StageRowsRead { stage, reads })),
             None => Ok(None),
         }
@@ -51,6 +56,17 @@ impl<'a> StageRowsRead<'a> {
         ensures { result ≡ self.now.stage.now.domain }
     {
         *self.stage.domain()
+    }
+
+    /// Whether the stage has values, so that rows of it are made. An accumulator has none: it only reads.
+    #[inline]
+    pub(crate) fn has_planned_rows(&self) -> bool
+        ensures { result ≡ true → IsValued (stage_view self.now.stage.now).body }
+    {
+        match self.stage.body() {
+            Body::Plane(_) | Body::Function(_) => true,
+            Body::Accumulator(_) => false,
+        }
     }
 
     /// The stage's rank.
@@ -64,7 +80,7 @@ impl<'a> StageRowsRead<'a> {
         self.area().rows.lo().saturating_add(place)
     }
 
-    /// What each row is made of.
+    /// What each row is made of, or what an accumulator reads in it, besides planes.
     pub(crate) fn reads(&self) -> &[RowsRead]
         ensures { result.now ≡ self.now.reads.items }
     {
@@ -109,7 +125,7 @@ impl<'a> StageRowsRead<'a> {
     }
 }
 
-/// What the rows of each stage are made of. None if a stage is an accumulator, or a kernel is too high.
+/// What the rows of each stage are made of, and what accumulators read. None if a kernel is too high.
 ///
 /// # Errors
 ///
@@ -125,7 +141,7 @@ pub(crate) fn list_rows_read_of_stages<'a>(
 {
     let mut list = Vec::with_capacity(alloc, job.stages().len())?;
     for stage in job.stages() {
-        match StageRowsRead::from_stage(alloc, stage)? {
+        match StageRowsRead::from_stage(alloc, job, stage)? {
             Some(read) => list.push(read)?,
             None => return Ok(None),
         }
@@ -133,9 +149,10 @@ pub(crate) fn list_rows_read_of_stages<'a>(
     Ok(Some(list))
 }
 
-// What the rows of a stage are made of.
+// What the rows of a stage are made of, or what an accumulator reads.
 fn list_rows_read_of_stage(
     alloc: Global,
+    job: &Job,
     stage: &Stage,
 ) -> Result<Option<Vec<RowsRead>>, AllocError>
     ensures { IfOk result (λ found. IfSome found
@@ -146,7 +163,36 @@ fn list_rows_read_of_stage(
         Body::Function(formulas) => {
             list_rows_read_of_function(alloc, formulas, stage.domain().rows)
         }
-        Body::Accumulator(_) => Ok(None),
+        Body::Accumulator(accumulator) => {
+            list_rows_read_of_accumulator(alloc, job, accumulator, stage.domain().rows)
+        }
+    }
+}
+
+// What an accumulator reads in these rows, besides planes, which it reads where they lie.
+fn list_rows_read_of_accumulator(
+    alloc: Global,
+    job: &Job,
+    accumulator: &Accumulator,
+    rows: Span,
+) -> Result<Option<Vec<RowsRead>>, AllocError> {
+    let mut found = Vec::new(alloc);
+    for read in accumulator.reads() {
+        if !is_plane_of_rows_read(job, read.stage()) {
+            match RowsRead::from_read(read, rows) {
+                Some(taken) => push_or_join_rows_read(&mut found, taken)?,
+                None => return Ok(None),
+            }
+        }
+    }
+    Ok(Some(found))
+}
+
+// Whether a stage is a plane of the picture.
+fn is_plane_of_rows_read(job: &Job, stage: usize) -> bool {
+    match job.stage(stage) {
+        Some(found) => matches!(found.body(), Body::Plane(_)),
+        None => false,
     }
 }
 

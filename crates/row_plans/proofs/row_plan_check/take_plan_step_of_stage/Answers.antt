@@ -15,4 +15,4 @@ returns c = λ _ states are.
     let same : to_z w32 (of_z w32 c.next.result) ≡ c.next.result = omega (arith, ints) in
     let kept = c.are_rows_read_kept.ensures c.if-not-are_rows_read_kept.false states are in
     window_made rows states windows c.args.stage read window c.make_next_row.result are
-    read_there window_there (c.has_next_row.ensures c.if-not-has_next_row.false) (rw c.next.ensures at (rw same at kept)) c.make_next_row.ensures
+    read_there (c.has_planned_rows.ensures c.if-not-has_planned_rows.false) window_there (c.has_next_row.ensures c.if-not-has_next_row.false) (rw c.next.ensures at (rw same at kept)) c.make_next_row.ensures
