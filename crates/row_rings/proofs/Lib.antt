@@ -12,3 +12,4 @@ pub mod Points
 pub mod Begun
 pub mod Rooms
 pub mod Shapes
+pub mod Unvalued

@@ -93,7 +93,7 @@ module _ (job : Pipeline) (states : List RowState) (rings others : List (RowRing
         left = can.left;
         reads = λ c inside.
             BodyReads-both Asked (IsKeptPoint others) (λ x. IsWhole (ring_states rings) states (stage_read x)) can.stage.body
-            (next_row can.state) c (read_taken placed (next_row can.state) c) (served.reads can.stage can.there)
+            (next_row can.state) c (read_taken placed (next_row can.state) c) (served.reads can.stage can.there can.valued)
             (reads_both (IsReadable job.stages) (λ h q d. (h ≢ g) × IsKeptAt states h q) Asked (λ m q d x y. (x, y.0, y.1)) can.stage.body
             (next_row can.state) c ((well.stages g can.stage can.there).reads (next_row can.state) c inside) (can.reads c inside));
       })

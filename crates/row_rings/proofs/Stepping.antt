@@ -129,10 +129,10 @@ module _ (job : Pipeline) (states : List RowState) (g : ℕ) (can : CanMake job 
   served_more : (h : ℕ) → IsServed job (ring_states old) states h → IsServed job (ring_states new) (states_after states g) h
   served_more h served = record {
     own = whole_more h served.own;
-    reads = λ s there.
+    reads = λ s there valued.
         All-weaker (λ (x : Read). IsWhole (ring_states old) states (stage_read x))
         (λ (x : Read). IsWhole (ring_states new) (states_after states g) (stage_read x)) (λ x. whole_more (stage_read x)) (reads_of s.body)
-        (served.reads s there);
+        (served.reads s there valued);
   }
 
   -- ---- what is kept

@@ -2,6 +2,7 @@
 use Rattle.std.specs.Prelude.{ℕ, ◌<◌, ◌≤◌, ◌≡◌, Bool, false, if◌then◌else◌, Some, List, All, length, slice_get, slice_index_or}
 use Rattle.job.specs.Pipeline.{Stage, Pipeline}
 use Rattle.job.specs.Reads.{reads_of, stage_read}
+use Rattle.job.specs.WellFormed.{IsValued}
 use Rattle.row_plans.specs.declared.row_state.RowState.{RowState}
 use Rattle.row_rings.specs.NarrowRings.{IsFittingStage}
 
@@ -17,10 +18,10 @@ IsWholeWhereKept form states g = (s : RowState) → slice_get form g ≡ Some s 
 abbrev pub IsFittingWhereKept : Pipeline → List RowState → ℕ → Type 0
 IsFittingWhereKept job form g = (s : RowState) → slice_get form g ≡ Some s → 0 < s.kept → IsFittingStage job g
 
--- stage g is kept in the form, and so is each stage that it reads
+-- stage g is kept in the form, and if rows of it are made, so is each stage that it reads
 pub record IsServed (job : Pipeline) (form states : List RowState) (g : ℕ) : Type 0 where
   pub own : IsWhole form states g
-  pub reads : (s : Stage) → slice_get job.stages g ≡ Some s → All (λ x. IsWhole form states (stage_read x)) (reads_of s.body)
+  pub reads : (s : Stage) → slice_get job.stages g ≡ Some s → IsValued s.body → All (λ x. IsWhole form states (stage_read x)) (reads_of s.body)
 
 -- the forms of stage g are right: it can be computed in one, and in 16 bits only numbers are kept that fit in them
 pub record IsRightForm (job : Pipeline) (states wide narrow : List RowState) (computed : List Bool) (g : ℕ) : Type 0 where

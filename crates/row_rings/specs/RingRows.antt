@@ -37,6 +37,12 @@ pub record IsKeptPoint {T : Type 0} (rings : List (RowRing T)) (g : ℕ) (r c : 
   pub row : IsKeptRow ring.state r
   pub column : Holds ring.state.area.cols c
 
+-- row r of stage g is kept
+pub record IsKeptIn {T : Type 0} (rings : List (RowRing T)) (g : ℕ) (r : ℤ) : Type 0 where
+  pub ring : RowRing T
+  pub there : slice_get rings g ≡ Some ring
+  pub row : IsKeptRow ring.state r
+
 -- which rows are kept
 abbrev pub ring_states : {T : Type 0} → List (RowRing T) → List RowState
 ring_states rings = map (λ ring. ring.state) rings

@@ -1,6 +1,8 @@
 -- How the rows of stages are made.
 use Rattle.std.specs.Prelude.{ℕ, ◌≡◌, false, Some, List, [], ◌∷◌, slice_get}
+use Rattle.column_phases.specs.Phases.{ArePhasesOf}
 use Rattle.job.specs.Formula.{Formula}
+use Rattle.job.specs.declared.stage.Function.{Function}
 use Rattle.job.specs.Pipeline.{Body, plane, function, accumulator, Stage, Pipeline}
 use Rattle.linear_rows.specs.RowFormulas.{linear_formula, IsRightLinear}
 use Rattle.narrow_filters.specs.Filters.{filter_formula, IsRightFilter}
@@ -8,7 +10,7 @@ use Rattle.narrow_pieces.specs.Pieces.{AreFunctionPieces}
 use Rattle.narrow_pieces.specs.declared.piece.NarrowPieces.{NarrowPieces}
 use Rattle.wide_divisions.specs.DivisionSteps.{step_formula, IsRightStep}
 use Rattle.row_rings.specs.declared.ring_shapes.RingShape.{RingShape}
-use Rattle.row_rings.specs.declared.ring_shapes.RingShape.TheVariants.{Linear, Pieces, Filter, Division, Decimation, Halves, Other}
+use Rattle.row_rings.specs.declared.ring_shapes.RingShape.TheVariants.{Linear, Pieces, Filter, Division, Decimation, Phases, Other}
 use Rattle.row_rings.specs.NarrowRings.{is_linear_body}
 
 -- a function that is this formula everywhere
@@ -23,6 +25,12 @@ ArePiecesOfBody pieces (plane n) = ⊥
 ArePiecesOfBody pieces (function cases otherwise) = AreFunctionPieces pieces cases otherwise
 ArePiecesOfBody pieces (accumulator fold bins value bin) = ⊥
 
+-- a function that has these phases
+abbrev pub IsPhasedBody : List Function → Body → Type 0
+IsPhasedBody phases (plane n) = ⊥
+IsPhasedBody phases (function cases otherwise) = ArePhasesOf phases cases otherwise
+IsPhasedBody phases (accumulator fold bins value bin) = ⊥
+
 -- rows that are made so are those of the body. A body of another shape than that of a linear row is none
 abbrev pub IsShapeOf : RingShape → Body → Type 0
 IsShapeOf (Linear row) body = IsFormulaBody (linear_formula row) body × IsRightLinear row
@@ -30,7 +38,7 @@ IsShapeOf (Pieces pieces) body = ArePiecesOfBody pieces body × (is_linear_body 
 IsShapeOf (Filter filter) body = IsFormulaBody (filter_formula filter) body × IsRightFilter filter × (is_linear_body body ≡ false)
 IsShapeOf (Division step) body = IsFormulaBody (step_formula step) body × IsRightStep step × (is_linear_body body ≡ false)
 IsShapeOf Decimation body = is_linear_body body ≡ false
-IsShapeOf Halves body = is_linear_body body ≡ false
+IsShapeOf (Phases phases) body = IsPhasedBody phases.functions.items body × (is_linear_body body ≡ false)
 IsShapeOf Other body = is_linear_body body ≡ false
 
 -- and so for stage g

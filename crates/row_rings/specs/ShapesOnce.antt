@@ -1,7 +1,9 @@
 -- A stage has a shape in one way: any two proofs of it are equal.
 use Rattle.std.specs.Prelude.{List, [], ◌∷◌}
 use Rattle.std.proofs.Props.{props}
+use Rattle.column_phases.specs.PhasesOnce.{ArePhasesOf-prop}
 use Rattle.job.specs.Formula.{Formula}
+use Rattle.job.specs.declared.stage.Function.{Function}
 use Rattle.job.specs.Pipeline.{Body, plane, function, accumulator, Stage}
 use Rattle.linear_rows.specs.LinearOnce.{IsRightLinear-prop}
 use Rattle.narrow_filters.specs.FiltersOnce.{IsRightFilter-prop}
@@ -9,8 +11,8 @@ use Rattle.narrow_pieces.specs.PiecesOnce.{AreFunctionPieces-prop}
 use Rattle.narrow_pieces.specs.declared.piece.NarrowPieces.{NarrowPieces}
 use Rattle.wide_divisions.specs.StepsOnce.{IsRightStep-prop}
 use Rattle.row_rings.specs.declared.ring_shapes.RingShape.{RingShape}
-use Rattle.row_rings.specs.declared.ring_shapes.RingShape.TheVariants.{Linear, Pieces, Filter, Division, Decimation, Halves, Other}
-use Rattle.row_rings.specs.RingShapes.{IsFormulaBody, ArePiecesOfBody, IsShapeOf, AreShapesOf}
+use Rattle.row_rings.specs.declared.ring_shapes.RingShape.TheVariants.{Linear, Pieces, Filter, Division, Decimation, Phases, Other}
+use Rattle.row_rings.specs.RingShapes.{IsFormulaBody, ArePiecesOfBody, IsPhasedBody, IsShapeOf, AreShapesOf}
 
 IsFormulaBody-prop : (f : Formula) (body : Body) → IsProp (IsFormulaBody f body)
 IsFormulaBody-prop f (plane n) = hlevel props
@@ -22,13 +24,18 @@ ArePiecesOfBody-prop pieces (plane n) = hlevel props
 ArePiecesOfBody-prop pieces (function cases otherwise) = AreFunctionPieces-prop pieces cases otherwise
 ArePiecesOfBody-prop pieces (accumulator fold bins value bin) = hlevel props
 
+IsPhasedBody-prop : (phases : List Function) (body : Body) → IsProp (IsPhasedBody phases body)
+IsPhasedBody-prop phases (plane n) = hlevel props
+IsPhasedBody-prop phases (function cases otherwise) = ArePhasesOf-prop phases cases otherwise
+IsPhasedBody-prop phases (accumulator fold bins value bin) = hlevel props
+
 IsShapeOf-prop : (shape : RingShape) (body : Body) → IsProp (IsShapeOf shape body)
 IsShapeOf-prop (Linear row) body = hlevel (IsFormulaBody-prop, IsRightLinear-prop, props)
 IsShapeOf-prop (Pieces pieces) body = hlevel (ArePiecesOfBody-prop, props)
 IsShapeOf-prop (Filter filter) body = hlevel (IsFormulaBody-prop, IsRightFilter-prop, props)
 IsShapeOf-prop (Division step) body = hlevel (IsFormulaBody-prop, IsRightStep-prop, props)
 IsShapeOf-prop Decimation body = hlevel props
-IsShapeOf-prop Halves body = hlevel props
+IsShapeOf-prop (Phases phases) body = hlevel (IsPhasedBody-prop, props)
 IsShapeOf-prop Other body = hlevel props
 
 pub AreShapesOf-prop : (shapes : List RingShape) (stages : List Stage) → IsProp (AreShapesOf shapes stages)

@@ -69,10 +69,13 @@ fn read_whole_ring_forms_only(kept: &[RowState], states: &[RowState], reads: &[R
         .all(|read| is_whole_ring_form(kept, states, read.stage()))
 }
 
-// Whether all rows of a stage are kept in a form, and of those that it reads.
+// Whether all rows of a stage are kept in a form, and of those that it reads. An accumulator has no rows that are made of others.
 fn is_served_ring_form(job: &Job, kept: &[RowState], states: &[RowState], stage: usize) -> bool
     ensures { result ≡ true → IsServed (pipeline_in job.now) kept.now states.now stage }
 {
+    if job.is_accumulator(stage) {
+        return is_whole_ring_form(kept, states, stage);
+    }
     let Some(reads) = job.reads(stage) else {
         return false;
     };

@@ -45,6 +45,14 @@ fn is_linear_narrow_ring(function: &Function, ranges: &[ValueRange], stage: usiz
             .all(|read| has_narrow_ring_range(ranges, read.stage()))
 }
 
+// Whether a stage is a plane of the picture.
+fn is_plane_with_ring(job: &Job, stage: usize) -> bool {
+    match job.stage(stage) {
+        Some(found) => matches!(found.body(), Body::Plane(_)),
+        None => false,
+    }
+}
+
 /// Which stages are kept in which form, and which of them are computed in 16 bits: a flag for each stage.
 #[derive(Drop)]
 struct RingFormFlags {
@@ -98,20 +106,31 @@ impl RingFormFlags {
         }
     }
 
-    // Chooses the form of each stage that is not a plane.
+    // Keeps in 32 bits what an accumulator reads, besides planes, which it reads where they lie.
+    fn request_ring_forms_of_accumulator(&mut self, job: &Job, accumulator: usize) {
+        let Some(found) = job.stage(accumulator) else {
+            return;
+        };
+        for read in found.reads() {
+            if !is_plane_with_ring(job, read.stage()) {
+                self.request_ring_form(read.stage(), false);
+            }
+        }
+    }
+
+    // Chooses the form of each function.
     fn choose_ring_forms_of_functions(&mut self, job: &Job, ranges: &[ValueRange])
         requires { AreRanges (pipeline_in job.now) ranges.now }
     {
         for (stage, found) in job.stages().iter().enumerate() {
             match found.body() {
-                Body::Plane(_) => {}
+                Body::Plane(_) | Body::Accumulator(_) => {}
                 Body::Function(function) => {
                     let narrow = is_linear_narrow_ring(function, ranges, stage)
                         || (is_narrow_stage(job, ranges, stage)
                             && !has_slow_narrow_ring_test(function));
                     self.compute_stage_in_ring_form(stage, found, narrow);
                 }
-                Body::Accumulator(_) => self.compute_stage_in_ring_form(stage, found, false),
             }
         }
     }
@@ -151,7 +170,8 @@ fn list_row_states_of_ring_form(
     Ok(kept)
 }
 
-/// Computes each stage in 16 bits that can be, and keeps it in the forms in which it is read.
+/// Computes each stage in 16 bits that can be, and keeps it in the forms in which it is read. The accumulators `summed` read numbers of 32
+/// bits.
 ///
 /// # Errors
 ///
@@ -162,6 +182,7 @@ pub(crate) fn choose_ring_forms(
     ranges: &[ValueRange],
     states: &[RowState],
     outputs: &[usize],
+    summed: &[usize],
 ) -> Result<RingForms, AllocError>
     requires { AreRanges (pipeline_in job.now) ranges.now }
 {
@@ -170,6 +191,9 @@ pub(crate) fn choose_ring_forms(
     let narrow_outputs = flags.has_narrow_ring_outputs_only(outputs);
     for output in outputs {
         flags.request_ring_form(*output, narrow_outputs);
+    }
+    for accumulator in summed {
+        flags.request_ring_forms_of_accumulator(job, *accumulator);
     }
     flags.choose_ring_forms_of_planes(job);
     Ok(RingForms {

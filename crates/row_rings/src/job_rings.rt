@@ -83,7 +83,7 @@ impl<'a> JobRings<'a> {
     ghost use Rattle.row_rings.specs.Rings.{states_in, IsWideIn, IsNarrowIn, IsOutputForm};
 
     /// Rings for these states, in which nothing is made. The rows of `outputs` are kept as numbers of 16 bits if all of them are
-    /// computed so, else of 32 bits.
+    /// computed so, else of 32 bits. What the accumulators `summed` read is kept as numbers of 32 bits.
     ///
     /// # Errors
     ///
@@ -93,13 +93,14 @@ impl<'a> JobRings<'a> {
         job: &'a Job,
         states: &[RowState],
         outputs: &[usize],
+        summed: &[usize],
     ) -> Result<JobRings<'a>, AllocError>
         requires { All (λ state. state.next ≡ state.first) states.now }
         ensures job { IfOk result (λ rings. rings.job.now ≡ job.now) }
         ensures states { IfOk result (λ rings. states_in rings ≡ states.now) }
         ensures outputs { IfOk result (λ rings. All (IsOutputForm rings) outputs.now) }
     {
-        let forms = find_ring_forms(alloc, job, states, outputs)?;
+        let forms = find_ring_forms(alloc, job, states, outputs, summed)?;
         let room = find_greatest_ring_room(job, &forms.computed_narrow, false)?;
         let narrow_room = find_greatest_ring_room(job, &forms.computed_narrow, true)?;
         let states = states.to_vec(alloc)?;

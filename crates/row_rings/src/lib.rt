@@ -18,6 +18,7 @@ mod ring;
 mod ring_forms;
 mod ring_shapes;
 mod ring_source;
+mod wide_rows;
 
 pub use job_rings::JobRings;
 pub use ring::{RowRing, RowRings};

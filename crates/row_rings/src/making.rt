@@ -3,6 +3,7 @@
 
 ghost use Rattle.std.specs.Prelude.{◌≡◌, ◌<◌, ◌+ℤ◌, pos, length, map};
 ghost use Rattle.std.specs.Option.{option_map};
+ghost use Rattle.column_phases.specs.Phases.{ArePhasesOf};
 ghost use Rattle.domains.specs.Span.{len_of};
 ghost use Rattle.job.specs.Kept.{pipeline_in};
 ghost use Rattle.job.specs.Pipeline.{function as function_body};
@@ -20,10 +21,10 @@ ghost use Rattle.wide_divisions.specs.DivisionSteps.{step_formula, IsRightStep};
 
 use crate::ring::{RowRing, RowRings};
 use crate::ring_shapes::RingShape;
+use column_phases::{ColumnPhases, write_wide_column_phases};
 use domains::{Area, Span};
 use job::{Body, Function, Job};
 use netpbm::Picture;
-use row_halves::{find_row_halves, write_wide_halves};
 use row_kernels::convert_samples_to_row;
 use row_plans::RowState;
 use tile_eval::{RowSpan, evaluate_function_area, find_span_number_at_position};
@@ -76,23 +77,22 @@ fn write_division_row_to_ring(
     }
 }
 
-// Writes a row of a function from its halves, if it has any, else by its formulas, on an area of one row. The contents of the
-// operands' buffer have no meaning.
-fn write_halved_row_to_ring(
+// Writes a row of a function by its phases, on an area of one row. The contents of the operands' buffer have no meaning.
+fn write_phased_row_to_ring(
     known: &RowRings<i32>,
     function: &Function,
+    phases: &ColumnPhases,
     area: &Area,
     out: &mut [i32],
     temps: &mut [i32],
 )
     requires row { IsRowToWrite known.now.rings.items function.now area.now (length out.old)
         (length temps.old) }
+    requires phases { ArePhasesOf phases.now.functions.items
+        (map case_view function.now.cases.items) (option_map formula_view function.now.otherwise) }
     ensures { IsFunctionRow known.now.rings.items function.now area.now (length out.old) out.new }
 {
-    match find_row_halves(function) {
-        Some(halves) => write_wide_halves(known, function, &halves, area, out, temps),
-        None => write_formula_row_to_ring(known, function, area, out, temps),
-    }
+    write_wide_column_phases(known, function, phases, area, out, temps);
 }
 
 // Writes a row of a function of this shape, on an area of one row. The contents of the operands' buffer have no meaning.
@@ -114,7 +114,9 @@ fn write_shaped_row_to_ring(
         RingShape::Division(step) => {
             write_division_row_to_ring(known, function, step, area, out, temps)
         }
-        RingShape::Halves => write_halved_row_to_ring(known, function, area, out, temps),
+        RingShape::Phases(phases) => {
+            write_phased_row_to_ring(known, function, phases, area, out, temps)
+        }
         _ => write_formula_row_to_ring(known, function, area, out, temps),
     }
 }

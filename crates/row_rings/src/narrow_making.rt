@@ -24,6 +24,7 @@ ghost use Rattle.tile_eval.specs.Cases.{function_value};
 use crate::narrow_ring_source::NarrowRingSource;
 use crate::ring::{RowRing, RowRings};
 use crate::ring_shapes::RingShape;
+use column_phases::write_narrow_column_phases;
 use domains::Area;
 use job::{Body, Function, Job};
 use linear_rows::write_linear_row;
@@ -33,7 +34,6 @@ use narrow_filters::write_narrow_filter;
 use narrow_kernels::convert_samples_to_narrow_row;
 use narrow_pieces::write_narrow_pieces;
 use netpbm::Picture;
-use row_halves::{find_row_halves, write_narrow_halves};
 use row_plans::RowState;
 use tile_eval::RowSpan;
 
@@ -68,30 +68,6 @@ fn write_formula_row_to_narrow_ring<S: NarrowSource>(
     match (function.cases(), function.otherwise()) {
         ([], Some(formula)) => evaluate_narrow_formula(source, points, formula, out, temps),
         _ => evaluate_narrow_function(source, function, points, out, temps),
-    }
-}
-
-// Writes a row of a function from its halves, if it has any, else by its formulas. The contents of `temps` have no meaning.
-fn write_halved_row_to_narrow_ring<S: NarrowSource>(
-    source: &S,
-    function: &Function,
-    points: &RowSpan,
-    out: &mut [i16],
-    temps: &mut [i16],
-)
-    requires some { 0 < length out.old }
-    requires fits { length out.old ≡ points.now.len }
-    requires function { IsNarrowComputable (S.has source.now) (S.samples source.now) points.now.row
-        points.now.col (length out.old) (length temps.old) (map case_view function.now.cases.items)
-        (option_map formula_view function.now.otherwise) }
-    ensures { EachPlace (length out.old) (λ k. at out.new k
-        ≡ function_value (S.samples source.now) (map case_view function.now.cases.items)
-        (option_map formula_view function.now.otherwise) points.now.row
-        (points.now.col +ℤ pos k)) }
-{
-    match find_row_halves(function) {
-        Some(halves) => write_narrow_halves(source, function, &halves, points, out, temps),
-        None => write_formula_row_to_narrow_ring(source, function, points, out, temps),
     }
 }
 
@@ -154,7 +130,9 @@ fn write_shaped_row_to_narrow_ring<S: NarrowSource>(
         RingShape::Decimation => write_decimated_row_to_narrow_ring(
             source, function, points, out, temps,
         ),
-        RingShape::Halves => write_halved_row_to_narrow_ring(source, function, points, out, temps),
+        RingShape::Phases(phases) => {
+            write_narrow_column_phases(source, function, phases, points, out, temps)
+        }
         RingShape::Division(_) => {
             write_formula_row_to_narrow_ring(source, function, points, out, temps)
         }

@@ -65,7 +65,7 @@ fn list_wide_ring_forms(alloc: Global, states: &[RowState]) -> Result<RingForms,
 }
 
 /// The forms of the rings of a job that has these states. `outputs` are kept as numbers of 16 bits if all of them are computed so, else
-/// of 32 bits.
+/// of 32 bits. What the accumulators `summed` read is kept as numbers of 32 bits.
 ///
 /// # Errors
 ///
@@ -75,6 +75,7 @@ pub(crate) fn find_ring_forms(
     job: &Job,
     states: &[RowState],
     outputs: &[usize],
+    summed: &[usize],
 ) -> Result<RingForms, AllocError>
     ensures right { IfOk result (λ forms. AreRightForms (pipeline_in job.now) states.now forms.wide.items
         forms.narrow.items forms.computed_narrow.items) }
@@ -86,7 +87,7 @@ pub(crate) fn find_ring_forms(
         outputs.now) }
 {
     let ranges = find_value_ranges(alloc, job)?;
-    let forms = choose_ring_forms(alloc, job, &ranges, states, outputs)?;
+    let forms = choose_ring_forms(alloc, job, &ranges, states, outputs, summed)?;
     if are_ring_forms_right(job, &ranges, states, &forms, outputs) {
         return Ok(forms);
     }

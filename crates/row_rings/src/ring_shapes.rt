@@ -9,18 +9,18 @@ ghost use Rattle.job.specs.Views.{case_view, formula_view, stage_view};
 ghost use Rattle.linear_rows.specs.LinearRows.{is_linear_function};
 ghost use Rattle.row_rings.specs.RingShapes.{IsShapeOf, AreShapesOf};
 
+use column_phases::{ColumnPhases, find_column_phases};
 use job::{Body, Function, Job, Stage};
 use linear_rows::{LinearRow, find_linear_row};
 use narrow_decimations::find_narrow_decimation;
 use narrow_filters::{NarrowFilter, find_narrow_filter};
 use narrow_pieces::{NarrowPieces, find_narrow_pieces};
-use row_halves::find_row_halves;
 use std::alloc::{AllocError, Global};
 use wide_divisions::{DivisionStep, find_division_step};
 
-/// How the rows of a stage are made: as those of a function that is written in one pass or a few, from halves or by decimation where the
-/// row allows it, or by its formulas. Rows of 32 bits may be steps of a division; those of 16 bits have the other passes. Both may be
-/// made of halves or by formulas.
+/// How the rows of a stage are made: as those of a function that is written in one pass or a few, by decimation where the row allows it,
+/// by phases, or by its formulas. Rows of 32 bits may be steps of a division; those of 16 bits have the other passes. Both may be made
+/// by phases or by formulas.
 #[derive(Drop)]
 pub(crate) enum RingShape<'a> {
     Linear(LinearRow<'a>),
@@ -28,7 +28,7 @@ pub(crate) enum RingShape<'a> {
     Filter(NarrowFilter<'a>),
     Division(DivisionStep<'a>),
     Decimation,
-    Halves,
+    Phases(ColumnPhases),
     Other,
 }
 
@@ -54,8 +54,8 @@ fn find_ring_shape_besides_linear<'a>(
     if find_narrow_decimation(function).is_some() {
         return Ok(RingShape::Decimation);
     }
-    match find_row_halves(function) {
-        Some(_) => Ok(RingShape::Halves),
+    match find_column_phases(alloc, function)? {
+        Some(phases) => Ok(RingShape::Phases(phases)),
         None => Ok(RingShape::Other),
     }
 }

@@ -17,3 +17,9 @@ write_division_row_to_ring-requires-clause-right c =
     let f = c.args.function.now in
     (subst (λ (shape : RingShape). IsShapeOf shape (function (map case_view f.cases.items) (option_map formula_view f.otherwise)))
     c.in-Division.is c.requires.shape).1
+
+pub write_phased_row_to_ring-requires-clause-phases : goal.write_phased_row_to_ring-requires-clause-phases
+write_phased_row_to_ring-requires-clause-phases c =
+    let f = c.args.function.now in
+    (subst (λ (shape : RingShape). IsShapeOf shape (function (map case_view f.cases.items) (option_map formula_view f.otherwise)))
+    c.in-Phases.is c.requires.shape).0

@@ -103,14 +103,20 @@ write_decimated_row_to_narrow_ring-requires-clause-function g c =
     (subst (λ (shape : RingShape). IsShapeOf shape (function (map case_view f.cases.items) (option_map formula_view f.otherwise)))
     c.in-Decimation.is c.requires.shape)
 
--- ---- halves
+-- ---- phases
 
-pub write_halved_row_to_narrow_ring-requires-clause-function : goal.write_halved_row_to_narrow_ring-requires-clause-function
-write_halved_row_to_narrow_ring-requires-clause-function g c =
+pub write_narrow_column_phases-requires-clause-function : goal.write_narrow_column_phases-requires-clause-function
+write_narrow_column_phases-requires-clause-function g c =
     let f = c.args.function.now in
     c.requires.function
     (subst (λ (shape : RingShape). IsShapeOf shape (function (map case_view f.cases.items) (option_map formula_view f.otherwise)))
-    c.in-Halves.is c.requires.shape)
+    c.in-Phases.is c.requires.shape).1
+
+pub write_narrow_column_phases-requires-clause-phases : goal.write_narrow_column_phases-requires-clause-phases
+write_narrow_column_phases-requires-clause-phases g c =
+    let f = c.args.function.now in
+    (subst (λ (shape : RingShape). IsShapeOf shape (function (map case_view f.cases.items) (option_map formula_view f.otherwise)))
+    c.in-Phases.is c.requires.shape).0
 
 -- ---- a step of a division, and any other
 
