@@ -1,0 +1,2 @@
+pub mod PointsAreRead
+pub mod RowsAreRead
