@@ -1,3 +1,4 @@
+pub mod Crossing
 pub mod Forms
 pub mod Lines
 pub mod MadeInOrder

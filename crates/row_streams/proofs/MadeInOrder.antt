@@ -1,7 +1,8 @@
 -- What threads made, joined in order.
-use Rattle.std.proofs.Common.{◌≡◌, ◌-◌, ℕ, List, [], ◌∷◌, ◌++◌, map, refl, ap, subst, ◌∙◌, MatchResult, Result, Ok, Err, arith}
+use Rattle.std.proofs.Common.{◌≡◌, ◌-◌, ℕ, List, [], ◌∷◌, ◌++◌, map, refl, sym, ap, subst, ◌∙◌, All, MatchResult, Result, Ok, Err, arith}
 use Rattle.std.specs.Prelude.{IfOk}
 use Rattle.std.specs.List.{flat_map, AllZip, Contains, range_with_len}
+use Rattle.std.proofs.lemmas.List.Elements.{All-nil, All-cons}
 use Rattle.std.specs.declared.vec.Vec.{Vec}
 use Rattle.rayon.specs.Numbers.{nat_range}
 
@@ -32,3 +33,19 @@ collected_bytes {Y} {E} {A} view h R n bytes all r each whole xs places zipped m
     ap (flat_map view) made.2
     ∙ joined R view h each xs made.0 (subst (λ (l : List (Result Y E)). AllZip R xs l) made.1 zipped)
     ∙ ap (flat_map h) (places ∙ ap (range_with_len 0) count) ∙ whole)
+
+-- what holds of each that was made holds of all
+all_made : {X Y E : Type 0} (R : X → Result Y E → Type 0) (P : Y → Type 0) → ((x : X) (y : Y) → R x (Ok y) → P y)
+    → (xs : List X) (ys : List Y) → AllZip R xs (map Ok ys) → All P ys
+all_made R P each [] [] z = All-nil P
+all_made R P each [] (y ∷ ys) z = absurd z
+all_made R P each (x ∷ xs) [] z = absurd z
+all_made R P each (x ∷ xs) (y ∷ ys) z = All-cons P y ys (each x y z.0) (all_made R P each xs ys z.1)
+
+pub collected_all : {X Y E A : Type 0} (R : X → Result Y E → Type 0) (P : Y → Type 0) (xs : List X) (all : List (Result Y E)) (r : Result (Vec Y A) E)
+    → ((x : X) (y : Y) → R x (Ok y) → P y) → AllZip R xs all
+    → MatchResult r (λ v. (ys : List Y) × (all ≡ map Ok ys) × (v.items ≡ ys)) (λ e. Contains all (Err e))
+    → IfOk r (λ v. All P v.items)
+collected_all {X} {Y} {E} R P xs all r each zipped match =
+    if_ok r (λ v. (ys : List Y) × (all ≡ map Ok ys) × (v.items ≡ ys)) (λ e. Contains all (Err e)) (λ v. All P v.items) match
+    (λ v made. subst (All P) (sym made.2) (all_made R P each xs made.0 (subst (λ (l : List (Result Y E)). AllZip R xs l) made.1 zipped)))

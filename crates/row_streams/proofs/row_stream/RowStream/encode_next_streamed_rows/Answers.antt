@@ -17,7 +17,7 @@ slice_bounds-encode_next_streamed_row-end c =
 pub loop-k-preserved : goal.loop-k-preserved
 loop-k-preserved c =
     let self = c.args.self.now in
-    let job = pipeline_in self.job.now in
+    let job = pipeline_in self.steps.job.now in
     let o = output_view self.output.now in
     let k = c.loop-k.k in
     let before = c.loop-k.invariant in
@@ -27,10 +27,10 @@ loop-k-preserved c =
     let within = line_within k c.args.count self.row_len (length c.loop-k.out) (search rules) all in
     let from : k * self.row_len ≤ length c.loop-k.out = omega arith in
     let is =
-    row.ensures.bytes ∙ ap (λ kept. raw_row (pipeline_in kept.now) (output_view c.loop-k.self.output.now) c.loop-k.self.row) before.job
-    ∙ ap (λ kept. raw_row job (output_view kept.now) c.loop-k.self.row) before.output ∙ ap (raw_row job o) before.row in
-    let long : length row.new.out ≡ self.row_len = ap length is ∙ raw_row_len job o self.formed (self.row + k) ∙ sym self.wide in record {
-      bytes = rows_more job o self.row k self.row_len _ c.loop-k.out row.new.out before.bytes from long is;
+    row.ensures.bytes ∙ ap (λ kept. raw_row (pipeline_in kept.now) (output_view c.loop-k.self.output.now) c.loop-k.self.steps.row) before.job
+    ∙ ap (λ kept. raw_row job (output_view kept.now) c.loop-k.self.steps.row) before.output ∙ ap (raw_row job o) before.row in
+    let long : length row.new.out ≡ self.row_len = ap length is ∙ raw_row_len job o self.formed (self.steps.row + k) ∙ sym self.wide in record {
+      bytes = rows_more job o self.steps.row k self.row_len _ c.loop-k.out row.new.out before.bytes from long is;
       row = search rules;
       job = row.ensures.job ∙ before.job;
       output = row.ensures.output ∙ before.output;

@@ -6,9 +6,9 @@ use Rattle.row_streams.proofs.row_stream.RowStream.encode_next_streamed_rows.Giv
 
 abbrev pub invariant-loop-k : goal.invariant-loop-k
 invariant-loop-k l = record {
-  bytes : take (l.k * l.len) l.out ≡ raw_rows (pipeline_in l.fn.self.job.now) (output_view l.fn.self.output.now) l.fn.self.row l.k;
-  row : l.self.row ≡ l.fn.self.row + l.k;
-  job : l.self.job ≡ l.fn.self.job;
+  bytes : take (l.k * l.len) l.out ≡ raw_rows (pipeline_in l.fn.self.steps.job.now) (output_view l.fn.self.output.now) l.fn.self.steps.row l.k;
+  row : l.self.steps.row ≡ l.fn.self.steps.row + l.k;
+  job : l.self.steps.job ≡ l.fn.self.steps.job;
   output : l.self.output ≡ l.fn.self.output;
-  end : l.self.end ≡ l.fn.self.end;
+  end : l.self.steps.end ≡ l.fn.self.steps.end;
 }

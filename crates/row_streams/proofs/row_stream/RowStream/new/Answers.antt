@@ -1,4 +1,4 @@
-use Rattle.std.proofs.Common.{◌≡◌, ◌*◌, Option, Some, None, All, length, slice_get, subst, sym, ap, ◌∙◌}
+use Rattle.std.proofs.Common.{◌≡◌, ◌*◌, Option, Some, None, length, slice_get, sym, ap, ◌∙◌}
 use Rattle.std.specs.Prelude.{slice_index}
 use Rattle.std.specs.Option.{option_map, option_map_or}
 use Rattle.std.proofs.lemmas.Option.{same_Some}
@@ -9,7 +9,7 @@ use Rattle.job.specs.Kept.{pipeline_in}
 use Rattle.job.specs.Pipeline.{Stage}
 use Rattle.job.specs.Views.{output_view}
 use Rattle.netpbm.specs.Raw.{width_of}
-use Rattle.row_rings.specs.Rings.{IsOutputForm}
+use Rattle.raw_rows.specs.Rows.{bytes_per_row}
 use Rattle.row_streams.proofs.row_stream.RowStream.new.Goals as goal
 
 width_found : (found : Option Stage) (area : Area) → option_map (λ s. s.domain) found ≡ Some area
@@ -17,11 +17,8 @@ width_found : (found : Option Stage) (area : Area) → option_map (λ s. s.domai
 width_found None area is = cc
 width_found (Some s) area is = ap (λ (a : Area). len_of a.cols) (sym (same_Some s.domain area is))
 
-pub invariant_of-result-clause-own : goal.invariant_of-result-clause-own
-invariant_of-result-clause-own c = c.in_ok-rings.ensures.job
-
-pub invariant_of-result-clause-formed_rings : goal.invariant_of-result-clause-formed_rings
-invariant_of-result-clause-formed_rings c = subst (All (IsOutputForm c.in_ok-rings.rings)) c.stages-2.ensures c.in_ok-rings.ensures.outputs
+pub invariant_of-result-clause-planes : goal.invariant_of-result-clause-planes
+invariant_of-result-clause-planes c = (rw c.in-Some-2.is at c.in_ok-steps.ensures.outputs) ∙ c.stages.ensures
 
 pub invariant_of-result-clause-wide : goal.invariant_of-result-clause-wide
 invariant_of-result-clause-wide c =
@@ -31,4 +28,6 @@ invariant_of-result-clause-wide c =
     c.len.ensures.number
     ∙ width_found (slice_get job.stages c.first_stage.result) c.in-Some.area (sym c.domain.ensures ∙ c.in-Some.is)
     ∙ ap (Answers.width_of job) c.first_stage.ensures in
-    c.count_raw_row_bytes-row_len.ensures ∙ (λ i. width_of (c.max.ensures i) * (length (c.stages-3.ensures i) * cols i))
+    let same : c.in-Some-2.steps.job.now ≡ c.args.job.now = rw c.in-Some-2.is at c.in_ok-steps.ensures.job in
+    c.count_raw_row_bytes-row_len.ensures ∙ (λ i. width_of (c.max.ensures i) * (length (c.stages-2.ensures i) * cols i))
+    ∙ ap (λ kept. bytes_per_row (pipeline_in kept) o) (sym same)

@@ -11,14 +11,18 @@ returns c =
     let self = c.args.self.now in
     let height = row_count (pipeline_in self.job.now) (output_view self.output.now) in
     let stream = c.in-Some.stream in
-    let out = c.encode_next_streamed_rows.new.out in
-    let long : length out ≡ c.in_ok-bytes.bytes.len = omega (arith, c.encode_next_streamed_rows.auto.out, c.deref_mut.ensures.len) in
-    let job : stream.job.now ≡ self.job.now = search rules in
+    let out = c.encode_next_streamed_rows_with_totals.new.out in
+    let long : length out ≡ c.in_ok-bytes.bytes.len = omega (arith, c.encode_next_streamed_rows_with_totals.auto.out, c.deref_mut.ensures.len) in
+    let job : stream.steps.job.now ≡ self.job.now = search rules in
     let output : stream.output.now ≡ self.output.now = search rules in
     let first : c.min-first.result ≡ strip_start height self.len c.args.number = search rules in
     let end : c.min-end.result ≡ strip_end height self.len c.args.number = search rules in
-    let row : stream.row ≡ c.min-first.result = search rules in
+    let row : stream.steps.row ≡ c.min-first.result = search rules in
+    let bytes =
     ap (λ n. take n (out ++ drop (length out) c.in_ok-bytes.bytes.items)) (sym long)
     ∙ take-append_seam out (drop (length out) c.in_ok-bytes.bytes.items)
-    ∙ c.encode_next_streamed_rows.ensures.bytes
-    ∙ (λ i. raw_rows (pipeline_in (job i)) (output_view (output i)) ((row ∙ first) i) (end i - first i))
+    ∙ c.in_ok-encode_next_streamed_rows_with_totals.ensures.bytes
+    ∙ (λ i. raw_rows (pipeline_in (job i)) (output_view (output i)) ((row ∙ first) i) (end i - first i)) in record {
+      bytes = bytes;
+      totals = ap (λ kept. kept.now) c.encode_next_streamed_rows_with_totals.ensures.totals ∙ c.in_ok-totals.ensures.job;
+    }

@@ -1,11 +1,11 @@
 use Rattle.std.proofs.Common.{◌≡◌, ◌-◌, length}
-use Rattle.row_streams.proofs.row_stream.RowStream.make_rows_before_next_streamed_row.Given as goal
+use Rattle.row_streams.proofs.row_steps.RowStreamSteps.make_rows_before_next_streamed_row.Given as goal
 
 abbrev pub invariant-loop-stage : goal.invariant-loop-stage
 invariant-loop-stage l = record {
   row : l.self.row ≡ l.fn.self.row;
   job : l.self.job ≡ l.fn.self.job;
-  output : l.self.output ≡ l.fn.self.output;
+  outputs : l.self.outputs ≡ l.fn.self.outputs;
   end : l.self.end ≡ l.fn.self.end;
 }
 
