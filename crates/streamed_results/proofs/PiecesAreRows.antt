@@ -17,34 +17,34 @@ rows_then job o a b r le up =
     ∙ ap (raw_rows job o a) rest
 
 -- the rows of a stream up to where another one of the same picture goes on, and those of that one
-pub up_then : (s t : RowStream) (r : ℕ) → t.job ≡ s.job → t.output ≡ s.output → s.row ≤ t.row → t.row ≤ r
-    → bytes_up_to s t.row ++ bytes_up_to t r ≡ bytes_up_to s r
+pub up_then : (s t : RowStream) (r : ℕ) → t.steps.job ≡ s.steps.job → t.output ≡ s.output → s.steps.row ≤ t.steps.row → t.steps.row ≤ r
+    → bytes_up_to s t.steps.row ++ bytes_up_to t r ≡ bytes_up_to s r
 up_then s t r job output le up =
-    ap (λ kept. bytes_up_to s t.row ++ raw_rows (pipeline_in kept.now) (output_view t.output.now) t.row (r - t.row)) job
-    ∙ ap (λ kept. bytes_up_to s t.row ++ raw_rows (pipeline_in s.job.now) (output_view kept.now) t.row (r - t.row)) output
-    ∙ rows_then (pipeline_in s.job.now) (output_view s.output.now) s.row t.row r le up
+    ap (λ kept. bytes_up_to s t.steps.row ++ raw_rows (pipeline_in kept.now) (output_view t.output.now) t.steps.row (r - t.steps.row)) job
+    ∙ ap (λ kept. bytes_up_to s t.steps.row ++ raw_rows (pipeline_in s.steps.job.now) (output_view kept.now) t.steps.row (r - t.steps.row)) output
+    ∙ rows_then (pipeline_in s.steps.job.now) (output_view s.output.now) s.steps.row t.steps.row r le up
 
 -- and those behind
 abbrev pub bytes_behind : RowStream → ℕ → List ℕ
-bytes_behind s r = raw_rows (pipeline_in s.job.now) (output_view s.output.now) r (s.end - r)
+bytes_behind s r = raw_rows (pipeline_in s.steps.job.now) (output_view s.output.now) r (s.steps.end - r)
 
-pub up_behind : (s : RowStream) (r : ℕ) → s.row ≤ r → r ≤ s.end → bytes_up_to s r ++ bytes_behind s r ≡ bytes_left s
-up_behind s r le up = rows_then (pipeline_in s.job.now) (output_view s.output.now) s.row r s.end le up
+pub up_behind : (s : RowStream) (r : ℕ) → s.steps.row ≤ r → r ≤ s.steps.end → bytes_up_to s r ++ bytes_behind s r ≡ bytes_left s
+up_behind s r le up = rows_then (pipeline_in s.steps.job.now) (output_view s.output.now) s.steps.row r s.steps.end le up
 
 -- none is given yet
-pub up_none : (s : RowStream) → [] ≡ bytes_up_to s s.row
+pub up_none : (s : RowStream) → [] ≡ bytes_up_to s s.steps.row
 up_none s =
-    let none : 0 ≡ s.row - s.row = omega arith in ap (raw_rows (pipeline_in s.job.now) (output_view s.output.now) s.row) none
+    let none : 0 ≡ s.steps.row - s.steps.row = omega arith in ap (raw_rows (pipeline_in s.steps.job.now) (output_view s.output.now) s.steps.row) none
 
 -- there are no more
-pub up_all : (s : RowStream) (r : ℕ) → r - s.row ≡ s.end - s.row → bytes_up_to s r ≡ bytes_left s
-up_all s r e = ap (raw_rows (pipeline_in s.job.now) (output_view s.output.now) s.row) e
+pub up_all : (s : RowStream) (r : ℕ) → r - s.steps.row ≡ s.steps.end - s.steps.row → bytes_up_to s r ≡ bytes_left s
+up_all s r e = ap (raw_rows (pipeline_in s.steps.job.now) (output_view s.output.now) s.steps.row) e
 
 -- the bytes of so many rows of a stream
-pub piece_len : (s : RowStream) (count len : ℕ) (piece : List ℕ) → piece ≡ raw_rows (pipeline_in s.job.now) (output_view s.output.now) s.row count
-    → len ≡ count * bytes_per_row (pipeline_in s.job.now) (output_view s.output.now) → length piece ≡ len
+pub piece_len : (s : RowStream) (count len : ℕ) (piece : List ℕ) → piece ≡ raw_rows (pipeline_in s.steps.job.now) (output_view s.output.now) s.steps.row count
+    → len ≡ count * bytes_per_row (pipeline_in s.steps.job.now) (output_view s.output.now) → length piece ≡ len
 piece_len s count len piece is e =
-    ap length is ∙ raw_rows_len (pipeline_in s.job.now) (output_view s.output.now) s.formed s.row count ∙ sym e
+    ap length is ∙ raw_rows_len (pipeline_in s.steps.job.now) (output_view s.output.now) s.formed s.steps.row count ∙ sym e
 
 -- ---- the same bytes, taken
 

@@ -4,8 +4,10 @@
 #![tactic(auto)]
 
 mod header;
+mod lines;
 mod pieces;
 mod result;
+mod summed;
 mod work;
 
 pub use result::{StreamedResult, prepare_streamed_result};

@@ -25,7 +25,7 @@ pub(crate) struct StreamedPieces<'a> {
     ghost some: { 0 < rows },
     ghost few: { rows ≤ 4096 },
     ghost room: { length buffer.items
-        ≡ rows * bytes_per_row (pipeline_in stream.job.now) (output_view stream.output.now) },
+        ≡ rows * bytes_per_row (pipeline_in stream.steps.job.now) (output_view stream.output.now) },
 }
 
 impl<'a> StreamedPieces<'a> {
@@ -95,16 +95,16 @@ fn write_next_streamed_piece<W: Sink>(
     rows: usize,
     writer: &mut W,
 ) -> Result<(), WriteFailed>
-    requires left { stream.old.row < stream.old.end }
+    requires left { stream.old.steps.row < stream.old.steps.end }
     requires some { 0 < rows }
     requires few { rows ≤ 4096 }
     requires room { HasPieceRoom rows stream.old buffer.old }
-    ensures on { stream.old.row < stream.new.row }
-    ensures within { stream.new.row ≤ stream.new.end }
-    ensures job { stream.new.job ≡ stream.old.job }
+    ensures on { stream.old.steps.row < stream.new.steps.row }
+    ensures within { stream.new.steps.row ≤ stream.new.steps.end }
+    ensures job { stream.new.steps.job ≡ stream.old.steps.job }
     ensures output { stream.new.output ≡ stream.old.output }
-    ensures end { stream.new.end ≡ stream.old.end }
-    ensures written { Takes result (bytes_up_to stream.old stream.new.row)
+    ensures end { stream.new.steps.end ≡ stream.old.steps.end }
+    ensures written { Takes result (bytes_up_to stream.old stream.new.steps.row)
         (W.contents writer.old) (W.contents writer.new)
         (W.failures writer.old) (W.failures writer.new) }
 {

@@ -1,44 +1,49 @@
 #![tactic(auto)]
 //! The result of a job, before its first byte is written.
 
-ghost use Rattle.std.specs.Prelude.{◌≡◌, ◌<◌, [], false, IfOk, IfSome};
+ghost use Rattle.std.specs.Prelude.{◌≡◌, IfOk, IfSome};
 ghost use Rattle.domains.specs.Span.{len_of};
 ghost use Rattle.command_faults.specs.Taking.{Takes};
-ghost use Rattle.command_jobs.specs.Results.{line_at, result_bytes, total_lines};
+ghost use Rattle.command_jobs.specs.Results.{result_bytes};
 ghost use Rattle.job.specs.Kept.{pipeline_in};
 ghost use Rattle.job.specs.Views.{output_view};
 ghost use Rattle.job.specs.WellFormed.{IsOutput};
 ghost use Rattle.raw_rows.specs.Rows.{raw_rows};
 ghost use Rattle.row_streams.specs.Strips.{row_count};
-ghost use Rattle.streamed_results.specs.Pieces.{strips_joined};
+ghost use Rattle.row_streams.specs.StripsMade.{strips_joined};
 ghost use Rattle.streamed_results.specs.StreamedBytes.{rows_bytes, streamed_bytes};
 
 use crate::header::make_result_header;
+use crate::lines::has_lines_in_streamed_result;
 use crate::pieces::StreamedPieces;
+use crate::summed::prepare_streamed_result_with_lines;
 use crate::work::count_streamed_result_threads;
 use domains::Area;
-use job::{Body, Job, Output};
-use row_streams::{RowStream, make_strip_streams};
+use job::{Job, Output};
+use row_streams::{RowStream, StripStream, make_strip_streams};
 use std::alloc::{AllocError, Global};
 use std::thread::Threads;
 use streams::{Sink, WriteFailed, write_all_bytes};
 
 /// The rows of a picture: made while they are written, or made already.
 #[derive(Drop)]
-enum StreamedResultRows<'a> {
+pub(crate) enum StreamedResultRows<'a> {
     Pieces(StreamedPieces<'a>),
-    Strips(Vec<Vec<u8>>),
+    Strips(Vec<StripStream<'a>>),
 }
 
-/// The result of a job that has an output and no accumulator. All memory is taken that it takes to write it.
+/// The result of a job: the header and the rows of its picture, and the lines of its accumulators. All memory is taken that it takes to
+/// write it.
 #[derive(Drop)]
 pub struct StreamedResult<'a> {
-    header: Vec<u8>,
-    rows: StreamedResultRows<'a>,
+    pub(crate) header: Vec<u8>,
+    pub(crate) rows: StreamedResultRows<'a>,
+    pub(crate) lines: Vec<u8>,
 }
 
-/// The result of a job, as it is to be written. None if the job has no output or an accumulator, or if no plan of rows is found.
-/// Where there is work for several threads, each has made a strip of the rows.
+/// The result of a job, as it is to be written. None if the job has no output and no accumulator, or if no plan of rows is found.
+/// Where there is work for several threads, each has made a strip of the rows. If there are accumulators, all rows are made before the
+/// first is written.
 ///
 /// # Errors
 ///
@@ -51,20 +56,24 @@ pub fn prepare_streamed_result<'a>(
     ensures { IfOk result (λ found. IfSome found
         (λ made. streamed_bytes made ≡ result_bytes (pipeline_in job.now))) }
 {
+    if has_lines_in_streamed_result(job) {
+        return prepare_streamed_result_with_lines(rt, alloc, job);
+    }
     let Some(output) = job.output() else {
         return Ok(None);
     };
     let Some(area) = job.domain(output.first_stage()) else {
         return Ok(None);
     };
-    if has_lines_in_streamed_result(job) {
-        return Ok(None);
-    }
     let header = make_result_header(alloc, output.stages().len(), &area, output.max())?;
     let Some(rows) = StreamedResultRows::new(rt, alloc, job, output, &area)? else {
         return Ok(None);
     };
-    Ok(Some(StreamedResult { header, rows }))
+    Ok(Some(StreamedResult {
+        header,
+        rows,
+        lines: Vec::new(alloc),
+    }))
 }
 
 impl<'a> StreamedResult<'a> {
@@ -74,9 +83,14 @@ impl<'a> StreamedResult<'a> {
             (W.contents writer.old) (W.contents writer.new)
             (W.failures writer.old) (W.failures writer.new) }
     {
-        let StreamedResult { header, rows } = self;
+        let StreamedResult {
+            header,
+            rows,
+            lines,
+        } = self;
         write_all_bytes(writer, &header)?;
-        rows.write(writer)
+        rows.write(writer)?;
+        write_all_bytes(writer, &lines)
     }
 }
 
@@ -95,15 +109,15 @@ impl<'a> StreamedResultRows<'a> {
             ≡ raw_rows (pipeline_in job.now) (output_view output.now) 0 (len_of area.now.rows))) }
     {
         let height = area.rows.len() as usize;
-        let threads = count_streamed_result_threads(rt, job, output, area);
+        let threads = count_streamed_result_threads(rt, job, Some(output));
         if threads > 1 {
             let len = height.div_ceil(threads).max(1);
-            let Some(strips) = make_strip_streams(rt, alloc, job, output, len)? else {
+            let Some(strips) = make_strip_streams(rt, alloc, job, output, &[], len)? else {
                 return Ok(None);
             };
             return Ok(Some(StreamedResultRows::Strips(strips)));
         }
-        let Some(stream) = RowStream::new(alloc, job, output, 0, height)? else {
+        let Some(stream) = RowStream::new(alloc, job, output, &[], 0, height)? else {
             return Ok(None);
         };
         Ok(Some(StreamedResultRows::Pieces(StreamedPieces::new(alloc, stream)?)))
@@ -123,39 +137,16 @@ impl<'a> StreamedResultRows<'a> {
 }
 
 // Writes the strips, one after the other.
-fn write_each_result_strip<W: Sink>(strips: &[Vec<u8>], writer: &mut W) -> Result<(), WriteFailed>
+fn write_each_result_strip<W: Sink>(
+    strips: &[StripStream<'_>],
+    writer: &mut W,
+) -> Result<(), WriteFailed>
     ensures { Takes result (strips_joined strips.now)
         (W.contents writer.old) (W.contents writer.new)
         (W.failures writer.old) (W.failures writer.new) }
 {
     for strip in strips {
-        write_all_bytes(writer, strip)?;
+        write_all_bytes(writer, &strip.bytes)?;
     }
     Ok(())
-}
-
-// Whether a job has accumulators, whose lines are written after the picture.
-#[tactic(auto, using(tile_boxes::proofs::Lists::flat_map_range_more))]
-fn has_lines_in_streamed_result(job: &Job) -> bool
-    ensures { result ≡ false → total_lines (pipeline_in job.now) ≡ [] }
-{
-    for stage in 0..job.stages().len() {
-        if has_line_of_stage_in_streamed_result(job, stage) {
-            return true;
-        }
-    }
-    false
-}
-
-// Whether the stage of this number is an accumulator.
-fn has_line_of_stage_in_streamed_result(job: &Job, stage: usize) -> bool
-    ensures { result ≡ false → line_at (pipeline_in job.now) stage ≡ [] }
-{
-    match job.stage(stage) {
-        Some(found) => match found.body() {
-            Body::Accumulator(_) => true,
-            Body::Plane(_) | Body::Function(_) => false,
-        },
-        None => false,
-    }
 }

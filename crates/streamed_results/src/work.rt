@@ -1,7 +1,6 @@
 #![tactic(auto)]
 //! How much work the rows of a picture are, by an estimate, and how many threads make them. No result depends on it.
 
-use domains::Area;
 use job::{Job, Output};
 use rayon::current_num_threads;
 use std::thread::Threads;
@@ -23,8 +22,11 @@ fn estimate_work_of_streamed_result(job: &Job) -> u64 {
     work
 }
 
-// How many bytes the picture of an output has, whose planes have this area.
-fn count_bytes_of_streamed_result(output: &Output, area: &Area) -> u64 {
+// How many bytes the picture of a job with this output has.
+fn count_bytes_of_streamed_result(job: &Job, output: &Output) -> u64 {
+    let Some(area) = job.domain(output.first_stage()) else {
+        return 0;
+    };
     let samples = area.points().saturating_mul(output.stages().len() as u64);
     if output.max() < 256 {
         samples
@@ -33,16 +35,18 @@ fn count_bytes_of_streamed_result(output: &Output, area: &Area) -> u64 {
     }
 }
 
-/// How many threads make the rows of a picture soonest, as far as its work tells. Where there is little work, the system is not asked how
-/// many processors there are, which takes longer than a row.
+/// How many threads make rows soonest, of the picture of this output or of none, as far as their work tells. Where there is little work, the
+/// system is not asked how many processors there are, which takes longer than a row.
 pub(crate) fn count_streamed_result_threads(
     rt: &(impl Threads + Sync),
     job: &Job,
-    output: &Output,
-    area: &Area,
+    output: Option<&Output>,
 ) -> usize {
     let work = estimate_work_of_streamed_result(job);
-    let bytes = count_bytes_of_streamed_result(output, area);
+    let bytes = match output {
+        Some(found) => count_bytes_of_streamed_result(job, found),
+        None => 0,
+    };
     if work < WORK_WORTH_STRIPS || work < bytes.saturating_mul(WORK_PER_BYTE_WORTH_STRIPS) {
         return 1;
     }

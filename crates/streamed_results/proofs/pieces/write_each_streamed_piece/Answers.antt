@@ -20,7 +20,7 @@ pub loop-stream-preserved : goal.loop-stream-preserved
 loop-stream-preserved g c =
     let before = c.loop-stream.invariant in
     let piece = c.in_ok-write_next_streamed_piece.ensures in
-    let row = c.write_next_streamed_piece.new.stream.row in
+    let row = c.write_next_streamed_piece.new.stream.steps.row in
     let more = up_then c.args.stream.now c.loop-stream.stream row before.job before.output before.on (omega arith) in record {
       taken = all_as _ _ _ _ _ _ more (all_then _ _ _ _ _ _ _ _ before.taken piece.written);
       job = piece.job ∙ before.job;
@@ -33,7 +33,7 @@ loop-stream-preserved g c =
 pub returns-in_err-write_next_streamed_piece : goal.returns-in_err-write_next_streamed_piece
 returns-in_err-write_next_streamed_piece g c =
     let s = c.args.stream.now in
-    let row = c.write_next_streamed_piece.new.stream.row in
+    let row = c.write_next_streamed_piece.new.stream.steps.row in
     let before = c.loop-stream.invariant in
     let piece = c.in_err-write_next_streamed_piece.ensures in
     let more = up_then s c.loop-stream.stream row before.job before.output before.on (omega arith) in
@@ -44,4 +44,4 @@ returns-in_err-write_next_streamed_piece g c =
 pub returns : goal.returns
 returns g c =
     let before = c.loop-stream.invariant in
-    all_as _ _ _ _ _ _ (up_all c.args.stream.now c.loop-stream.stream.row (omega arith)) before.taken
+    all_as _ _ _ _ _ _ (up_all c.args.stream.now c.loop-stream.stream.steps.row (omega arith)) before.taken

@@ -26,9 +26,9 @@ returns-clause-written g c =
     let bytes = c.count_bytes_of_streamed_rows-len in
     let piece = c.encode_next_streamed_rows in
     let long = piece_len s c.min-count.result bytes.result piece.new.out piece.ensures.bytes bytes.ensures.rows in
-    let count : c.min-count.result ≡ piece.new.self.row - s.row = omega arith in
+    let count : c.min-count.result ≡ piece.new.self.steps.row - s.steps.row = omega arith in
     let is =
     take_at piece.new.out (drop bytes.result c.args.buffer.now) bytes.result long ∙ piece.ensures.bytes
-    ∙ ap (raw_rows (pipeline_in s.job.now) (output_view s.output.now) s.row) count in
+    ∙ ap (raw_rows (pipeline_in s.steps.job.now) (output_view s.output.now) s.steps.row) count in
     let wrote = c.write_all_bytes.ensures in
     takes_of c.write_all_bytes.result _ _ _ _ _ (rw is at wrote.ok) (rw is at wrote.part) wrote.failed

@@ -1,6 +1,6 @@
 use Rattle.std.proofs.Common.{take}
 use Rattle.command_faults.specs.Taking.{TakesAll}
-use Rattle.streamed_results.specs.Pieces.{strips_joined}
+use Rattle.row_streams.specs.StripsMade.{strips_joined}
 use Rattle.streamed_results.proofs.result.write_each_result_strip.Given as goal
 
 abbrev pub invariant-loop-strip : goal.invariant-loop-strip
