@@ -2,5 +2,4 @@ pub mod Crossing
 pub mod TotalsOfAnswer
 pub mod TileTotals
 pub mod TakenPartials
-pub mod OutputsAreMade
 pub mod RowsJoin

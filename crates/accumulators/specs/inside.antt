@@ -1,3 +1,2 @@
 -- Definitions that clauses of inner functions cite, and no public clause does.
 pub mod Making
-pub mod Planes

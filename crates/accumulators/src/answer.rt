@@ -12,17 +12,13 @@ ghost use Rattle.tile_run.specs.Work.{first_too_big, is_accumulator_at, is_store
 ghost use Rattle.accumulators.specs.Answers.{IsAnswer, IsEvaluationFault};
 
 use crate::computed::ComputedJob;
-use crate::outputs::OutputAssembly;
 use grouping::Schedule;
 use job::Job;
 use netpbm::Picture;
 use pictures::assemble_image;
 use std::alloc::Global;
 use std::thread::Threads;
-use tile_run::{
-    LastReads, RunFault, StoredTiles, TiledStages, find_key_of_first_oversized_tile,
-    make_used_stored_tiles,
-};
+use tile_run::{RunFault, StoredTiles, TiledStages, find_key_of_first_oversized_tile, run_all};
 
 /// The totals of an accumulator: its stage, its first bin, and the values of its bins from there on.
 #[derive(Debug, Drop)]
@@ -82,9 +78,8 @@ pub fn compute_answer_from_function_tiles(
     Ok(Answer { picture, totals })
 }
 
-/// Computes the answer of a job. Only stored functions that an output or an accumulator needs are made, each after those that it
-/// reads. Each is freed after its last reader. An output that nothing else reads goes into the picture as its tiles are made, row
-/// by row. Several threads share the rows of tiles of a stage where the work is worth it.
+/// Computes the answer of a job from the tiles of all its stored functions, each after those that it reads. Several threads share
+/// the rows of tiles of a stage where the work is worth it.
 ///
 /// # Errors
 ///
@@ -108,34 +103,6 @@ pub fn evaluate_job(
     ensures fault { IfErr result (IsEvaluationFault (program_id_in job.now) (pipeline_in job.now)
         schedule.now.inlining) }
 {
-    if let Some(key) = find_key_of_first_oversized_tile(
-        alloc,
-        job,
-        schedule,
-        TiledStages::Functions,
-    )? {
-        return Err(RunFault::ScratchTooBig(key));
-    }
-    if let Some(key) = find_key_of_first_oversized_tile(
-        alloc,
-        job,
-        schedule,
-        TiledStages::Accumulators,
-    )? {
-        return Err(RunFault::ScratchTooBig(key));
-    }
-    let uses = LastReads::from_schedule(alloc, job, schedule)?;
-    let stored = make_used_stored_tiles(rt, alloc, job, schedule, &uses)?;
-    let computed = ComputedJob {
-        job,
-        schedule,
-        stored: &stored,
-    };
-    let outputs = OutputAssembly {
-        of: computed,
-        uses: &uses,
-    };
-    let picture = outputs.assemble_output_picture_if_any(rt, alloc)?;
-    let totals = computed.compute_totals(rt, alloc)?;
-    Ok(Answer { picture, totals })
+    let stored = run_all(rt, alloc, job, schedule)?;
+    compute_answer_from_function_tiles(rt, alloc, job, schedule, &stored)
 }

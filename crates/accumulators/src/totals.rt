@@ -13,12 +13,12 @@ ghost use Rattle.accumulators.specs.inside.Making.{AreTotalsOfRow, IsComputed, I
 
 use crate::answer::Total;
 use crate::computed::ComputedJob;
+use crate::parting::is_one_thread_enough_for_rows;
 use crate::totals_scratch::TotalsScratch;
 use domains::Grid;
 use job::{Accumulator, Body, Job};
 use overlap_tiles::{PlanFault, TileLayout};
 use partials::accumulate_tile_partial;
-use pictures::is_one_thread_enough_for_rows;
 use rayon::prelude::*;
 use reductions::{create_start_bins, join_all_lists_into_bins};
 use std::alloc::{AllocError, Global};

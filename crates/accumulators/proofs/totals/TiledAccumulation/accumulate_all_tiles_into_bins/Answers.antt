@@ -1,4 +1,4 @@
-use Rattle.std.proofs.Common.{ℤ, ◌≡◌, map, sym, subst, ap, ◌∙◌, Vec, Global}
+use Rattle.std.proofs.Common.{ℤ, map, sym, subst, ap, ◌∙◌, Vec, Global}
 use Rattle.std.specs.Prelude.{fold, All}
 use Rattle.std.specs.List.{range_with_len}
 use Rattle.domains.specs.Tiles.{tile_area, tile_cols, tile_rows}

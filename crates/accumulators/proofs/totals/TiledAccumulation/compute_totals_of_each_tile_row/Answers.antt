@@ -1,9 +1,9 @@
-use Rattle.std.proofs.Common.{ℤ, List, ◌<◌, ◌∙◌, Vec, Global}
+use Rattle.std.proofs.Common.{◌<◌}
 use Rattle.domains.specs.Tiles.{tile_rows}
 use Rattle.rayon.proofs.ToStd.{nat_range-All}
 use Rattle.reductions.specs.Accumulating.{AreBins}
 use Rattle.accumulators.specs.inside.Making.{totals_of_row, AreTotalsOfRow}
-use Rattle.pictures.proofs.MadeInOrder.{collected, collected_all}
+use Rattle.tile_run.proofs.MadeInOrder.{collected, collected_all}
 use denote.Param.Send.{sendable}
 use Rattle.std.proofs.Crossing as owners
 use Rattle.accumulators.proofs.Crossing.{accumulation_sync}
