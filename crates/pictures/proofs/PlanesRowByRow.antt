@@ -21,7 +21,7 @@ use Rattle.tile_eval.proofs.RowByRow.{line_is}
 use Rattle.tile_sources.specs.KnownTiles.{KnownTiles, IsGivenAt, IsGivenLine}
 use Rattle.tile_sources.proofs.GivenLines.{grid_is}
 use Rattle.pictures.specs.Pictures.{samples_from, IsLentStage}
-use Rattle.pictures.specs.RowAreas.{IsGivenArea}
+use Rattle.pictures.specs.GivenAreas.{IsGivenArea}
 use Rattle.pictures.proofs.PictureOfAnswer.{sample_at, samples_are}
 use Rattle.tile_eval.proofs.SpansByParts.{numbers-append}
 

@@ -1,3 +1,2 @@
-pub mod RowAreas
+pub mod GivenAreas
 pub mod Pictures
-pub mod inside

@@ -1,15 +1,9 @@
-//! The picture of a job's output: samples of its functions, clamped and added row of tiles by row of tiles.
+//! The picture of a job's output: samples of its functions, clamped and added row by row from tiles.
 //!
-//! Words: output plane, output sheet, plane strip, streamed output, supplied job, clamped sample, assemble image, one thread.
+//! Words: output plane, supplied job, clamped sample, assemble image.
 #![tactic(auto)]
 
-mod parting;
 mod picture;
-mod sheet;
-mod streamed;
-mod strip;
+mod plane;
 
-pub use parting::is_one_thread_enough_for_rows;
-pub use picture::{SuppliedJob, assemble_image, build_picture_from_output_planes};
-pub use sheet::{OutputPlane, OutputSheet};
-pub use streamed::{StreamedOutput, compute_output_plane_tile_row_area};
+pub use picture::assemble_image;

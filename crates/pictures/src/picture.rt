@@ -13,9 +13,9 @@ ghost use Rattle.job.specs.Views.{output_view};
 ghost use Rattle.job.specs.WellFormed.{IsOutput};
 ghost use Rattle.tile_sources.specs.KnownTiles.{given_at, IsGivenLine};
 ghost use Rattle.pictures.specs.Pictures.{given_image, picture_from, picture_with, samples_from, IsLentStage, GivesOutputs};
-ghost use Rattle.pictures.specs.RowAreas.{IsGivenArea};
+ghost use Rattle.pictures.specs.GivenAreas.{IsGivenArea};
 
-use crate::sheet::{OutputPlane, OutputSheet};
+use crate::plane::OutputPlane;
 use domains::Area;
 use job::{Job, Output};
 use netpbm::{PackedPlane, Picture};
@@ -27,11 +27,11 @@ use tile_run::{TileSource, borrow_supplied_row_up_to_tile_end};
 // The number of values that are clamped before their samples are added.
 const PIECE: usize = 512;
 
-/// A job with a source of the tiles of its functions.
+// A job with a source of the tiles of its functions.
 #[derive(Drop)]
-pub struct SuppliedJob<'a, K: TileSource> {
-    pub job: &'a Job,
-    pub known: &'a K,
+struct SuppliedJob<'a, K: TileSource> {
+    job: &'a Job,
+    known: &'a K,
 }
 
 /// The picture of a job that has an output, from whatever numbers are supplied for its functions: each is clamped to 0 and the
@@ -107,12 +107,8 @@ impl<K: TileSource> SuppliedJob<'_, K> {
         Ok(planes)
     }
 
-    /// The values of a function, row by row, clamped to 0 and the greatest sample.
-    ///
-    /// # Errors
-    ///
-    /// Fails only where memory is refused.
-    pub fn assemble_plane(
+    // The values of a function, row by row, clamped to 0 and the greatest sample.
+    fn assemble_plane(
         &self,
         alloc: Global,
         stage: usize,
@@ -151,23 +147,19 @@ impl<K: TileSource> SuppliedJob<'_, K> {
         Ok(sheet.into_plane())
     }
 
-    /// Adds the values of a function on an area to a sheet, row by row, clamped to 0 and the sheet's greatest sample.
-    ///
-    /// # Errors
-    ///
-    /// Fails only where memory is refused.
-    pub fn push_area_samples<S: OutputSheet>(
+    // Adds the values of a function on an area to a plane, row by row, clamped to 0 and the greatest sample.
+    fn push_area_samples(
         &self,
-        sheet: &mut S,
+        sheet: &mut OutputPlane,
         stage: usize,
         area: &Area,
     ) -> Result<(), AllocError>
         requires { IsGivenArea (pipeline_in self.now.job.now) (K.given self.now.known.now) stage
             area.now }
-        ensures max { S.greatest_of sheet.new ≡ S.greatest_of sheet.old }
-        ensures samples { OnOk result (S.samples sheet.new
-            ≡ S.samples sheet.old
-            ++ map (λ p. sample_of (S.greatest_of sheet.old) (given_at (pipeline_in self.now.job.now)
+        ensures max { sheet.new.plane.max ≡ sheet.old.plane.max }
+        ensures samples { OnOk result (sheet.new.plane.samples
+            ≡ sheet.old.plane.samples
+            ++ map (λ p. sample_of (sheet.old.plane.max) (given_at (pipeline_in self.now.job.now)
             (K.given self.now.known.now) stage p.0 p.1)) (points_of area.now)) }
     {
         let first = area.cols.lo();
@@ -181,9 +173,9 @@ impl<K: TileSource> SuppliedJob<'_, K> {
 
     // Adds the values of a row from a column on, clamped to 0 and the greatest sample: tile by tile, from the numbers of the
     // tiles.
-    fn push_row_samples<S: OutputSheet>(
+    fn push_row_samples(
         &self,
-        sheet: &mut S,
+        sheet: &mut OutputPlane,
         stage: usize,
         row: i32,
         first: i32,
@@ -191,10 +183,10 @@ impl<K: TileSource> SuppliedJob<'_, K> {
     ) -> Result<(), AllocError>
         requires { IsGivenLine (pipeline_in self.now.job.now) (K.given self.now.known.now) stage row
             first count }
-        ensures max { S.greatest_of sheet.new ≡ S.greatest_of sheet.old }
-        ensures samples { OnOk result (S.samples sheet.new
-            ≡ S.samples sheet.old
-            ++ map (λ c. sample_of (S.greatest_of sheet.old) (given_at (pipeline_in self.now.job.now)
+        ensures max { sheet.new.plane.max ≡ sheet.old.plane.max }
+        ensures samples { OnOk result (sheet.new.plane.samples
+            ≡ sheet.old.plane.samples
+            ++ map (λ c. sample_of (sheet.old.plane.max) (given_at (pipeline_in self.now.job.now)
             (K.given self.now.known.now) stage row c)) (numbers_from first count)) }
     {
         let mut done = 0;
@@ -215,12 +207,8 @@ impl<K: TileSource> SuppliedJob<'_, K> {
     }
 }
 
-/// The picture of an output, with these planes.
-pub fn build_picture_from_output_planes(
-    job: &Job,
-    output: &Output,
-    planes: Vec<PackedPlane>,
-) -> Picture
+// The picture of an output, with these planes.
+fn build_picture_from_output_planes(job: &Job, output: &Output, planes: Vec<PackedPlane>) -> Picture
     requires output { IsOutput (pipeline_in job.now) (output_view output.now) }
     requires image { IsImage (picture_with (pipeline_in job.now) (output_view output.now)
         (made_samples planes.items)) }
@@ -237,23 +225,20 @@ pub fn build_picture_from_output_planes(
     }
 }
 
-// Adds values to a sheet, clamped to 0 and its greatest sample, `PIECE` of them at a time.
-fn push_values_as_clamped_samples<S: OutputSheet>(
-    sheet: &mut S,
-    values: &[i32],
-) -> Result<(), AllocError>
-    ensures max { S.greatest_of sheet.new ≡ S.greatest_of sheet.old }
-    ensures samples { OnOk result (S.samples sheet.new
-        ≡ S.samples sheet.old ++ map (sample_of (S.greatest_of sheet.old)) values.now) }
+// Adds values to a plane, clamped to 0 and its greatest sample, `PIECE` of them at a time.
+fn push_values_as_clamped_samples(sheet: &mut OutputPlane, values: &[i32]) -> Result<(), AllocError>
+    ensures max { sheet.new.plane.max ≡ sheet.old.plane.max }
+    ensures samples { OnOk result (sheet.new.plane.samples
+        ≡ sheet.old.plane.samples ++ map (sample_of (sheet.old.plane.max)) values.now) }
 {
-    let max = sheet.greatest_allowed_sample();
+    let max = sheet.max;
     let mut room = [0; PIECE];
     let mut rest = values;
     while !rest.is_empty() {
         let (piece, behind) = rest.split_at(rest.len().min(PIECE));
         let cuts = &mut room[..piece.len()];
         write_clamped_samples(cuts, piece, max);
-        sheet.append_samples_to_sheet(cuts)?;
+        sheet.append_samples(cuts)?;
         rest = behind;
     }
     Ok(())

@@ -7,14 +7,14 @@ use Rattle.tile_sources.specs.KnownTiles.{given_at}
 use Rattle.pictures.proofs.PictureOfAnswer.{sample_at}
 use Rattle.tile_eval.proofs.RowByRow.{none_made, row_made}
 use Rattle.pictures.proofs.PlanesRowByRow.{row_given}
-use Rattle.pictures.proofs.RowsOfTiles.{no_row_left}
+use Rattle.pictures.proofs.RowsLeft.{no_row_left}
 use Rattle.pictures.proofs.picture.SuppliedJob.push_area_samples.Goals as goal
 
 pub loop-place-init : goal.loop-place-init
 loop-place-init g c =
     let h : ℤ × ℤ → ℕ =
-    sample_at (given_at (pipeline_in c.args.self.now.job.now) (g.K.TileSource.given c.args.self.now.known.now)) (g.S.OutputSheet.greatest_of c.args.sheet.now) c.args.stage in
-    record { max = refl; samples = ap (λ (xs : List ℕ). (g.S.OutputSheet.samples c.args.sheet.now) ++ xs) (none_made h c.args.area.now) }
+    sample_at (given_at (pipeline_in c.args.self.now.job.now) (g.K.TileSource.given c.args.self.now.known.now)) c.args.sheet.now.plane.max c.args.stage in
+    record { max = refl; samples = ap (λ (xs : List ℕ). c.args.sheet.now.plane.samples ++ xs) (none_made h c.args.area.now) }
 
 pub push_row_samples-requires : goal.push_row_samples-requires
 push_row_samples-requires g c =
@@ -30,7 +30,7 @@ push_row_samples-requires g c =
 pub loop-place-preserved : goal.loop-place-preserved
 loop-place-preserved g c =
     let h : ℤ × ℤ → ℕ =
-    sample_at (given_at (pipeline_in c.args.self.now.job.now) (g.K.TileSource.given c.args.self.now.known.now)) (g.S.OutputSheet.greatest_of c.args.sheet.now) c.args.stage in
+    sample_at (given_at (pipeline_in c.args.self.now.job.now) (g.K.TileSource.given c.args.self.now.known.now)) c.args.sheet.now.plane.max c.args.stage in
     let area = c.args.area.now in
     let within : c.loop-place.place < len_of area.rows = omega arith in
     let row_fits : FitsSigned w32 c.find_span_number_at_position-row.result = search rules in
@@ -42,9 +42,9 @@ loop-place-preserved g c =
       max = c.in_ok-push_row_samples.ensures.max ∙ c.loop-place.invariant.max;
       samples =
           row_made h area.rows.lo c.find_span_number_at_position-row.result c.loop-place.place (len_of area.rows) (numbers_of area.cols)
-          (g.S.OutputSheet.samples c.loop-place.sheet) (g.S.OutputSheet.samples c.push_row_samples.new.sheet) ((g.S.OutputSheet.samples c.args.sheet.now) ++ map h (points_of area)) within
+          c.loop-place.sheet.plane.samples c.push_row_samples.new.sheet.plane.samples (c.args.sheet.now.plane.samples ++ map h (points_of area)) within
           c.find_span_number_at_position-row.ensures c.loop-place.invariant.samples (c.in_ok-push_row_samples.ensures.samples
-          ∙ (λ i. g.S.OutputSheet.samples c.loop-place.sheet ++ map (λ (z : ℤ). sample_at (given_at (pipeline_in c.args.self.now.job.now)
+          ∙ (λ i. c.loop-place.sheet.plane.samples ++ map (λ (z : ℤ). sample_at (given_at (pipeline_in c.args.self.now.job.now)
           (g.K.TileSource.given c.args.self.now.known.now)) (c.loop-place.invariant.max i) c.args.stage (row i, z))
           (numbers_from (first i) (c.len-count.ensures.number i))));
     }
@@ -53,6 +53,6 @@ pub returns-clause-samples : goal.returns-clause-samples
 returns-clause-samples g c =
     let area = c.args.area.now in
     let h : ℤ × ℤ → ℕ =
-    sample_at (given_at (pipeline_in c.args.self.now.job.now) (g.K.TileSource.given c.args.self.now.known.now)) (g.S.OutputSheet.greatest_of c.args.sheet.now) c.args.stage in
+    sample_at (given_at (pipeline_in c.args.self.now.job.now) (g.K.TileSource.given c.args.self.now.known.now)) c.args.sheet.now.plane.max c.args.stage in
     no_row_left h (area.rows.lo +ℤ pos c.loop-place.place) (len_of area.rows - c.loop-place.place) (numbers_of area.cols)
-    (g.S.OutputSheet.samples c.loop-place.sheet) ((g.S.OutputSheet.samples c.args.sheet.now) ++ map h (points_of area)) (omega arith) c.loop-place.invariant.samples
+    c.loop-place.sheet.plane.samples (c.args.sheet.now.plane.samples ++ map h (points_of area)) (omega arith) c.loop-place.invariant.samples

@@ -9,10 +9,10 @@ use Rattle.pictures.proofs.picture.SuppliedJob.push_area_samples.Given as goal
 
 abbrev pub invariant-loop-place : goal.invariant-loop-place
 invariant-loop-place g l =
-    let at = sample_at (given_at (pipeline_in l.fn.self.job.now) (g.K.TileSource.given l.fn.self.known.now)) (g.S.OutputSheet.greatest_of l.fn.sheet) l.fn.stage in
+    let at = sample_at (given_at (pipeline_in l.fn.self.job.now) (g.K.TileSource.given l.fn.self.known.now)) l.fn.sheet.plane.max l.fn.stage in
     record {
-      max : g.S.OutputSheet.greatest_of l.sheet ≡ g.S.OutputSheet.greatest_of l.fn.sheet;
-      samples : g.S.OutputSheet.samples l.sheet
+      max : l.sheet.plane.max ≡ l.fn.sheet.plane.max;
+      samples : l.sheet.plane.samples
           ++ rest_of at (l.fn.area.rows.lo +ℤ pos l.place) (len_of l.fn.area.rows - l.place) (numbers_of l.fn.area.cols)
-          ≡ g.S.OutputSheet.samples l.fn.sheet ++ map at (points_of l.fn.area);
+          ≡ l.fn.sheet.plane.samples ++ map at (points_of l.fn.area);
     }

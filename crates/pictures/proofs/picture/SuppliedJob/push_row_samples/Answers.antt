@@ -9,7 +9,7 @@ use Rattle.pictures.proofs.PlanesRowByRow.{line_bounds, line_rest, cut_on}
 use Rattle.pictures.proofs.picture.SuppliedJob.push_row_samples.Goals as goal
 
 pub loop-done-init : goal.loop-done-init
-loop-done-init g c = record { max = refl; most = search rules; samples = sym (append-nil (g.S.OutputSheet.samples c.args.sheet.now)) }
+loop-done-init g c = record { max = refl; most = search rules; samples = sym (append-nil c.args.sheet.now.plane.samples) }
 
 pub compute_coordinate_at_place-from-requires : goal.compute_coordinate_at_place-from-requires
 compute_coordinate_at_place-from-requires g c =
@@ -40,11 +40,11 @@ loop-done-preserved g c =
       samples =
           cut_on (given_at (pipeline_in c.args.self.now.job.now) (g.K.TileSource.given c.args.self.now.known.now) c.args.stage
           (to_z w32 (of_z w32 c.args.row)))
-          (sample_of (g.S.OutputSheet.greatest_of c.args.sheet.now)) (to_z w32 (of_z w32 c.args.first)) (to_z w32 (of_z w32 c.compute_coordinate_at_place-from.result)) c.loop-done.done
-          c.borrow_supplied_row_up_to_tile_end-part.result.now (g.S.OutputSheet.samples c.args.sheet.now) (g.S.OutputSheet.samples c.loop-done.sheet) (g.S.OutputSheet.samples c.push_values_as_clamped_samples.new.sheet)
+          (sample_of c.args.sheet.now.plane.max) (to_z w32 (of_z w32 c.args.first)) (to_z w32 (of_z w32 c.compute_coordinate_at_place-from.result)) c.loop-done.done
+          c.borrow_supplied_row_up_to_tile_end-part.result.now c.args.sheet.now.plane.samples c.loop-done.sheet.plane.samples c.push_values_as_clamped_samples.new.sheet.plane.samples
           (to_z-of_z w32 c.compute_coordinate_at_place-from.result from ∙ c.compute_coordinate_at_place-from.ensures) c.borrow_supplied_row_up_to_tile_end-part.ensures.numbers
           c.loop-done.invariant.samples (c.in_ok-push_values_as_clamped_samples.ensures.samples
-          ∙ (λ i. g.S.OutputSheet.samples c.loop-done.sheet ++ map (sample_of (c.loop-done.invariant.max i)) c.borrow_supplied_row_up_to_tile_end-part.result.now));
+          ∙ (λ i. c.loop-done.sheet.plane.samples ++ map (sample_of (c.loop-done.invariant.max i)) c.borrow_supplied_row_up_to_tile_end-part.result.now));
     }
 
 pub returns-clause-samples : goal.returns-clause-samples
@@ -54,5 +54,5 @@ returns-clause-samples g c =
     let f : ℤ → ℤ → ℤ = given_at (pipeline_in c.args.self.now.job.now) (g.K.TileSource.given c.args.self.now.known.now) c.args.stage in
     let past : c.loop-done.done ≡ c.args.count = omega (arith, c.loop-done.invariant.most, c.loop-done-test.false) in
     c.loop-done.invariant.samples
-    ∙ (λ i. (g.S.OutputSheet.samples c.args.sheet.now)
-    ++ map (λ z. sample_of (g.S.OutputSheet.greatest_of c.args.sheet.now) (f (to_z-of_z w32 c.args.row row i) z)) (numbers_from (to_z-of_z w32 c.args.first first i) (past i)))
+    ∙ (λ i. c.args.sheet.now.plane.samples
+    ++ map (λ z. sample_of c.args.sheet.now.plane.max (f (to_z-of_z w32 c.args.row row i) z)) (numbers_from (to_z-of_z w32 c.args.first first i) (past i)))

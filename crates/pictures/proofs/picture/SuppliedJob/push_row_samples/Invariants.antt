@@ -7,11 +7,11 @@ use Rattle.pictures.proofs.picture.SuppliedJob.push_row_samples.Given as goal
 
 abbrev pub invariant-loop-done : goal.invariant-loop-done
 invariant-loop-done g l = record {
-  max : g.S.OutputSheet.greatest_of l.sheet ≡ g.S.OutputSheet.greatest_of l.fn.sheet;
+  max : l.sheet.plane.max ≡ l.fn.sheet.plane.max;
   most : l.done ≤ l.fn.count;
-  samples : g.S.OutputSheet.samples l.sheet
-      ≡ g.S.OutputSheet.samples l.fn.sheet
-      ++ map (λ z. sample_of (g.S.OutputSheet.greatest_of l.fn.sheet) (given_at (pipeline_in l.fn.self.job.now) (g.K.TileSource.given l.fn.self.known.now) l.fn.stage l.fn.row z))
+  samples : l.sheet.plane.samples
+      ≡ l.fn.sheet.plane.samples
+      ++ map (λ z. sample_of l.fn.sheet.plane.max (given_at (pipeline_in l.fn.self.job.now) (g.K.TileSource.given l.fn.self.known.now) l.fn.stage l.fn.row z))
       (numbers_from l.fn.first l.done);
 }
 

@@ -1,16 +1,10 @@
--- Areas of which each point lies in a supplied tile, such as those of rows of tiles.
+-- Areas of which each point lies in a supplied tile.
 use Rattle.std.specs.Prelude.{ℕ, ℤ, ◌≡◌, Some, slice_get}
 use Rattle.domains.specs.Area.{HoldsPoint}
-use Rattle.domains.specs.Tiles.{part_of}
 use Rattle.domains.specs.declared.area.Area.{Area}
-use Rattle.domains.specs.declared.grid.Grid.{Grid}
 use Rattle.job.specs.Answers.{grid_of}
 use Rattle.job.specs.Pipeline.{Stage, Pipeline}
 use Rattle.tile_sources.specs.KnownTiles.{KnownTiles, HasWholeTiles, IsGivenAt}
-
--- the area of row i of the tiles
-abbrev pub row_area : Grid → ℕ → Area
-row_area grid i = record { rows = part_of grid.area.rows grid.sides.height i; cols = grid.area.cols }
 
 -- each point of an area lies in a supplied tile of stage g
 pub record IsGivenArea (job : Pipeline) (given : KnownTiles) (g : ℕ) (area : Area) : Type 0 where
