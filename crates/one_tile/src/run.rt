@@ -82,8 +82,7 @@ impl<K: TileSource> TileJob<'_, K> {
             AllocError,
         )?;
         let mut operands = take_and_grow_tile_operand_vector(alloc, &mut scratch.operands, room)?;
-        let mut values = scratch.reuse_tile_vector(alloc);
-        values.resize(area.points() as usize, 0)?;
+        let mut values = vec![in alloc; 0; area.points() as usize]?;
         let boxes = self.compute_values_of_inlined_boxes(alloc, scratch)?;
         let tile = *self;
         let inputs = TileInputs { tile, boxes };

@@ -204,7 +204,7 @@ impl BoxWalk<'_> {
 }
 
 /// Whether a stage reads nothing that is inlined.
-pub fn has_only_stored_reads(inlining: &InlinedStages, stage: &Stage) -> bool
+pub(crate) fn has_only_stored_reads(inlining: &InlinedStages, stage: &Stage) -> bool
     ensures { result ≡ has_only_stored_reads inlining.now (reads_of (stage_view stage.now).body) }
 {
     for read in stage.reads() {

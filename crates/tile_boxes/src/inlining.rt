@@ -67,24 +67,6 @@ impl InlinedStages {
         is_among_inlined(&self.inlining, stage)
     }
 
-    /// A copy.
-    ///
-    /// # Errors
-    ///
-    /// Fails only where memory is refused.
-    pub fn copy(&self) -> Result<InlinedStages, AllocError>
-        ensures { IfOk result (λ f. f ≡ self.now) }
-    {
-        Ok(InlinedStages {
-            inlining: self.inlining.clone()?,
-        })
-    }
-
-    /// Whether the same stages are inlined.
-    pub fn has_same_stages(&self, other: &InlinedStages) -> bool {
-        self.inlining == other.inlining
-    }
-
     /// Inlines the stage of this number, or stores it.
     pub fn set_stage_inlined_or_stored(&mut self, stage: usize, is_inlined: bool)
         ensures { self.new ≡ slice_set self.old stage is_inlined }

@@ -10,9 +10,7 @@ mod inlining;
 mod order;
 mod target;
 
-pub use costs::{
-    CostSurvey, MOST_SCRATCH, has_only_stored_reads, list_tile_areas, survey_stage_costs,
-};
+pub use costs::{CostSurvey, MOST_SCRATCH, list_tile_areas, survey_stage_costs};
 pub use demands::intersect_boxes;
 pub use inlining::{InlinedStages, find_output_requested_inlined, is_function_stage};
 pub use order::{find_greatest_rank, order_stages_by_rank};

@@ -3,7 +3,5 @@ pub mod Pieces
 pub mod PointWork
 pub mod StageRuns
 pub mod Stored
-pub mod Uses
-pub mod UsesOnce
 pub mod Work
 pub mod inside

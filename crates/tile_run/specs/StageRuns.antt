@@ -1,5 +1,5 @@
 -- How the tiles of one stage are made.
-use Rattle.std.specs.Prelude.{ℕ, ℤ, ◌≡◌, ◌≤◌, ◌==◌, ◌&&◌, Bool, if◌then◌else◌, Some, None, List, map}
+use Rattle.std.specs.Prelude.{ℕ, ℤ, ◌≡◌, ◌≤◌, Bool, List, map}
 use Rattle.std.specs.List.{range_with_len}
 use Rattle.domains.specs.Tiles.{HasTile, tile_area}
 use Rattle.domains.specs.declared.grid.Grid.{Grid}
@@ -11,7 +11,7 @@ use Rattle.overlap_tiles.specs.Plans.{TileLayout, IsTileLayout}
 use Rattle.tile_eval.specs.Raster.{raster}
 use Rattle.tile_sources.specs.KnownTiles.{KnownTiles, AreTrue}
 use Rattle.one_tile.specs.Runs.{NeedsGiven}
-use Rattle.tile_run.specs.Stored.{numbers_in, IsStoredFunction}
+use Rattle.tile_run.specs.Stored.{IsStoredFunction}
 use Rattle.one_tile.specs.declared.tile_rows.TileRow.{TileRow}
 
 -- all that the tiles of stage g need is supplied
@@ -44,7 +44,3 @@ tile_values job g grid i j = raster (tile_area grid i j) (value job g)
 -- those of the first n tiles of row i
 abbrev pub row_values : Pipeline → ℕ → Grid → ℕ → ℕ → List (List ℤ)
 row_values job g grid i n = map (tile_values job g grid i) (range_with_len 0 n)
-
--- what one row of tiles of stage g supplies
-abbrev pub lent_row : ℕ → ℕ → TileRow → KnownTiles
-lent_row g row tiles h i j = if (h == g) && (i == row) then numbers_in (Some tiles) j else None

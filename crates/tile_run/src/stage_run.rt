@@ -9,7 +9,6 @@ ghost use Rattle.overlap_tiles.specs.Plans.{IsTileLayout};
 ghost use Rattle.tile_run.specs.StageRuns.{row_numbers, tile_values, row_values, IsStageReady};
 ghost use Rattle.tile_run.specs.Stored.{stored_tiles};
 ghost use Rattle.tile_run.specs.inside.Running.{grid_values};
-ghost use Rattle.tile_run.specs.inside.RowWorks.{row_of};
 
 use crate::pieces::estimate_least_tile_rows_per_thread;
 use crate::stored::StoredTiles;
@@ -25,19 +24,12 @@ use std::thread::Threads;
 /// A stored function of a job, whose tiles are to be made: its number, its grid, and what is stored of the functions that it
 /// reads.
 #[derive(Clone, Copy)]
-pub struct StageRun<'a> {
-    pub job: &'a Job,
-    pub schedule: &'a Schedule,
-    pub stored: &'a StoredTiles,
-    pub stage: usize,
-    pub grid: Grid,
-}
-
-// A row of tiles that is to be made, and vectors of earlier tiles, in which its numbers may be written.
-#[derive(Drop)]
-struct TileRowTask {
-    row: u32,
-    room: TileRow,
+pub(crate) struct StageRun<'a> {
+    pub(crate) job: &'a Job,
+    pub(crate) schedule: &'a Schedule,
+    pub(crate) stored: &'a StoredTiles,
+    pub(crate) stage: usize,
+    pub(crate) grid: Grid,
 }
 
 impl StageRun<'_> {
@@ -84,12 +76,8 @@ impl StageRun<'_> {
         tile.compute_values_if_stage_is_function(alloc, scratch)
     }
 
-    /// The values of a row of tiles, tile by tile.
-    ///
-    /// # Errors
-    ///
-    /// Fails only where memory is refused.
-    pub fn compute_tile_row(
+    // The values of a row of tiles, tile by tile.
+    fn compute_tile_row(
         &self,
         alloc: Global,
         row: u32,
@@ -127,11 +115,12 @@ impl StageRun<'_> {
             (tile_rows self.now.grid)) }
     {
         let least = estimate_least_tile_rows_per_thread(self.job, self.schedule, self.stage);
-        if self.grid.tile_rows() as usize / 2 < least {
-            self.compute_tile_rows_in_turn(alloc, scratch)
+        let rows = if self.grid.tile_rows() as usize / 2 < least {
+            self.compute_tile_rows_in_turn(alloc, scratch)?
         } else {
-            self.compute_tile_rows_in_parallel(rt, alloc, scratch, least)
-        }
+            self.compute_tile_rows_in_parallel(rt, alloc, least)?
+        };
+        Ok(StageTiles { rows })
     }
 
     // Those of all rows, row by row.
@@ -139,10 +128,10 @@ impl StageRun<'_> {
         &self,
         alloc: Global,
         scratch: &mut TileScratch,
-    ) -> Result<StageTiles, AllocError>
+    ) -> Result<Vec<TileRow>, AllocError>
         requires ready { IsStageReady (pipeline_in self.now.job.now) self.now.schedule.now.inlining
             (stored_tiles self.now.stored.now.stages.items) self.now.stage self.now.grid }
-        ensures { IfOk result (λ tiles. map row_numbers tiles.rows.items
+        ensures { IfOk result (λ rows. map row_numbers rows.items
             ≡ grid_values (pipeline_in self.now.job.now) self.now.stage self.now.grid
             (tile_rows self.now.grid)) }
     {
@@ -150,24 +139,7 @@ impl StageRun<'_> {
         for row in 0..self.grid.tile_rows() {
             rows.push(self.compute_tile_row(alloc, row, scratch)?)?;
         }
-        Ok(StageTiles { rows })
-    }
-
-    // The rows that are to be made, with the vectors of earlier tiles.
-    fn list_one_task_for_each_tile_row(
-        &self,
-        alloc: Global,
-        scratch: &mut TileScratch,
-    ) -> Result<Vec<TileRowTask>, AllocError>
-        ensures { IfOk result (λ works. map row_of works.items
-            ≡ range_with_len 0 (tile_rows self.now.grid)) }
-    {
-        let mut works = Vec::new(alloc);
-        for row in 0..self.grid.tile_rows() {
-            let room = scratch.reuse_tile_row_vectors(alloc, self.grid.tile_cols())?;
-            works.push(TileRowTask { row, room })?;
-        }
-        Ok(works)
+        Ok(rows)
     }
 
     // Those of all rows: each thread has at least this many, and scratch memory of its own.
@@ -175,34 +147,28 @@ impl StageRun<'_> {
         &self,
         rt: &(impl Threads + Sync),
         alloc: Global,
-        scratch: &mut TileScratch,
         least: usize,
-    ) -> Result<StageTiles, AllocError>
+    ) -> Result<Vec<TileRow>, AllocError>
         requires ready { IsStageReady (pipeline_in self.now.job.now) self.now.schedule.now.inlining
             (stored_tiles self.now.stored.now.stages.items) self.now.stage self.now.grid }
-        ensures { IfOk result (λ tiles. map row_numbers tiles.rows.items
+        ensures { IfOk result (λ rows. map row_numbers rows.items
             ≡ grid_values (pipeline_in self.now.job.now) self.now.stage self.now.grid
             (tile_rows self.now.grid)) }
     {
-        let works = self.list_one_task_for_each_tile_row(alloc, scratch)?;
-        let rows = works
+        (0..self.grid.tile_rows())
             .into_par_iter()
             .with_min_len(least)
             .map_init(
                 || TileScratch::new(alloc),
-                |scratch: &mut TileScratch, work: TileRowTask| -> Result<TileRow, AllocError>
+                |scratch: &mut TileScratch, row: u32| -> Result<TileRow, AllocError>
                     requires { IsStageReady (pipeline_in self.now.job.now) self.now.schedule.now.inlining
                         (stored_tiles self.now.stored.now.stages.items) self.now.stage self.now.grid
-                        × (work.row < tile_rows self.now.grid) }
+                        × (row < tile_rows self.now.grid) }
                     ensures { IfOk result (λ tiles. row_numbers tiles
                         ≡ row_values (pipeline_in self.entry.now.job.now) self.entry.now.stage
-                        self.entry.now.grid work.row (tile_cols self.entry.now.grid)) }
-                {
-                    scratch.set_recycled_vectors_to_tile_row(work.room);
-                    self.compute_tile_row(alloc, work.row, scratch)
-                },
+                        self.entry.now.grid row (tile_cols self.entry.now.grid)) }
+                { self.compute_tile_row(alloc, row, scratch) },
             )
-            .collect::<Result<Vec<TileRow>, AllocError>>(rt, alloc)??;
-        Ok(StageTiles { rows })
+            .collect::<Result<Vec<_>, AllocError>>(rt, alloc)?
     }
 }
