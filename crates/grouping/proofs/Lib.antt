@@ -11,5 +11,4 @@ pub mod KeptBetween
 pub mod TrialsOfBoxes
 pub mod CrossedBoxes
 pub mod GroupsFollowChains
-pub mod CheapOnesAreAdded
 pub mod TrialsAreSmall

@@ -3,7 +3,6 @@
 use Rattle.std.specs.Prelude.{ℕ, ◌≡◌, Bool, true, Option, List}
 use Rattle.job.specs.Pipeline.{Pipeline}
 use Rattle.tile_boxes.specs.Schedules.{IsSchedule, IsInlinedOutput, StoresOutputs, inlining_for}
-use Rattle.grouping.specs.Cheap.{AddsCheap}
 use Rattle.tile_boxes.specs.Costs.{survey_stage_costs, AllFitScratch}
 use Rattle.grouping.specs.declared.fault.ScheduleFault.{ScheduleFault}
 use Rattle.grouping.specs.declared.fault.ScheduleFault.TheVariants.{OutputInlined, Memory}
@@ -18,13 +17,6 @@ pub record IsScheduleOf (job : Pipeline) (s : Inlining) : Type 0 where
   pub inlining : IsSchedule job s.inlining
   pub costs : s.costs ≡ survey_stage_costs job s.inlining
   pub fits : s.fits ≡ true → AllFitScratch job s.inlining
-
--- a schedule of the job by which each tile fits in scratch memory. It inlines what was inlined before, and point-wise functions
--- as well
-pub record InlinesMore (job : Pipeline) (before : List Bool) (s : Inlining) : Type 0 where
-  pub schedule : IsScheduleOf job s
-  pub fits : AllFitScratch job s.inlining
-  pub adds : AddsCheap job before s.inlining
 
 -- ---- faults
 

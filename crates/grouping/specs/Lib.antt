@@ -2,5 +2,4 @@ pub mod Inlining
 pub mod Faults
 pub mod Greedy
 pub mod Chains
-pub mod Cheap
 pub mod inside

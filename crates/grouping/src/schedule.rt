@@ -37,10 +37,9 @@ impl Schedule {
     ghost use Rattle.tile_boxes.specs.Walks.{target_of};
     ghost use Rattle.tile_boxes.specs.Costs.{scratch};
     ghost use Rattle.grouping.specs.Greedy.{greedy_inlining};
-    ghost use Rattle.grouping.specs.Inlining.{IsScheduleOf, IsScheduleFault, InlinesMore};
+    ghost use Rattle.grouping.specs.Inlining.{IsScheduleOf, IsScheduleFault};
     ghost use Rattle.tile_boxes.specs.Costs.{AllFitScratch};
     ghost use Rattle.tile_boxes.specs.Schedules.{StoresOutputs};
-    ghost use Rattle.grouping.specs.Cheap.{AddsCheap};
 
     /// The schedule that inlines nothing.
     ///
@@ -109,34 +108,6 @@ impl Schedule {
             costs: choice.costs,
             fits: true,
         })
-    }
-
-    /// Which stages are inlined.
-    pub(crate) fn inlining(&self) -> &InlinedStages
-        ensures { result.now ≡ self.now.inlining }
-    {
-        &self.inlining
-    }
-
-    /// The schedule that also inlines point-wise functions, if it then knows that each tile fits in scratch memory; else the same
-    /// one.
-    pub(crate) fn extend_inlining_if_fitting(
-        self,
-        alloc: Global,
-        job: &Job,
-        inlining: InlinedStages,
-    ) -> Result<Schedule, AllocError>
-        requires schedule { IsScheduleOf (pipeline_in job.now) self }
-        requires fits { AllFitScratch (pipeline_in job.now) self.inlining }
-        requires better { IsSchedule (pipeline_in job.now) inlining }
-        requires adds { AddsCheap (pipeline_in job.now) self.inlining inlining }
-        ensures { IfOk result (InlinesMore (pipeline_in job.now) self.inlining) }
-    {
-        if self.inlining.has_same_stages(&inlining) {
-            return Ok(self);
-        }
-        let better = Schedule::from_inlining(alloc, job, inlining)?;
-        if better.fits { Ok(better) } else { Ok(self) }
     }
 
     fn from_inlining(
