@@ -1,5 +1,4 @@
 pub mod TotalLines
-pub mod SideLaws
 pub mod TotalNames
 pub mod TotalWords
 pub mod TotalTables

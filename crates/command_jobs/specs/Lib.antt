@@ -1,4 +1,3 @@
-pub mod Evaluation
 pub mod RequestedSchedule
 pub mod Results
 pub mod TotalTables

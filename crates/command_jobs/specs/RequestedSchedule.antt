@@ -1,5 +1,5 @@
 -- Which functions of a job are inlined by the options of a command.
-use Rattle.std.specs.Prelude.{ℕ, ◌==◌, Bool, not, ◌||◌, if◌then◌else◌, List}
+use Rattle.std.specs.Prelude.{ℕ, Bool, if◌then◌else◌, List}
 use Rattle.job.specs.Pipeline.{Pipeline}
 use Rattle.grouping.specs.Greedy.{greedy_inlining}
 use Rattle.tile_boxes.specs.Schedules.{all_stored}
@@ -7,7 +7,3 @@ use Rattle.tile_boxes.specs.Schedules.{all_stored}
 -- none where all are to be stored, else those that the greedy rule inlines
 abbrev pub requested_inlining : Bool → ℕ → Pipeline → List Bool
 requested_inlining stored percent job = if stored then all_stored job else greedy_inlining job percent
-
--- whether another schedule than the usual one is requested: all stored, or functions inlined for another percentage than 40
-abbrev pub is_unusual : Bool → ℕ → Bool
-is_unusual stored percent = stored || not (percent == 40)

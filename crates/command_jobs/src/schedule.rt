@@ -4,11 +4,10 @@ ghost use Rattle.std.specs.Prelude.{◌≡◌, IfOk};
 ghost use Rattle.grouping.specs.Inlining.{IsScheduleOf};
 ghost use Rattle.tile_boxes.specs.Costs.{AllFitScratch};
 ghost use Rattle.job.specs.Kept.{pipeline_in};
-ghost use Rattle.command_jobs.specs.RequestedSchedule.{requested_inlining, is_unusual};
-ghost use Rattle.command_jobs.specs.Evaluation.{IsEvaluationSchedule};
+ghost use Rattle.command_jobs.specs.RequestedSchedule.{requested_inlining};
 
 use command_line::Options;
-use grouping::{Schedule, extend_schedule_by_pointwise_inlining};
+use grouping::Schedule;
 use job::Job;
 use std::alloc::{AllocError, Global};
 
@@ -32,33 +31,4 @@ pub fn make_requested_schedule(
     } else {
         Schedule::greedy(alloc, job, options.percent.get())
     }
-}
-
-/// The schedule by which a job is evaluated. If the options request the usual schedule, point-wise functions are inlined as well;
-/// else it is the requested one. Each of its tiles fits in scratch memory.
-///
-/// # Errors
-///
-/// Fails only where memory is refused.
-pub(crate) fn make_command_evaluation_schedule(
-    alloc: Global,
-    job: &Job,
-    options: &Options,
-) -> Result<Schedule, AllocError>
-    ensures { IfOk result (IsEvaluationSchedule options.now.stored options.now.percent
-        (pipeline_in job.now)) }
-{
-    let schedule = make_requested_schedule(alloc, job, options)?;
-    if is_requested_schedule_unusual(options) {
-        Ok(schedule)
-    } else {
-        extend_schedule_by_pointwise_inlining(alloc, job, schedule)
-    }
-}
-
-// Whether another schedule than the usual one is requested.
-fn is_requested_schedule_unusual(options: &Options) -> bool
-    ensures { result ≡ is_unusual options.now.stored options.now.percent }
-{
-    options.stored || options.percent.get() != Options::with_defaults().percent.get()
 }

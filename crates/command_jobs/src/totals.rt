@@ -4,7 +4,8 @@ ghost use Rattle.std.specs.Prelude.{◌≡◌, ◌++◌, IfOk, OnOk};
 ghost use Rattle.std.specs.List.{flat_map};
 ghost use Rattle.accumulators.specs.Answers.{gathered};
 ghost use Rattle.job.specs.Kept.{pipeline_in};
-ghost use Rattle.command_jobs.specs.Results.{bin_text, ends_text, total_line};
+ghost use Rattle.job.specs.Totals.{totals as totals_of};
+ghost use Rattle.command_jobs.specs.Results.{bin_text, ends_text, line_at, total_line};
 ghost use Rattle.command_jobs.specs.inside.Gathering.{gathered_line};
 
 use accumulators::Total;
@@ -23,6 +24,30 @@ pub fn make_total_lines(alloc: Global, job: &Job, totals: &[Total]) -> Result<Ve
         put_total_line_if_of_accumulator(alloc, &mut lines, job, total)?;
     }
     Ok(lines)
+}
+
+/// Adds the line of a stage that has these totals, if it is an accumulator.
+///
+/// # Errors
+///
+/// Fails only where memory is refused.
+pub fn put_total_line_of_stage(
+    alloc: Global,
+    lines: &mut Vec<u8>,
+    job: &Job,
+    stage: usize,
+    bins: &[i64],
+) -> Result<(), AllocError>
+    requires { bins.now ≡ totals_of (pipeline_in job.now) stage }
+    ensures { OnOk result
+        (lines.new.items ≡ lines.old.items ++ line_at (pipeline_in job.now) stage) }
+{
+    match (job.name(stage), job.bins(stage)) {
+        (Some(name), Some(span)) => {
+            put_total_line_of_accumulator(alloc, lines, &name, &span, bins)
+        }
+        _ => Ok(()),
+    }
 }
 
 /// The line of a total, if its stage is an accumulator.
