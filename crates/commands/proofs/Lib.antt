@@ -2,5 +2,4 @@ pub mod Fitting
 pub mod Ranging
 pub mod Replying
 pub mod Telling
-pub mod Retiled
 pub mod NormalResults

@@ -34,7 +34,7 @@ pub fn compute_eval_check_or_plan_reply(
 {
     let alloc = rt.alloc();
     match question {
-        JobQuestion::Answer => compute_eval_reply(rt, job, options),
+        JobQuestion::Answer => compute_eval_reply(rt, &job, options),
         JobQuestion::Stages => Ok(JobReply::from_lines(make_check_lines(alloc, &job)?)),
         JobQuestion::Plan => Ok(JobReply::from_lines(make_requested_plan_lines(
             alloc, options, &job,
