@@ -2,7 +2,7 @@
 use Rattle.std.proofs.Common.{◌≡◌, ◌<◌, ℕ, List, Option, Some, None, codes, sym, ◌∙◌, subst, arith}
 use Rattle.std.specs.Prelude.{IfNone}
 use Rattle.clap.specs.Words.{Row, first_of}
-use Rattle.domains.specs.Sides.{AreAskedSides}
+use Rattle.domains.specs.Sides.{IsSides}
 use Rattle.command_line.specs.Asking.{AreFarmOptions, AreOptions}
 use Rattle.command_line.specs.Values.{IsChosen}
 use Rattle.command_line.specs.declared.options.Options.{Options}
@@ -26,12 +26,12 @@ chosen_once None usual n m a b = a ∙ sym b
 chosen_once (Some text) usual n m a b = a.value ∙ sym b.value
 
 pub no_sides : (rows : List Row) (h w : ℕ) → IsChosen (first_of (codes "rows") rows) 64 h → IsChosen (first_of (codes "cols") rows) 64 w
-    → ¬ AreAskedSides (record { height = h; width = w }) → (options : Options) → ¬ AreOptions rows options
+    → ¬ IsSides (record { height = h; width = w }) → (options : Options) → ¬ AreOptions rows options
 no_sides rows h w height width none options are =
     let same_h = chosen_once (first_of (codes "rows") rows) 64 options.sides.height h are.height height in
     let same_w = chosen_once (first_of (codes "cols") rows) 64 options.sides.width w are.width width in
-    none (subst (λ (n : ℕ). AreAskedSides (record { height = h; width = n })) same_w
-    (subst (λ (n : ℕ). AreAskedSides (record { height = n; width = options.sides.width })) same_h are.sides))
+    none (subst (λ (n : ℕ). IsSides (record { height = h; width = n })) same_w
+    (subst (λ (n : ℕ). IsSides (record { height = n; width = options.sides.width })) same_h are.sides))
 
 pub no_percent : (rows : List Row) (p : ℕ) → IsChosen (first_of (codes "percent") rows) 40 p → 10000 < p → (options : Options)
     → ¬ AreOptions rows options

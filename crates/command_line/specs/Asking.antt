@@ -5,7 +5,7 @@ use Rattle.std.specs.Str.{bytes_eq}
 use Rattle.std.specs.declared.alloc.Global.{Global}
 use Rattle.std.specs.declared.string.String.{String}
 use Rattle.clap.specs.Words.{Row, Text, all_of, fault_of, first_of, subcommand_of}
-use Rattle.domains.specs.Sides.{AreAskedSides}
+use Rattle.domains.specs.Sides.{IsSides}
 use Rattle.command_line.specs.Nodes.{IsNodeCount}
 use Rattle.command_line.specs.Tasks.{AsksFor}
 use Rattle.command_line.specs.Usage.{usage}
@@ -30,7 +30,7 @@ Given = String Global × ℤ
 pub record AreOptions (rows : List Row) (options : Options) : Type 0 where
   pub height : IsChosen (first_of (codes "rows") rows) 64 options.sides.height
   pub width : IsChosen (first_of (codes "cols") rows) 64 options.sides.width
-  pub sides : AreAskedSides options.sides
+  pub sides : IsSides options.sides
   pub percent : IsChosen (first_of (codes "percent") rows) 40 options.percent
   pub most : options.percent ≤ 10000
   pub stored : options.stored ≡ is_true (first_of (codes "stored") rows)

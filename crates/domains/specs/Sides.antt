@@ -1,21 +1,13 @@
 -- The height and the width of tiles.
-use Rattle.std.specs.Prelude.{ℕ, ◌*◌, ◌≤◌}
+use Rattle.std.specs.Prelude.{ℕ, ◌≤◌}
 
 -- how contracts see the sides of tiles
 pub record Sides : Type 0 where
   pub height : ℕ
   pub width : ℕ
 
--- what holds of the TileSides of the program; a tile has at most 1048576 points, as many as a fact may have
+-- what holds of the TileSides of the program: a tile has at most 1048576 points, as many as a fact may have
 pub record IsSides (s : Sides) : Type 0 where
-  pub height_least : 1 ≤ s.height
-  pub height_most : s.height ≤ 1024
-  pub width_least : 1 ≤ s.width
-  pub width_most : s.width ≤ 4096
-  pub points : s.height * s.width ≤ 1048576
-
--- the sides that a user may ask for
-pub record AreAskedSides (s : Sides) : Type 0 where
   pub height_least : 1 ≤ s.height
   pub height_most : s.height ≤ 1024
   pub width_least : 1 ≤ s.width

@@ -6,16 +6,10 @@ use crate::parts;
 use std::alloc::{AllocError, Global};
 use std::marker::Model;
 
-/// The greatest height and width of tiles that a user may ask for.
+/// The greatest height and width of tiles.
 pub const MOST_SIDE: u32 = 1024;
 
-/// The greatest width of any tiles: a row of them is as wide as the widest image.
-pub const LONGEST_ROW: u32 = 4096;
-
-// The greatest height of tiles of the greatest width: they have 1,048,576 points.
-const MOST_LONG_ROWS: u32 = 256;
-
-/// How many rows and columns a tile has: 1 to 1,024 rows, 1 to 4,096 columns, and at most 1,048,576 points.
+/// How many rows and columns a tile has: 1 to 1,024 of each.
 #[derive(Clone, Copy, Debug, PartialEq, Eq)]
 pub struct TileSides {
     height: u32,
@@ -35,33 +29,16 @@ impl Model for TileSides {
 }
 
 impl TileSides {
-    ghost use Rattle.domains.specs.Sides.{Sides, IsSides, AreAskedSides};
+    ghost use Rattle.domains.specs.Sides.{Sides, IsSides};
 
     /// The sides of these lengths; none where one lies outside 1 to 1,024.
     pub fn new(height: u32, width: u32) -> Option<TileSides>
         ensures some { IfSome result (λ s. s ≡ record { height = height; width = width }) }
         ensures within { IfSome result IsSides }
-        ensures asked { IfSome result AreAskedSides }
-        ensures none { IfNone result (¬ (AreAskedSides (record { height = height; width = width }))) }
+        ensures none { IfNone result (¬ (IsSides (record { height = height; width = width }))) }
     {
         if (1..=MOST_SIDE).contains(&height) && (1..=MOST_SIDE).contains(&width) {
             Some(TileSides { height, width })
-        } else {
-            None
-        }
-    }
-
-    /// The sides of tiles of this height whose rows have 4,096 columns; none where the height lies outside 1 to 256.
-    pub fn with_long_rows(height: u32) -> Option<TileSides>
-        ensures some { IfSome result (λ s. s ≡ record { height = height; width = 4096 }) }
-        ensures within { IfSome result IsSides }
-        ensures none { IfNone result (¬ (IsSides (record { height = height; width = 4096 }))) }
-    {
-        if (1..=MOST_LONG_ROWS).contains(&height) {
-            Some(TileSides {
-                height,
-                width: LONGEST_ROW,
-            })
         } else {
             None
         }

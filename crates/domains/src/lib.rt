@@ -12,6 +12,6 @@ mod parts;
 pub mod span;
 
 pub use area::Area;
-pub use grid::{Grid, LONGEST_ROW, MOST_SIDE, TileSides};
+pub use grid::{Grid, MOST_SIDE, TileSides};
 pub use index::Index;
 pub use span::{LIMIT, Span};

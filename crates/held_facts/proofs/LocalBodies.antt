@@ -133,14 +133,17 @@ part_small s side i h p k =
     let next : (i + 1) * side ≡ i * side + side = omega arith in
     omega (arith, ints, clamps, len)
 
-product_small : (m n a b : ℕ) → m ≤ a → n ≤ b → a * b ≤ 1048576 → m * n ≤ 1048576
-product_small m n a b low low' few = omega (arith, mul-le-mul_right n low, mul-le-mul_left a low')
+product_small : (m n a b : ℕ) → m ≤ a → n ≤ b → a ≤ 1024 → b ≤ 1024 → m * n ≤ 1048576
+product_small m n a b low low' high high' =
+    let short : m ≤ 1024 = omega (arith, low, high) in
+    let short' : n ≤ 1024 = omega (arith, low', high') in
+    omega (arith, mul-le-mul_right n short, mul-le-mul_left 1024 short')
 
 tile_small : (grid : Grid) (i j : ℕ) → IsGrid grid → HasTile grid i j → point_count (tile_area grid i j) ≤ 1048576
 tile_small grid i j good tile =
     product_small _ _ grid.sides.height grid.sides.width
     (part_small grid.area.rows grid.sides.height i good.area.rows good.sides.height_least tile.0)
-    (part_small grid.area.cols grid.sides.width j good.area.cols good.sides.width_least tile.1) good.sides.points
+    (part_small grid.area.cols grid.sides.width j good.area.cols good.sides.width_least tile.1) good.sides.height_most good.sides.width_most
 
 few_bins : (picture : Image) (domain area : Area) (env : Valuation) (b : Body) → IsBody picture domain b
     → length (body_totals env area b) ≤ 4096

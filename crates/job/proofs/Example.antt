@@ -140,5 +140,5 @@ blur_is = record {
   tables = All-nil IsTable;
   few_tables = omega arith;
   picture = picture_is;
-  sides = record { height_least = omega arith; height_most = omega arith; width_least = omega arith; width_most = omega arith; points = omega arith };
+  sides = record { height_least = omega arith; height_most = omega arith; width_least = omega arith; width_most = omega arith };
 }

@@ -1,7 +1,7 @@
 #![tactic(auto)]
 //! Programs that are bound to pictures.
 
-ghost use Rattle.std.specs.Prelude.{◌≡◌, ◌↔◌, map, slice_get, All, IsSome, IsOk, IfSome, IfOk, IfErr, IsTrue};
+ghost use Rattle.std.specs.Prelude.{◌≡◌, ◌↔◌, map, slice_get, IsSome, IfSome, IfOk, IsTrue};
 ghost use Rattle.std.specs.Option.{option_map, ForSome};
 ghost use Rattle.sha2.specs.Sha256.{sha256};
 ghost use Rattle.job.specs.Identity.{input_bytes, input_id, HasTileAt};
@@ -9,7 +9,6 @@ ghost use Rattle.job.specs.Readers.{kind_of, grid_at, stage_fold, stage_bins};
 ghost use Rattle.job.specs.WellFormed.{IsJob};
 ghost use Rattle.job.specs.WellFormedOnce.{IsJob-prop};
 ghost use Rattle.job.specs.OtherStages.{with_stages};
-ghost use Rattle.job.specs.TileSides.{HasFewTiles, with_sides};
 ghost use Rattle.job.specs.Views.{stage_view, output_view, parameter_view, pipeline_of};
 
 use crate::bound_pipeline::BoundPipeline;
@@ -63,36 +62,6 @@ impl Job {
             program,
             input: None,
         }
-    }
-
-    /// The same job with tiles of these sides, if no stage has more than 65,536 of them. Its answer is the same
-    /// (`laws::job_answers_do_not_depend_on_tiling`), and its input has another identity if the sides differ.
-    ///
-    /// # Errors
-    ///
-    /// Returns the job unchanged if a stage would have more tiles.
-    pub fn with_tile_sides(self, sides: TileSides) -> Result<Job, Job>
-        ensures few { IsOk result ↔ All (HasFewTiles sides) (pipeline_in self).stages }
-        ensures pipeline { IfOk result (λ job. pipeline_in job ≡ with_sides sides (pipeline_in self)) }
-        ensures text { IfOk result (λ job. program_text_in job ≡ program_text_in self) }
-        ensures program { IfOk result (λ job. program_id_in job ≡ program_id_in self) }
-        ensures unchanged { IfErr result (λ job. job ≡ self) }
-    {
-        if !has_few_tiles_in_all_stages(&self.parts.stages, sides) {
-            return Err(self);
-        }
-        let Job {
-            parts,
-            text,
-            program,
-            ..
-        } = self;
-        Ok(Job {
-            parts: BoundPipeline { sides, ..parts },
-            text,
-            program,
-            input: None,
-        })
     }
 
     /// The same job with these stages in place of its own, if they make one. Its text and its identities are as they were.
@@ -308,11 +277,4 @@ impl Job {
             col,
         })
     }
-}
-
-// Whether each stage that has tiles has at most 65,536 of these sides.
-fn has_few_tiles_in_all_stages(stages: &[Stage], sides: TileSides) -> bool
-    ensures { IsTrue result ↔ All (λ stage. HasFewTiles sides (stage_view stage)) stages.now }
-{
-    stages.iter().all(|stage| stage.has_few_tiles(sides))
 }

@@ -1,13 +1,12 @@
 #![tactic(auto)]
 //! Stages at the values of the parameters.
 
-ghost use Rattle.std.specs.Prelude.{◌≡◌, ◌↔◌, [], ◌∷◌, ◌++◌, Some, None, IfOk, IsTrue, if◌then◌else◌, map};
+ghost use Rattle.std.specs.Prelude.{◌≡◌, [], ◌∷◌, ◌++◌, Some, None, IfOk, if◌then◌else◌, map};
 ghost use Rattle.std.specs.List.{flat_map};
 ghost use Rattle.std.specs.Option.{option_map};
 ghost use Rattle.job.specs.Reads.{reads_in, other_formula};
 ghost use Rattle.job.specs.ReadViews.{read_view, same_reads-prop};
 ghost use Rattle.job.specs.FormulaViews.{formula_view};
-ghost use Rattle.job.specs.TileSides.{HasFewTiles};
 
 use crate::formula::Formula;
 use crate::job::StageKind;
@@ -19,9 +18,6 @@ use domains::{Area, Grid, Span, TileSides};
 use operators::{PointTest, ReductionOp};
 use pipe_tokens::Name;
 use std::alloc::{AllocError, Global};
-
-// The most tiles of a stage.
-const MOST_TILES: u64 = 65_536;
 
 /// A formula where all tests hold, with what it reads.
 #[derive(Debug, Drop)]
@@ -150,16 +146,6 @@ impl Stage {
         match &self.body {
             Body::Plane(_) | Body::Function(_) => None,
             Body::Accumulator(accumulator) => Some(accumulator.bins),
-        }
-    }
-
-    /// Whether it has at most 65,536 tiles of these sides; a plane has none.
-    pub(crate) fn has_few_tiles(&self, sides: TileSides) -> bool
-        ensures { IsTrue result ↔ HasFewTiles sides (stage_view self.now) }
-    {
-        match self.grid(sides) {
-            Some(grid) => grid.tiles() <= MOST_TILES,
-            None => true,
         }
     }
 

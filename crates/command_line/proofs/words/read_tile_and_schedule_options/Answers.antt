@@ -42,7 +42,7 @@ returns-clause-some c =
       width =
           subst (λ (s : Sides). IsChosen (first_of (codes "cols") rows) 64 s.width) (sym sides)
           (chosen_usual _ _ _ _ (search rules) c.in_ok-cols.ensures.some);
-      sides = c.in_ok-new.ensures.asked;
+      sides = c.in_ok-new.ensures.within;
       percent =
           subst (λ (n : ℕ). IsChosen (first_of (codes "percent") rows) 40 n) (sym c.in_ok-new-2.ensures.some)
           (chosen_usual _ _ _ _ (search rules) c.in_ok-percent.ensures.some);
