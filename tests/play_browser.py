@@ -314,7 +314,7 @@ class Browser(unittest.TestCase):
 
     def test_it_is_said_what_obeys_the_schedule(self):
         self.play(COPY, SMALL)
-        self.assertIn("eval streams the rows of a picture, whatever the schedule", self.one("#schedule-says").text)
+        self.assertIn("eval streams rows, whatever the schedule", self.one("#schedule-says").text)
 
     def test_a_tile_shows_what_it_needs(self):
         text = ("image I(6, 6);\nfunc a(x in [1 .. 4], y in [1 .. 4]) { else : stencil(I, 1, [[1,1,1],[1,1,1],[1,1,1]]); }\n"

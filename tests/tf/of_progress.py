@@ -38,7 +38,7 @@ class Progress(InRoom):
         return data.decode()
 
     def test_a_person_is_told_what_obeys_a_schedule(self):
-        says = "eval streams the rows of a picture, whatever the schedule; run, facts and worlds obey it"
+        says = "eval streams rows, whatever the schedule; run, facts and worlds obey it"
         for words in (["plan", "p.pipe", "p.pgm"], ["graph", "p.pipe", "p.pgm", "-o", "g.svg"]):
             self.assertIn(says, self.terminal(PROGRAM, *words))
             self.assertNotIn(says, self.terminal(PROGRAM, *words, "--quiet"))

@@ -47,7 +47,7 @@ COMMANDS = {
         Command("check", ONE, ONE, "`program HEX` and `input HEX`, the identities; then for each plane, function and accumulator a "
                 "line `stage N KIND NAME R0..R1 C0..C1 tiles T`"),
         Command("plan", ONE, ONE, "for each function and accumulator `inlined NAME`, or `stored NAME cost C` with the number of points "
-                "that its tiles compute; `eval` streams the rows of a picture, whatever the schedule, and `run`, facts and worlds obey it"),
+                "that its tiles compute; `eval` streams rows, whatever the schedule, and `run`, facts and worlds obey it"),
         Command("run", ONE, ONE, "what `eval` writes, by a farm of nodes"),
         Command("merge", (FACTS,), (FACTS,), "what fact files hold together, as a line of hexadecimal digits: all jobs that one of them "
                 "retires, and all facts of other jobs"),
@@ -92,7 +92,7 @@ TF_STATUSES = (
     Status(7, "`tf` made a mistake, or TILEFARM names a program that is no tilefarm", "`tf: ERROR at FILE:LINE: ..`"),
     Status(128, "and the signal's number: Ctrl-C, SIGTERM or SIGHUP ended `tf`, its runs, and its own files", "nothing"),
 )
-OBEYED = "eval streams the rows of a picture, whatever the schedule; run, facts and worlds obey it"
+OBEYED = "eval streams rows, whatever the schedule; run, facts and worlds obey it"
 DRAWING = {
     "frames": "runs a program on each frame of a film, by one process: a folder, a numbered name as frame-%05d.pgm, or a stream of PGM and PPM "
               "pictures; tf frames PROGRAM FRAMES -o RESULTS",
