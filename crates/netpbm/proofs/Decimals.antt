@@ -21,6 +21,6 @@ more_digits n last before some small e =
     append_assoc before (decimal (n / 10)) (last ∷ []) ∙ ap (λ d. before ++ (decimal (n / 10) ++ d ∷ [])) e
     ∙ ap (λ ds. before ++ ds) (sym (decimal_step n some (omega arith)))
 
--- no number of a header has more than five digits
-pub short_decimal : (n : ℕ) → n ≤ 65535 → length (decimal n) ≤ 5
-short_decimal n le = length-decimal-le 5 n (omega arith) (omega arith) (omega arith)
+-- no number of 32 bits has more than ten digits
+pub short_decimal : (n : ℕ) → n < 2 ^ 32 → length (decimal n) ≤ 10
+short_decimal n lt = length-decimal-le 10 n (omega arith) (omega arith) (omega arith)

@@ -15,6 +15,7 @@ mod picture;
 mod plain;
 mod raster;
 mod raw_bounds;
+mod raw_header;
 mod raw_planes;
 mod raw_raster;
 mod reading;
@@ -26,5 +27,6 @@ pub use laws::{no_bytes_spell_two_pictures, raw_spelling_identifies_the_picture}
 pub use packed_plane::PackedPlane;
 pub use picture::{LONGEST_SIDE, Picture};
 pub use plane_samples::{PlaneSamples, SpacedBytes, SpacedPairs};
+pub use raw_header::{LONGEST_RAW_HEADER, encode_raw_header_into_buffer};
 pub use reading::{read, read_picture_in_place};
 pub use writing::{hash_raw_picture, raw, write_raw};

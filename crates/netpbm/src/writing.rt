@@ -1,5 +1,5 @@
 //! From a picture to its one written form.
-ghost use Rattle.std.specs.Prelude.{List, ℕ, ◌≡◌, ◌≤◌, ◌<◌, ◌+◌, ◌-◌, ◌*◌, ◌++◌, ◌∷◌, [], All, take, length, slice_range, slice_index_or, decimal, IfOk, IfSome, OnOk, OnErr};
+ghost use Rattle.std.specs.Prelude.{List, ℕ, ◌≡◌, ◌≤◌, ◌<◌, ◌+◌, ◌-◌, ◌*◌, ◌++◌, ◌∷◌, [], All, take, length, slice_range, slice_index_or, IfOk, IfSome, OnOk, OnErr};
 ghost use Rattle.std.specs.Io.KnownBytes.{Appends};
 ghost use Rattle.netpbm.specs.Colours.{woven, interleaved};
 ghost use Rattle.netpbm.specs.Image.{IsImage};
@@ -11,13 +11,11 @@ ghost use Rattle.netpbm.specs.Pixels.{pixels};
 use crate::colours::{write_interleaved_colour_bytes, write_interleaved_colour_samples};
 use crate::parts::{view_contiguous_sample_bytes, view_or_copy_plane_slice};
 use crate::picture::Picture;
+use crate::raw_header::{LONGEST_RAW_HEADER, encode_raw_header_into_buffer};
 use crate::raw_raster::{count_bytes_per_raw_sample, encode_raw_samples_into_buffer};
 use sha2::Digest;
 use std::alloc::{AllocError, Global};
 use streams::{Sink, WriteFailed, write_all_bytes};
-
-// The most bytes of a header.
-const LONGEST_HEADER: usize = 32;
 
 // How many pixels are written at a time.
 const PIXELS: usize = 16384;
@@ -27,7 +25,7 @@ const PIXELS: usize = 16384;
 pub fn raw(alloc: Global, picture: &Picture) -> Result<Vec<u8>, AllocError>
     ensures { IfOk result (λ bytes. bytes.items ≡ spelling picture.now) }
 {
-    let mut header = [0u8; LONGEST_HEADER];
+    let mut header = [0u8; LONGEST_RAW_HEADER];
     let header_len = encode_picture_header_into_buffer(&mut header, picture);
     let mut bytes = Vec::with_capacity(alloc, header_len + count_raster_bytes(picture))?;
     bytes.extend_from_slice(&header[..header_len])?;
@@ -70,7 +68,7 @@ pub fn write_raw<W: Sink>(picture: &Picture, writer: &mut W) -> Result<(), Write
         (AppendsPart (W.contents writer.old) (W.contents writer.new) (spelling picture.now)) }
     ensures failed { CountsFailure result (W.failures writer.old) (W.failures writer.new) }
 {
-    let mut header = [0u8; LONGEST_HEADER];
+    let mut header = [0u8; LONGEST_RAW_HEADER];
     let header_len = encode_picture_header_into_buffer(&mut header, picture);
     write_all_bytes(writer, &header[..header_len])?;
     write_raster(writer, picture)
@@ -117,7 +115,7 @@ pub fn hash_raw_picture<D: Digest>(picture: &Picture, hasher: &mut D)
     ensures { (message : List ℕ) → D.holds hasher.old message
         → D.holds hasher.new (message ++ spelling picture.now) }
 {
-    let mut header = [0u8; LONGEST_HEADER];
+    let mut header = [0u8; LONGEST_RAW_HEADER];
     let header_len = encode_picture_header_into_buffer(&mut header, picture);
     hasher.update(&header[..header_len]);
     hash_raster(hasher, picture);
@@ -269,50 +267,12 @@ fn encode_colour_samples_into_buffer(
     encode_raw_samples_into_buffer(out, &in_turn[..3 * red.len()], max)
 }
 
-// Puts the header into the front of `out`, and returns how many bytes it has.
-#[tactic(auto, using(crate::proofs::Decimals::short_decimal))]
+// Puts the header of a picture into the front of `out`, and returns how many bytes it has.
 fn encode_picture_header_into_buffer(out: &mut [u8], picture: &Picture) -> usize
-    requires { 32 ≤ length out.old }
-    ensures end { result ≤ 32 }
+    requires { 36 ≤ length out.old }
+    ensures end { result ≤ 36 }
     ensures written { take result out.new ≡ header_of picture.now }
 {
-    let magic = if picture.plane_count() == 1 {
-        b'5'
-    } else {
-        b'6'
-    };
-    let at = write_header_byte_at_offset(out, 0, b'P');
-    let at = write_header_byte_at_offset(out, at, magic);
-    let at = write_header_byte_at_offset(out, at, b'\n');
-    let at = write_header_number_at_offset(out, at, picture.cols());
-    let at = write_header_byte_at_offset(out, at, b' ');
-    let at = write_header_number_at_offset(out, at, picture.rows());
-    let at = write_header_byte_at_offset(out, at, b'\n');
-    let at = write_header_number_at_offset(out, at, u32::from(picture.max()));
-    write_header_byte_at_offset(out, at, b'\n')
-}
-
-// Puts a byte at a place of `out`, and returns where the next one goes.
-fn write_header_byte_at_offset(out: &mut [u8], at: usize, byte: u8) -> usize
-    requires { at < length out.old }
-    ensures end { result ≡ at + 1 }
-    ensures written { take result out.new ≡ take at out.old ++ byte ∷ [] }
-{
-    out[at] = byte;
-    at + 1
-}
-
-// Puts the digits of a number at a place of `out`, and returns where they end.
-#[tactic(auto, using(crate::proofs::Decimals::more_digits))]
-fn write_header_number_at_offset(out: &mut [u8], start: usize, number: u32) -> usize
-    requires { start + length (decimal number) ≤ length out.old }
-    ensures end { result ≡ start + length (decimal number) }
-    ensures written { take result out.new ≡ take start out.old ++ decimal number }
-{
-    let last = b'0' + (number % 10) as u8;
-    if number < 10 {
-        return write_header_byte_at_offset(out, start, last);
-    }
-    let at = write_header_number_at_offset(out, start, number / 10);
-    write_header_byte_at_offset(out, at, last)
+    let (rows, cols, max) = (picture.rows(), picture.cols(), picture.max());
+    encode_raw_header_into_buffer(out, picture.plane_count(), rows, cols, u32::from(max))
 }

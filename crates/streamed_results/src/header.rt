@@ -7,6 +7,7 @@ ghost use Rattle.netpbm.specs.Image.{image};
 ghost use Rattle.netpbm.specs.Spelling.{header};
 
 use domains::Area;
+use netpbm::{LONGEST_RAW_HEADER, encode_raw_header_into_buffer};
 use std::alloc::{AllocError, Global};
 
 /// The bytes before the raster of a picture of so many planes on an area.
@@ -23,12 +24,9 @@ pub(crate) fn make_result_header(
     ensures { IfOk result (λ bytes. (planes : List (List ℕ)) → length planes ≡ count
         → bytes.items ≡ header (image (len_of area.now.rows) (len_of area.now.cols) max planes)) }
 {
-    let rows = area.rows.len();
-    let cols = area.cols.len();
-    let text = if count == 1 {
-        format!(in alloc; "P5\n{cols} {rows}\n{max}\n")?
-    } else {
-        format!(in alloc; "P6\n{cols} {rows}\n{max}\n")?
-    };
-    Ok(text.into_bytes())
+    let mut header = vec![in alloc; 0u8; LONGEST_RAW_HEADER]?;
+    let (rows, cols) = (area.rows.len(), area.cols.len());
+    let len = encode_raw_header_into_buffer(&mut header, count, rows, cols, max);
+    header.truncate(len);
+    Ok(header)
 }

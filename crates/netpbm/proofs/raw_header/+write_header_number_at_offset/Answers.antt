@@ -1,7 +1,7 @@
 -- The last digit behind the others.
 use Rattle.std.proofs.Common.{◌+◌, ◌%◌, ◌∙◌, take, arith, rules}
 use Rattle.netpbm.proofs.Decimals.{length_one_digit, length_more_digits, one_digit}
-use Rattle.netpbm.proofs.writing.+write_header_number_at_offset.Goals as goal
+use Rattle.netpbm.proofs.raw_header.+write_header_number_at_offset.Goals as goal
 
 pub write_header_byte_at_offset-requires : goal.write_header_byte_at_offset-requires
 write_header_byte_at_offset-requires t c = omega (arith, length_one_digit c.args.number c.if-number-lt10.true)
