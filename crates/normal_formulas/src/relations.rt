@@ -1,5 +1,5 @@
 #![tactic(auto)]
-//! Comparisons, whose number stands on the right.
+//! Comparisons, whose number stands on the right, and of which the lesser formula stands on the left.
 
 ghost use Rattle.job.specs.Formula.{select};
 ghost use Rattle.job.specs.Views.{formula_view};
@@ -21,6 +21,16 @@ fn mirror_normal_relation(relation: Relation) -> Relation
     }
 }
 
+// Whether a comparison is spelled the other way round: a number stands on the right, and of two formulas the first is at most the second.
+fn is_normal_relation_mirrored(left: &Formula, relation: Relation, right: &Formula) -> bool {
+    match (left, relation, right) {
+        (Formula::Number(_), _, _) => true,
+        (_, _, Formula::Number(_)) => false,
+        (_, Relation::AtLeast, _) => true,
+        (_, Relation::AtMost | Relation::Equals, _) => false,
+    }
+}
+
 /// One of two formulas, by a relation of two others.
 pub(crate) fn choose_normal_formula(
     left: Box<Formula>,
@@ -32,7 +42,7 @@ pub(crate) fn choose_normal_formula(
     ensures { Rewrites (select (formula_view left.value) relation (formula_view right.value)
         (formula_view then.value) (formula_view otherwise.value)) (formula_view result) }
 {
-    if matches!(&*left, Formula::Number(_)) {
+    if is_normal_relation_mirrored(&left, relation, &right) {
         let mirrored = mirror_normal_relation(relation);
         Formula::Select(right, mirrored, left, then, otherwise)
     } else {
