@@ -143,7 +143,8 @@ CHECKS = tuple(Entry(*it) for it in (
      "A line of 16 MiB that is no table's is `tables: line 1`, with memory for eight times the input"),
     ("one processor and several", ("tests/cpu_counts", BUILT), ALONE,
      "All cases are answered alike on one, two and four processors, as far as there are so many, a dozen of them a hundred times. "
-     "4,096 tiles of one point are computed by several threads, and a small picture by one. `run` starts two threads for each node. Its "
+     "4,096 tiles of one point are computed by several threads, and a small picture by one. A tall picture, of which four strips would keep too "
+     "much, is made in fewer. `run` starts two threads for each node. Its "
      "turns, restarts and schedule are those of its options"),
     ("random jobs", ("tests/fuzz", BUILT), ALONE,
      "Refusals of random and of mutated programs and pictures have their line and their status. `check`, `plan` and `eval` refuse the "

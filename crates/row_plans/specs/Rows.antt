@@ -27,7 +27,7 @@ IsKeptAt states g r = (s : RowState) × (slice_get states g ≡ Some s) × IsKep
 abbrev pub one_row_more : RowState → RowState
 one_row_more s = record { area = s.area; kept = s.kept; first = s.first; next = s.next + 1 }
 
--- the most numbers that a plan keeps of all stages together
+-- the most numbers that are kept of all stages together, for all rows of a picture
 abbrev pub most_numbers : ℕ
 most_numbers = 33554432
 

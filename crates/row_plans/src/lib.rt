@@ -14,5 +14,5 @@ mod row_state_windows;
 mod rows_read;
 mod stage_rows_read;
 
-pub use plan::{PlanStep, RowPlan, make_row_plan};
+pub use plan::{MOST_NUMBERS, PlanStep, RowPlan, make_row_plan};
 pub use row_state::RowState;

@@ -4,7 +4,7 @@
 ghost use Rattle.std.specs.Prelude.{◌≡◌, ◌≤◌, All, IfOk, IfSome};
 ghost use Rattle.job.specs.Kept.{pipeline_in};
 ghost use Rattle.row_plans.specs.Plans.{IsRunnable};
-ghost use Rattle.row_plans.specs.Rows.{most_numbers, numbers_kept};
+ghost use Rattle.row_plans.specs.Rows.{numbers_kept};
 
 use crate::row_plan_check::is_row_plan_runnable;
 use crate::row_planner::RowPlanner;
@@ -13,8 +13,8 @@ use crate::stage_rows_read::list_rows_read_of_stages;
 use job::Job;
 use std::alloc::{AllocError, Global};
 
-// The most numbers that are kept of all stages together.
-const MOST_NUMBERS: u64 = 33_554_432;
+/// The most numbers that are kept of all stages together, for all rows of a picture.
+pub const MOST_NUMBERS: u64 = 33_554_432;
 
 /// A step of a plan.
 #[derive(Clone, Copy, Debug, PartialEq, Eq)]
@@ -34,8 +34,8 @@ pub struct RowPlan {
 
 /// A plan that outputs the rows of the picture from row `first` up to row `end`, excluded. `outputs` are the numbers of its
 /// functions; with none it outputs rows of nothing. When a row is output, what the accumulators `summed` read in their rows of the same
-/// place is made and kept. No clause says so: who accumulates asks for it. None if no plan is found: if more than 33,554,432 numbers
-/// would be kept, say.
+/// place is made and kept. No clause says so: who accumulates asks for it. None if no plan is found: if more than `most` numbers would be
+/// kept, say.
 ///
 /// # Errors
 ///
@@ -47,6 +47,7 @@ pub fn make_row_plan(
     summed: &[usize],
     first: usize,
     end: usize,
+    most: u64,
 ) -> Result<Option<RowPlan>, AllocError>
     ensures begun { IfOk result (λ found. IfSome found
         (λ plan. All (λ state. state.next ≡ state.first) plan.states.items)) }
@@ -54,7 +55,7 @@ pub fn make_row_plan(
         (λ plan. IsRunnable (pipeline_in job.now) outputs.now end first plan.states.items
         plan.steps.items)) }
     ensures few { IfOk result
-        (λ found. IfSome found (λ plan. numbers_kept plan.states.items ≤ most_numbers)) }
+        (λ found. IfSome found (λ plan. numbers_kept plan.states.items ≤ most)) }
 {
     let Some(rows) = list_rows_read_of_stages(alloc, job)? else {
         return Ok(None);
@@ -64,7 +65,7 @@ pub fn make_row_plan(
     let Some(numbers) = count_numbers_kept_in_row_states(&plan.states) else {
         return Ok(None);
     };
-    if numbers > MOST_NUMBERS
+    if numbers > most
         || !are_row_states_at_start(&plan.states)
         || !is_row_plan_runnable(alloc, job, &rows, &plan, repeated, outputs, first, end)?
     {

@@ -1,10 +1,11 @@
 #![tactic(auto)]
 //! The steps of a plan, taken from one row to the next.
 
-ghost use Rattle.std.specs.Prelude.{◌≡◌, ◌<◌, ◌+◌, drop, slice_get, Some, All, IfOk, IfSome};
+ghost use Rattle.std.specs.Prelude.{◌≡◌, ◌<◌, ◌≤◌, ◌+◌, drop, slice_get, Some, All, IfOk, IfSome};
 ghost use Rattle.std.proofs.Props.{props};
 ghost use Rattle.job.specs.Kept.{pipeline_in};
 ghost use Rattle.row_plans.specs.Plans.{IsOutputKept, IsRunnable};
+ghost use Rattle.row_plans.specs.Rows.{numbers_kept};
 ghost use Rattle.row_rings.specs.Rings.{states_in, IsOutputForm};
 ghost use Rattle.row_streams.specs.Once.{IsRunnable-prop};
 
@@ -38,7 +39,7 @@ pub(crate) struct RowStreamSteps<'a> {
 
 impl<'a> RowStreamSteps<'a> {
     /// The steps for rows of these outputs from row `first` up to before row `end`, and for those that the accumulators `summed` read
-    /// along with them. None if no plan is found.
+    /// along with them. None if no plan is found that keeps at most `most` numbers.
     ///
     /// # Errors
     ///
@@ -50,14 +51,17 @@ impl<'a> RowStreamSteps<'a> {
         summed: &[usize],
         first: usize,
         end: usize,
+        most: u64,
     ) -> Result<Option<RowStreamSteps<'a>>, AllocError>
         ensures job { IfOk result (λ found. IfSome found (λ steps. steps.job.now ≡ job.now)) }
         ensures outputs { IfOk result
             (λ found. IfSome found (λ steps. steps.outputs.now ≡ outputs.now)) }
         ensures row { IfOk result (λ found. IfSome found (λ steps. steps.row ≡ first)) }
         ensures end { IfOk result (λ found. IfSome found (λ steps. steps.end ≡ end)) }
+        ensures few { IfOk result
+            (λ found. IfSome found (λ steps. numbers_kept (states_in steps.rings) ≤ most)) }
     {
-        let Some(plan) = make_row_plan(alloc, job, outputs, summed, first, end)? else {
+        let Some(plan) = make_row_plan(alloc, job, outputs, summed, first, end, most)? else {
             return Ok(None);
         };
         let rings = JobRings::new(alloc, job, &plan.states, outputs, summed)?;

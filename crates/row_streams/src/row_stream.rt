@@ -9,6 +9,7 @@ ghost use Rattle.netpbm.specs.Raw.{raw_raster, width_of};
 ghost use Rattle.raw_rows.specs.Lines.{line_samples, AreEven, plane_count, pixel_count};
 ghost use Rattle.raw_rows.specs.Rows.{bytes_per_row, raw_row, raw_rows};
 ghost use Rattle.row_plans.specs.Plans.{IsOutputKept};
+ghost use Rattle.row_plans.specs.Rows.{numbers_kept};
 ghost use Rattle.row_rings.specs.Rings.{states_in, IsWideIn, IsNarrowIn};
 ghost use Rattle.row_streams.specs.Once.{IsOutput-prop};
 
@@ -32,7 +33,7 @@ pub struct RowStream<'a> {
 
 impl<'a> RowStream<'a> {
     /// The rows of the picture of this output from row `first` up to before row `end`, with what the accumulators `summed` read in their
-    /// rows of the same places. None if no plan is found for them.
+    /// rows of the same places. None if no plan is found for them that keeps at most `most` numbers.
     ///
     /// # Errors
     ///
@@ -44,6 +45,7 @@ impl<'a> RowStream<'a> {
         summed: &[usize],
         first: usize,
         end: usize,
+        most: u64,
     ) -> Result<Option<RowStream<'a>>, AllocError>
         requires { IsOutput (pipeline_in job.now) (output_view output.now) }
         ensures job { IfOk result (λ found. IfSome found (λ stream. stream.steps.job.now ≡ job.now)) }
@@ -51,12 +53,14 @@ impl<'a> RowStream<'a> {
             (λ found. IfSome found (λ stream. stream.output.now ≡ output.now)) }
         ensures row { IfOk result (λ found. IfSome found (λ stream. stream.steps.row ≡ first)) }
         ensures end { IfOk result (λ found. IfSome found (λ stream. stream.steps.end ≡ end)) }
+        ensures few { IfOk result
+            (λ found. IfSome found (λ stream. numbers_kept (states_in stream.steps.rings) ≤ most)) }
     {
         let Some(area) = job.domain(output.first_stage()) else {
             return Ok(None);
         };
-        let Some(steps) = RowStreamSteps::new(alloc, job, output.stages(), summed, first, end)?
-        else {
+        let outputs = output.stages();
+        let Some(steps) = RowStreamSteps::new(alloc, job, outputs, summed, first, end, most)? else {
             return Ok(None);
         };
         let row_len = count_raw_row_bytes(

@@ -11,6 +11,7 @@ ghost use Rattle.row_streams.specs.Strips.{row_count};
 ghost use Rattle.row_streams.specs.StripsMade.{strips_joined, IsStrip};
 
 use crate::row_stream::RowStream;
+use crate::row_strips::RowStrips;
 use job::{Job, Output};
 use rayon::prelude::*;
 use row_totals::RowTotals;
@@ -44,16 +45,14 @@ struct StripStreamMaker<'a, 'b> {
     job: &'a Job,
     output: &'a Output,
     summed: &'b [usize],
-    // How many rows the picture has.
-    height: usize,
-    // How many rows a strip has.
-    len: usize,
+    strips: RowStrips,
     ghost formed: { IsOutput (pipeline_in job.now) (output_view output.now) } by { IsOutput-prop (pipeline_in job.now) (output_view output.now) },
-    ghost high: { height ≡ row_count (pipeline_in job.now) (output_view output.now) },
+    ghost high: { strips.height ≡ row_count (pipeline_in job.now) (output_view output.now) },
 }
 
 /// The bytes of all rows of the picture of this output, in strips of `len` rows each but the last, with what the accumulators `summed` have
-/// in their bins of the rows of the same places. A thread of its own makes each strip. None if no plan is found for one of them.
+/// in their bins of the rows of the same places. A thread of its own makes each strip. None if no plan is found for one of them: if all
+/// together would keep more than 33,554,432 numbers, say.
 ///
 /// # Errors
 ///
@@ -81,8 +80,7 @@ pub fn make_strip_streams<'a>(
         job,
         output,
         summed,
-        height: area.rows.len() as usize,
-        len,
+        strips: RowStrips::new(area.rows.len() as usize, len),
     };
     match maker.make_all_strip_streams(rt, alloc) {
         Ok(strips) => Ok(Some(strips)),
@@ -98,20 +96,20 @@ impl<'a, 'b> StripStreamMaker<'a, 'b> {
         rt: &(impl Threads + Sync),
         alloc: Global,
     ) -> Result<Vec<StripStream<'a>>, StripStreamFault>
-        requires { 0 < self.now.len }
+        requires { 0 < self.now.strips.len }
         ensures bytes { IfOk result (λ strips. strips_joined strips.items
             ≡ raw_rows (pipeline_in self.now.job.now) (output_view self.now.output.now) 0
             (row_count (pipeline_in self.now.job.now) (output_view self.now.output.now))) }
         ensures totals { IfOk result
             (λ strips. All (λ strip. strip.totals.job.now ≡ self.now.job.now) strips.items) }
     {
-        (0..self.height.div_ceil(self.len))
+        (0..self.strips.count_row_strips())
             .into_par_iter()
             .with_min_len(1)
             .map(
                 |number: usize| -> Result<StripStream<'_>, StripStreamFault>
                     ensures { IfOk result (IsStrip self.entry.now.job.now
-                        (output_view self.entry.now.output.now) self.entry.now.len number) }
+                        (output_view self.entry.now.output.now) self.entry.now.strips.len number) }
                 { self.make_strip_stream(alloc, number) },
             )
             .collect::<Result<Vec<_>, StripStreamFault>>(rt, alloc)?
@@ -124,10 +122,10 @@ impl<'a, 'b> StripStreamMaker<'a, 'b> {
         number: usize,
     ) -> Result<StripStream<'a>, StripStreamFault>
         ensures { IfOk result (IsStrip self.now.job.now (output_view self.now.output.now)
-            self.now.len number) }
+            self.now.strips.len number) }
     {
-        let first = number.saturating_mul(self.len).min(self.height);
-        let end = first.saturating_add(self.len).min(self.height);
+        let first = self.strips.find_row_strip_start(number);
+        let end = self.strips.find_row_strip_end(number);
         let Some(mut stream) = RowStream::new(
             alloc,
             self.job,
@@ -135,6 +133,7 @@ impl<'a, 'b> StripStreamMaker<'a, 'b> {
             self.summed,
             first,
             end,
+            self.strips.find_row_strip_share(),
         )?
         else {
             return Err(StripStreamFault::NoPlan);

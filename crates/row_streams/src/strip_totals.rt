@@ -4,6 +4,7 @@
 ghost use Rattle.std.specs.Prelude.{◌≡◌, ◌<◌, All, IfOk, IfSome};
 
 use crate::row_steps::RowStreamSteps;
+use crate::row_strips::RowStrips;
 use crate::strip_streams::StripStreamFault;
 use job::Job;
 use rayon::prelude::*;
@@ -16,14 +17,12 @@ use std::thread::Threads;
 struct StripTotalsMaker<'a, 'b> {
     job: &'a Job,
     summed: &'b [usize],
-    // How many rows the accumulators have.
-    height: usize,
-    // How many rows a strip has.
-    len: usize,
+    strips: RowStrips,
 }
 
 /// What the accumulators `summed` have in their bins of their first `height` rows, in strips of `len` rows each but the last, without rows of
-/// a picture. A thread of its own makes each strip. None if no plan is found for one of them.
+/// a picture. A thread of its own makes each strip. None if no plan is found for one of them: if all together would keep more than
+/// 33,554,432 numbers, say.
 ///
 /// # Errors
 ///
@@ -43,8 +42,7 @@ pub fn make_strip_stream_totals<'a>(
     let maker = StripTotalsMaker {
         job,
         summed,
-        height,
-        len,
+        strips: RowStrips::new(height, len),
     };
     match maker.make_totals_of_all_strip_streams(rt, alloc) {
         Ok(strips) => Ok(Some(strips)),
@@ -60,11 +58,10 @@ impl<'a, 'b> StripTotalsMaker<'a, 'b> {
         rt: &(impl Threads + Sync),
         alloc: Global,
     ) -> Result<Vec<RowTotals<'a>>, StripStreamFault>
-        requires { 0 < self.now.len }
         ensures { IfOk result
             (λ strips. All (λ totals. totals.job.now ≡ self.now.job.now) strips.items) }
     {
-        (0..self.height.div_ceil(self.len))
+        (0..self.strips.count_row_strips())
             .into_par_iter()
             .with_min_len(1)
             .map(
@@ -83,10 +80,11 @@ impl<'a, 'b> StripTotalsMaker<'a, 'b> {
     ) -> Result<RowTotals<'a>, StripStreamFault>
         ensures { IfOk result (λ totals. totals.job.now ≡ self.now.job.now) }
     {
-        let first = number.saturating_mul(self.len).min(self.height);
-        let end = first.saturating_add(self.len).min(self.height);
-        let Some(mut steps) = RowStreamSteps::new(alloc, self.job, &[], self.summed, first, end)?
-        else {
+        let first = self.strips.find_row_strip_start(number);
+        let end = self.strips.find_row_strip_end(number);
+        let most = self.strips.find_row_strip_share();
+        let found = RowStreamSteps::new(alloc, self.job, &[], self.summed, first, end, most)?;
+        let Some(mut steps) = found else {
             return Err(StripStreamFault::NoPlan);
         };
         let mut totals = RowTotals::new(alloc, self.job, self.summed, first)?;

@@ -7,6 +7,7 @@ mod header;
 mod lines;
 mod pieces;
 mod result;
+mod strips;
 mod summed;
 mod work;
 

@@ -16,11 +16,12 @@ ghost use Rattle.streamed_results.specs.StreamedBytes.{rows_bytes, streamed_byte
 use crate::header::make_result_header;
 use crate::lines::has_lines_in_streamed_result;
 use crate::pieces::StreamedPieces;
+use crate::strips::make_result_strips;
 use crate::summed::prepare_streamed_result_with_lines;
 use crate::work::count_streamed_result_threads;
 use domains::Area;
 use job::{Job, Output};
-use row_streams::{RowStream, StripStream, make_strip_streams};
+use row_streams::{MOST_NUMBERS, RowStream, StripStream};
 use std::alloc::{AllocError, Global};
 use std::thread::Threads;
 use streams::{Sink, WriteFailed, write_all_bytes};
@@ -110,14 +111,12 @@ impl<'a> StreamedResultRows<'a> {
     {
         let height = area.rows.len() as usize;
         let threads = count_streamed_result_threads(rt, job, Some(output));
-        if threads > 1 {
-            let len = height.div_ceil(threads).max(1);
-            let Some(strips) = make_strip_streams(rt, alloc, job, output, &[], len)? else {
-                return Ok(None);
-            };
+        let strips = make_result_strips(rt, alloc, job, output, &[], height, threads)?;
+        if let Some(strips) = strips {
             return Ok(Some(StreamedResultRows::Strips(strips)));
         }
-        let Some(stream) = RowStream::new(alloc, job, output, &[], 0, height)? else {
+        let stream = RowStream::new(alloc, job, output, &[], 0, height, MOST_NUMBERS)?;
+        let Some(stream) = stream else {
             return Ok(None);
         };
         Ok(Some(StreamedResultRows::Pieces(StreamedPieces::new(alloc, stream)?)))

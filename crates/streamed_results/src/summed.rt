@@ -7,16 +7,21 @@ ghost use Rattle.std.specs.Option.{option_map_or};
 ghost use Rattle.command_jobs.specs.Results.{result_bytes};
 ghost use Rattle.job.specs.Answers.{image};
 ghost use Rattle.job.specs.Kept.{pipeline_in};
+ghost use Rattle.job.specs.Views.{output_view};
+ghost use Rattle.job.specs.WellFormed.{IsOutput};
 ghost use Rattle.netpbm.specs.Spelling.{spelling};
+ghost use Rattle.raw_rows.specs.Rows.{raw_rows};
+ghost use Rattle.row_streams.specs.Strips.{row_count};
 ghost use Rattle.row_streams.specs.StripsMade.{strips_joined};
 ghost use Rattle.streamed_results.specs.StreamedBytes.{streamed_bytes};
 
 use crate::header::make_result_header;
 use crate::lines::make_lines_of_streamed_result;
 use crate::result::{StreamedResult, StreamedResultRows};
+use crate::strips::{make_result_strips, make_totals_of_result_strips};
 use crate::work::count_streamed_result_threads;
-use job::Job;
-use row_streams::{StripStream, make_strip_stream_totals, make_strip_streams};
+use job::{Job, Output};
+use row_streams::{StripStream, make_strip_streams};
 use row_totals::RowTotals;
 use std::alloc::{AllocError, Global};
 use std::thread::Threads;
@@ -83,11 +88,27 @@ fn has_rows_of_streamed_result(job: &Job, stage: usize, height: Option<usize>) -
     }
 }
 
-// How many rows a strip has, if so many rows are made by as many threads as pay off.
-fn count_rows_of_result_strip(height: usize, threads: usize) -> usize
-    ensures { 0 < result }
+// The rows of a picture in strips, as many as pay off and have a plan, or in one.
+fn make_summed_result_strips<'a>(
+    rt: &(impl Threads + Sync),
+    alloc: Global,
+    job: &'a Job,
+    output: &'a Output,
+    summed: &[usize],
+    height: usize,
+) -> Result<Option<Vec<StripStream<'a>>>, AllocError>
+    requires output { IsOutput (pipeline_in job.now) (output_view output.now) }
+    ensures bytes { IfOk result (λ found. IfSome found (λ strips. strips_joined strips.items
+        ≡ raw_rows (pipeline_in job.now) (output_view output.now) 0
+        (row_count (pipeline_in job.now) (output_view output.now)))) }
+    ensures totals { IfOk result (λ found. IfSome found
+        (λ strips. All (λ strip. strip.totals.job.now ≡ job.now) strips.items)) }
 {
-    height.div_ceil(threads.max(1)).max(1)
+    let threads = count_streamed_result_threads(rt, job, Some(output));
+    match make_result_strips(rt, alloc, job, output, summed, height, threads)? {
+        Some(strips) => Ok(Some(strips)),
+        None => make_strip_streams(rt, alloc, job, output, summed, height.max(1)),
+    }
 }
 
 // The picture of a job. What accumulators of its height accumulate is joined to these totals.
@@ -115,9 +136,7 @@ fn make_picture_of_streamed_result<'a>(
     let header = make_result_header(alloc, output.stages().len(), &area, output.max())?;
     let height = area.rows.len() as usize;
     let summed = list_accumulators_of_streamed_result(alloc, job, Some(height))?;
-    let threads = count_streamed_result_threads(rt, job, Some(output));
-    let len = count_rows_of_result_strip(height, threads);
-    let Some(strips) = make_strip_streams(rt, alloc, job, output, &summed, len)? else {
+    let Some(strips) = make_summed_result_strips(rt, alloc, job, output, &summed, height)? else {
         return Ok(None);
     };
     if !join_totals_of_result_strips(&strips, totals) {
@@ -189,9 +208,7 @@ fn add_rows_of_one_height_of_streamed_result(
     };
     let height = domain.rows.len() as usize;
     let summed = list_accumulators_of_streamed_result(alloc, job, Some(height))?;
-    let threads = count_streamed_result_threads(rt, job, None);
-    let len = count_rows_of_result_strip(height, threads);
-    match make_strip_stream_totals(rt, alloc, job, &summed, height, len)? {
+    match make_totals_of_result_strips(rt, alloc, job, &summed, height)? {
         Some(strips) => Ok(join_all_totals_of_result_strips(&strips, totals)),
         None => Ok(false),
     }

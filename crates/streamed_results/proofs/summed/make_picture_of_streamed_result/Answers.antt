@@ -7,8 +7,8 @@ use Rattle.row_streams.specs.StripsMade.{strips_joined}
 use Rattle.streamed_results.proofs.ResultIsStreamed.{picture_is, rows_of_area}
 use Rattle.streamed_results.proofs.summed.make_picture_of_streamed_result.Goals as goal
 
-pub make_strip_streams-requires-clause-output : goal.make_strip_streams-requires-clause-output
-make_strip_streams-requires-clause-output g c κs within =
+pub make_summed_result_strips-requires-clause-output : goal.make_summed_result_strips-requires-clause-output
+make_summed_result_strips-requires-clause-output g c κs within =
     c.args.job.now.well.output (output_view c.in-Some.output) (sym c.output.ensures ∙ ap (option_map output_view) c.in-Some.is)
 
 pub returns-clause-picture : goal.returns-clause-picture

@@ -18,7 +18,7 @@ width_found None area is = cc
 width_found (Some s) area is = ap (λ (a : Area). len_of a.cols) (sym (same_Some s.domain area is))
 
 pub invariant_of-result-clause-planes : goal.invariant_of-result-clause-planes
-invariant_of-result-clause-planes c = (rw c.in-Some-2.is at c.in_ok-steps.ensures.outputs) ∙ c.stages.ensures
+invariant_of-result-clause-planes c = (rw c.in-Some-2.is at c.in_ok-steps.ensures.outputs) ∙ c.stages-outputs.ensures
 
 pub invariant_of-result-clause-wide : goal.invariant_of-result-clause-wide
 invariant_of-result-clause-wide c =
@@ -29,5 +29,5 @@ invariant_of-result-clause-wide c =
     ∙ width_found (slice_get job.stages c.first_stage.result) c.in-Some.area (sym c.domain.ensures ∙ c.in-Some.is)
     ∙ ap (Answers.width_of job) c.first_stage.ensures in
     let same : c.in-Some-2.steps.job.now ≡ c.args.job.now = rw c.in-Some-2.is at c.in_ok-steps.ensures.job in
-    c.count_raw_row_bytes-row_len.ensures ∙ (λ i. width_of (c.max.ensures i) * (length (c.stages-2.ensures i) * cols i))
+    c.count_raw_row_bytes-row_len.ensures ∙ (λ i. width_of (c.max.ensures i) * (length (c.stages.ensures i) * cols i))
     ∙ ap (λ kept. bytes_per_row (pipeline_in kept) o) (sym same)

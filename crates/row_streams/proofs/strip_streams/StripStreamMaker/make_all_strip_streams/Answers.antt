@@ -28,13 +28,13 @@ returns-clause-bytes g c =
     let job = pipeline_in self.job.now in
     let o = output_view self.output.now in
     let made = c.in_ok-collect.ensures.1 in
-    let count = c.div_ceil.ensures ∙ ap (λ n. div_ceil n self.len) self.high in
+    let count = c.count_row_strips.ensures ∙ ap (λ n. div_ceil n self.strips.len) self.high in
     let places = rw (c.map.ensures.base, c.with_min_len.ensures.base, ends.0, ends.1, count) at made.1 in
-    collected_bytes (λ (strip : StripStream). strip.bytes.items) (strip_bytes job o self.len) _ (div_ceil (row_count job o) self.len)
+    collected_bytes (λ (strip : StripStream). strip.bytes.items) (strip_bytes job o self.strips.len) _ (div_ceil (row_count job o) self.strips.len)
     (raw_rows job o 0 (row_count job o)) c.in_ok-collect.ensures.0 c.in_ok-collect.field-0
     (λ number strip it. it.bytes
-    ∙ ap (λ held. strip_bytes (pipeline_in held.0.now.job.now) (output_view held.0.now.output.now) held.0.now.len number) c.map.ensures.f)
-    (strips_are_rows job o self.len c.requires) made.0 places made.2 c.in_ok-collect.ensures.2
+    ∙ ap (λ held. strip_bytes (pipeline_in held.0.now.job.now) (output_view held.0.now.output.now) held.0.now.strips.len number) c.map.ensures.f)
+    (strips_are_rows job o self.strips.len c.requires) made.0 places made.2 c.in_ok-collect.ensures.2
 
 pub returns-clause-totals : goal.returns-clause-totals
 returns-clause-totals g c =

@@ -15,9 +15,12 @@ returns c =
     let long : length out ≡ c.in_ok-bytes.bytes.len = omega (arith, c.encode_next_streamed_rows_with_totals.auto.out, c.deref_mut.ensures.len) in
     let job : stream.steps.job.now ≡ self.job.now = search rules in
     let output : stream.output.now ≡ self.output.now = search rules in
-    let first : c.min-first.result ≡ strip_start height self.len c.args.number = search rules in
-    let end : c.min-end.result ≡ strip_end height self.len c.args.number = search rules in
-    let row : stream.steps.row ≡ c.min-first.result = search rules in
+    let len = self.strips.len in
+    let first : c.find_row_strip_start-first.result ≡ strip_start height len c.args.number =
+    c.find_row_strip_start-first.ensures ∙ ap (λ n. strip_start n len c.args.number) self.high in
+    let end : c.find_row_strip_end-end.result ≡ strip_end height len c.args.number =
+    c.find_row_strip_end-end.ensures ∙ ap (λ n. strip_end n len c.args.number) self.high in
+    let row : stream.steps.row ≡ c.find_row_strip_start-first.result = search rules in
     let bytes =
     ap (λ n. take n (out ++ drop (length out) c.in_ok-bytes.bytes.items)) (sym long)
     ∙ take-append_seam out (drop (length out) c.in_ok-bytes.bytes.items)
