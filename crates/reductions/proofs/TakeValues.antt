@@ -1,13 +1,13 @@
 -- Bins that take in values: one, a row of them, and rows of points.
 use Rattle.std.proofs.Common.{arith, get_or-set_other, inl, inr, get_or-set_same, ℕ, zero, suc, ◌≡◌, ◌-◌, ◌<◌, ℤ, pos, ◌+ℤ◌, Bool}
 use Rattle.std.proofs.Common.{true, false, cond, List, [], ◌∷◌, ◌++◌, drop, length, ap, sym, ◌∙◌, refl, replicate}
-use Rattle.std.specs.Prelude.{◌⊎◌, slice_set, map, filter, zip}
+use Rattle.std.specs.Prelude.{◌⊎◌, slice_index, slice_set, map, filter, zip}
 use Rattle.std.specs.Ordering.{int_eq}
 use Rattle.std.proofs.Math.IntN.{+ℤ_idr}
 use Rattle.std.proofs.lemmas.Bool.{false_from_ne_true, cases_eq}
 use Rattle.std.proofs.lemmas.Bool.Decides.{Decides-int_eq}
 use Rattle.std.proofs.lemmas.Int.{ints}
-use Rattle.std.proofs.lemmas.List.{length-map, map-append}
+use Rattle.std.proofs.lemmas.List.{length-map, get_or-map, map-append}
 use Rattle.std.proofs.lemmas.List.Sums.{fold-append}
 use Rattle.std.proofs.lemmas.List.Elements.{filter-append}
 use Rattle.domains.specs.Pairs.{pairs}
@@ -34,6 +34,12 @@ row_is g b (suc n) [] len each = absurd (omega arith)
 row_is g b (suc n) (x ∷ xs) len each =
     ap (λ (z : ℤ). z ∷ xs) (each 0 (omega arith) ∙ ap g (+ℤ_idr b))
     ∙ ap (λ (zs : List ℤ). g b ∷ zs) (row_is g (b +ℤ pos 1) n xs (omega arith) (λ k h. each (suc k) (omega arith) ∙ ap g (sym (next b k))))
+
+-- and so a row of bytes
+pub bytes_is : (g : ℤ → ℤ) (b : ℤ) (n : ℕ) (bytes : List ℕ) → length bytes ≡ n
+    → EachPlace n (λ k. pos (slice_index bytes k) ≡ g (b +ℤ pos k)) → map pos bytes ≡ map g (numbers_from b n)
+bytes_is g b n bytes len each =
+    row_is g b n (map pos bytes) (length-map bytes pos ∙ len) (λ k h. get_or-map pos bytes k 0 (pos 0) (omega (arith, h, len)) ∙ each k h)
 
 pub at_number : (g : ℤ → ℤ) (b : ℤ) (n k : ℕ) → k < n → at (map g (numbers_from b n)) k ≡ g (b +ℤ pos k)
 at_number g b zero k h = absurd (omega arith)

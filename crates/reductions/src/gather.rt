@@ -1,9 +1,9 @@
 #![tactic(auto)]
 //! What an accumulator accumulates over an area, from any source of the samples that are read.
 
-ghost use Rattle.std.specs.Prelude.{◌≡◌, ◌<◌, ◌+ℤ◌, ◌≤ℤ◌, ℤ, pos, length, replicate, IfOk};
+ghost use Rattle.std.specs.Prelude.{◌≡◌, ◌<◌, ◌≤◌, ◌+◌, ◌+ℤ◌, ◌≤ℤ◌, ℤ, pos, length, replicate, IfOk};
 ghost use Rattle.domains.specs.Area.{HoldsPoint, points_of};
-ghost use Rattle.domains.specs.Span.{len_of};
+ghost use Rattle.domains.specs.Span.{len_of, numbers_from};
 ghost use Rattle.job.specs.Pipeline.{accumulator as accumulator_by};
 ghost use Rattle.job.specs.Totals.{body_totals};
 ghost use Rattle.job.specs.Views.{formula_view};
@@ -12,7 +12,7 @@ ghost use Rattle.tile_eval.specs.Reading.{HasRoom, ReadsWithin};
 ghost use Rattle.tile_eval.specs.Rows.{EachPlace, at};
 ghost use Rattle.reductions.specs.Accumulating.{HasFormulas, ReadsAt, HasRoomAlong, TookPoints};
 ghost use Rattle.operators.specs.declared.operator.ReductionOp.TheVariants.{Sum};
-ghost use Rattle.reductions.specs.inside.Gathering.{after_values, bins_along, points_along, values_of_bin};
+ghost use Rattle.reductions.specs.inside.Gathering.{after_values, points_along, values_along, values_of_bin};
 
 use crate::bin_starts::create_start_bins;
 use crate::bins::{accumulate_row_of_values_in_bins, add_number_to_bin_of_each_point};
@@ -43,7 +43,7 @@ fn add_number_to_bin_of_each_point_of_row<S: RowSource>(
     requires room { HasRoom (formula_view bin.now) (length bins_of.old) (length temps.old) }
     ensures { EachPlace (length bins.old) (λ j. at bins.new j
         ≡ after_values Sum (at bins.old j) (values_of_bin (replicate (length bins_of.old) number)
-        (bins_along (S.samples row.now.source.now) (formula_view bin.now) row.now.points.row
+        (values_along (S.samples row.now.source.now) (formula_view bin.now) row.now.points.row
         row.now.points.col (length bins_of.old)) (lo +ℤ pos j))) }
 {
     if is_each_byte_place_of_its_bin(lo, bins.len()) {
@@ -53,6 +53,70 @@ fn add_number_to_bin_of_each_point_of_row<S: RowSource>(
     }
     let each = borrow_or_evaluate_row(row.source, &row.points, bin, bins_of, temps);
     add_number_to_bin_of_each_point(lo, bins, number, each);
+}
+
+// Accumulates the values of a row of points in the bins from a place on, each in the bin after that of the one before.
+fn accumulate_point_row_in_adjacent_bins<S: RowSource>(
+    row: &SourceRow<'_, S>,
+    accumulator: &Accumulator,
+    bins: &mut [i64],
+    place: usize,
+    values: &mut [i32],
+    temps: &mut [i32],
+)
+    requires bins { place + length values.old ≤ length bins.old }
+    requires fits { length values.old ≡ row.now.points.len }
+    requires formula { IsFormula (formula_view accumulator.now.value) }
+    requires reads { ReadsWithin (S.has row.now.source.now) (formula_view accumulator.now.value)
+        row.now.points.row row.now.points.col (length values.old) }
+    requires room { HasRoom (formula_view accumulator.now.value) (length values.old)
+        (length temps.old) }
+    ensures { (lo : ℤ) → EachPlace (length bins.old) (λ j. at bins.new j
+        ≡ after_values accumulator.now.fold (at bins.old j) (values_of_bin
+        (values_along (S.samples row.now.source.now) (formula_view accumulator.now.value)
+        row.now.points.row row.now.points.col (length values.old))
+        (numbers_from (lo +ℤ pos place) (length values.old)) (lo +ℤ pos j))) }
+{
+    let (op, value) = (accumulator.fold(), accumulator.value());
+    match row.borrow_bytes_of_read_along_row(value) {
+        Some(bytes) => accumulate_values_in_adjacent_bins(op, bins, place, bytes),
+        None => {
+            let line = borrow_or_evaluate_row(row.source, &row.points, value, values, temps);
+            accumulate_values_in_adjacent_bins(op, bins, place, line);
+        }
+    }
+}
+
+// Accumulates the values of a row of points in one bin, if it is one of the bins.
+fn accumulate_point_row_in_one_bin<S: RowSource>(
+    row: &SourceRow<'_, S>,
+    accumulator: &Accumulator,
+    bins: &mut [i64],
+    bin: i32,
+    values: &mut [i32],
+    temps: &mut [i32],
+)
+    requires fits { length values.old ≡ row.now.points.len }
+    requires formula { IsFormula (formula_view accumulator.now.value) }
+    requires reads { ReadsWithin (S.has row.now.source.now) (formula_view accumulator.now.value)
+        row.now.points.row row.now.points.col (length values.old) }
+    requires room { HasRoom (formula_view accumulator.now.value) (length values.old)
+        (length temps.old) }
+    ensures { EachPlace (length bins.old) (λ j. at bins.new j
+        ≡ after_values accumulator.now.fold (at bins.old j) (values_of_bin
+        (values_along (S.samples row.now.source.now) (formula_view accumulator.now.value)
+        row.now.points.row row.now.points.col (length values.old))
+        (replicate (length values.old) bin) (accumulator.now.bins.lo +ℤ pos j))) }
+{
+    let (op, value) = (accumulator.fold(), accumulator.value());
+    let lo = accumulator.bins().lo();
+    match row.borrow_bytes_of_read_along_row(value) {
+        Some(bytes) => accumulate_values_in_one_bin(op, lo, bins, bytes, bin),
+        None => {
+            let line = borrow_or_evaluate_row(row.source, &row.points, value, values, temps);
+            accumulate_values_in_one_bin(op, lo, bins, line, bin);
+        }
+    }
 }
 
 // Accumulates a row of points in the bins.
@@ -79,12 +143,10 @@ fn accumulate_point_row_in_bins<S: RowSource>(
     let (value, bin) = (accumulator.value(), accumulator.bin());
     let (op, lo) = (accumulator.fold(), accumulator.bins().lo());
     if let Some(place) = find_adjacent_bins_place(bin, points, accumulator.bins()) {
-        let line = borrow_or_evaluate_row(source, points, value, values, temps);
-        return accumulate_values_in_adjacent_bins(op, bins, place, line);
+        return accumulate_point_row_in_adjacent_bins(row, accumulator, bins, place, values, temps);
     }
     if let Some(one) = find_constant_along_row(bin, points) {
-        let line = borrow_or_evaluate_row(source, points, value, values, temps);
-        return accumulate_values_in_one_bin(op, lo, bins, line, one);
+        return accumulate_point_row_in_one_bin(row, accumulator, bins, one, values, temps);
     }
     if let (ReductionOp::Sum, Some(number)) = (op, find_constant_along_row(value, points)) {
         return add_number_to_bin_of_each_point_of_row(row, bin, lo, bins, number, bins_of, temps);

@@ -4,6 +4,7 @@
 #![tactic(auto)]
 
 mod bin_starts;
+mod bin_values;
 mod bins;
 mod byte_bins;
 mod gather;

@@ -32,9 +32,9 @@ values_among value bin points b = map (λ p. value p.0 p.1) (filter (λ p. int_e
 abbrev pub points_along : ℤ → ℤ → ℕ → List (ℤ × ℤ)
 points_along r c n = map (λ v. (r, v)) (numbers_from c n)
 
--- the bins of n points of row r, from column c on, where env has the values of the stages
-abbrev pub bins_along : Valuation → Formula → ℤ → ℤ → ℕ → List ℤ
-bins_along env bin r c n = map (formula_value env bin r) (numbers_from c n)
+-- the values of a formula at n points of row r, from column c on, where env has the values of the stages
+abbrev pub values_along : Valuation → Formula → ℤ → ℤ → ℕ → List ℤ
+values_along env f r c n = map (formula_value env f r) (numbers_from c n)
 
 -- each bin, from lo on, accumulated its values at these points
 abbrev pub TookIn : ReductionOp → (ℤ → ℤ → ℤ) → (ℤ → ℤ → ℤ) → ℤ → List (ℤ × ℤ) → List ℤ → List ℤ → Type 0

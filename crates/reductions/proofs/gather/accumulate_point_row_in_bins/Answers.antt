@@ -11,7 +11,7 @@ use Rattle.job.specs.WellFormed.{IsFormula}
 use Rattle.tile_eval.specs.Reading.{ReadsWithin}
 use Rattle.tile_eval.specs.Rows.{EachPlace, at}
 use Rattle.tile_eval.proofs.Gathering.{reads_along}
-use Rattle.reductions.specs.inside.Gathering.{after_values, bins_along, values_of_bin}
+use Rattle.reductions.specs.inside.Gathering.{after_values, values_along, values_of_bin}
 use Rattle.reductions.proofs.TakeValues.{row_is, row_took, counted_is, same_is}
 use Rattle.reductions.proofs.gather.accumulate_point_row_in_bins.Goals as goal
 
@@ -23,20 +23,18 @@ found_reads has r x n own found is some formula reads =
     subst (λ (f : KeptFormula). ReadsWithin has (formula_view f) r x n) (sym is)
     (reads_along has r x n (formula_view own) some formula reads)
 
+pub accumulate_point_row_in_adjacent_bins-requires-clause-reads : goal.accumulate_point_row_in_adjacent_bins-requires-clause-reads
+accumulate_point_row_in_adjacent_bins-requires-clause-reads g c =
+    reads_along (g.S.RowSource.has c.args.row.now.source.now) c.args.row.now.points.row c.args.row.now.points.col (length c.args.values.now)
+    (formula_view c.args.accumulator.now.value) c.requires.some c.requires.formulas.value (λ k l. (c.requires.reads k l).0)
+
+pub accumulate_point_row_in_one_bin-requires-clause-reads : goal.accumulate_point_row_in_one_bin-requires-clause-reads
+accumulate_point_row_in_one_bin-requires-clause-reads g c =
+    reads_along (g.S.RowSource.has c.args.row.now.source.now) c.args.row.now.points.row c.args.row.now.points.col (length c.args.values.now)
+    (formula_view c.args.accumulator.now.value) c.requires.some c.requires.formulas.value (λ k l. (c.requires.reads k l).0)
+
 pub borrow_or_evaluate_row-line-requires-clause-reads : goal.borrow_or_evaluate_row-line-requires-clause-reads
 borrow_or_evaluate_row-line-requires-clause-reads g c =
-    found_reads (g.S.RowSource.has c.args.row.now.source.now) c.args.row.now.points.row c.args.row.now.points.col (length c.args.values.now)
-    c.args.accumulator.now.value c.value-value.result.now c.value-value.ensures c.requires.some c.requires.formulas.value
-    (λ k l. (c.requires.reads k l).0)
-
-pub borrow_or_evaluate_row-line-requires-in-Some-find_constant_along_row-clause-reads : goal.borrow_or_evaluate_row-line-requires-in-Some-find_constant_along_row-clause-reads
-borrow_or_evaluate_row-line-requires-in-Some-find_constant_along_row-clause-reads g c =
-    found_reads (g.S.RowSource.has c.args.row.now.source.now) c.args.row.now.points.row c.args.row.now.points.col (length c.args.values.now)
-    c.args.accumulator.now.value c.value-value.result.now c.value-value.ensures c.requires.some c.requires.formulas.value
-    (λ k l. (c.requires.reads k l).0)
-
-pub borrow_or_evaluate_row-line-requires-2-clause-reads : goal.borrow_or_evaluate_row-line-requires-2-clause-reads
-borrow_or_evaluate_row-line-requires-2-clause-reads g c =
     found_reads (g.S.RowSource.has c.args.row.now.source.now) c.args.row.now.points.row c.args.row.now.points.col (length c.args.values.now)
     c.args.accumulator.now.value c.value-value.result.now c.value-value.ensures c.requires.some c.requires.formulas.value
     (λ k l. (c.requires.reads k l).0)
@@ -66,22 +64,14 @@ returns-in-Some g c =
     let n : ℕ = length c.args.values.now in
     let value : ℤ → ℤ → ℤ = formula_value env (formula_view a.value) in
     let bin : ℤ → ℤ → ℤ = formula_value env (formula_view a.bin) in
-    let vs : List ℤ = c.borrow_or_evaluate_row-line.result.now in
-    let values : vs ≡ map (value r) (numbers_from x n) =
-    row_is (value r) x n vs c.borrow_or_evaluate_row-line.ensures.count
-    (λ k l. c.borrow_or_evaluate_row-line.ensures.values k l
-    ∙ ap (λ (f : KeptFormula). formula_value env (formula_view f) r (x +ℤ pos k)) c.value-value.ensures) in
     let first : ℤ = a.bins.lo +ℤ pos c.in-Some.place in
-    let cs : List ℤ = numbers_from first (length vs) in
     let there : EachPlace n (λ k. bin r (x +ℤ pos k) ≡ first +ℤ pos k) = λ k l.
     ap (λ (f : KeptFormula). formula_value env (formula_view f) r (x +ℤ pos k)) (sym c.bin-bin.ensures)
     ∙ c.in-Some.ensures.values env k (omega (arith, l, c.requires.fits))
     ∙ (λ i. (c.bins-2.ensures i).lo +ℤ pos c.in-Some.place +ℤ pos k) in
-    let bins : cs ≡ map (bin r) (numbers_from x n) = ap (numbers_from first) c.borrow_or_evaluate_row-line.ensures.count
-    ∙ counted_is (bin r) x first n there in
-    row_took a.fold value bin a.bins.lo r x n vs cs c.args.bins.now c.accumulate_values_in_adjacent_bins.new.bins values bins
-    (λ j h. c.accumulate_values_in_adjacent_bins.ensures a.bins.lo j h
-    ∙ (λ i. after_values (c.fold-op.ensures i) (at c.args.bins.now j) (values_of_bin vs cs (a.bins.lo +ℤ pos j))))
+    row_took a.fold value bin a.bins.lo r x n (values_along env (formula_view a.value) r x n) (numbers_from first n) c.args.bins.now
+    c.accumulate_point_row_in_adjacent_bins.new.bins refl (counted_is (bin r) x first n there)
+    (c.accumulate_point_row_in_adjacent_bins.ensures a.bins.lo)
 
 pub returns-in-Some-find_constant_along_row : goal.returns-in-Some-find_constant_along_row
 returns-in-Some-find_constant_along_row g c =
@@ -92,25 +82,14 @@ returns-in-Some-find_constant_along_row g c =
     let n : ℕ = length c.args.values.now in
     let value : ℤ → ℤ → ℤ = formula_value env (formula_view a.value) in
     let bin : ℤ → ℤ → ℤ = formula_value env (formula_view a.bin) in
-    let lo_fits : FitsSigned w32 c.lo-lo.result = search rules in
-    let lo : to_z w32 (of_z w32 c.lo-lo.result) ≡ a.bins.lo = to_z-of_z w32 c.lo-lo.result lo_fits ∙ c.lo-lo.ensures.end
-    ∙ (λ i. (c.bins.ensures i).lo) in
-    let vs : List ℤ = c.borrow_or_evaluate_row-line-in-Some-find_constant_along_row.result.now in
-    let values : vs ≡ map (value r) (numbers_from x n) =
-    row_is (value r) x n vs c.borrow_or_evaluate_row-line-in-Some-find_constant_along_row.ensures.count
-    (λ k l. c.borrow_or_evaluate_row-line-in-Some-find_constant_along_row.ensures.values k l
-    ∙ ap (λ (f : KeptFormula). formula_value env (formula_view f) r (x +ℤ pos k)) c.value-value.ensures) in
     let one : ℤ = c.in-Some-find_constant_along_row.one in
     let one_fits : FitsSigned w32 one = search rules in
     let same : (z : ℤ) → bin r z ≡ one = λ z.
     ap (λ (f : KeptFormula). formula_value env (formula_view f) r z) (sym c.bin-bin.ensures) ∙ c.in-Some-find_constant_along_row.ensures env z in
-    let cs : List ℤ = replicate (length vs) one in
-    let bins : cs ≡ map (bin r) (numbers_from x n) =
-    (λ i. replicate (c.borrow_or_evaluate_row-line-in-Some-find_constant_along_row.ensures.count i) one) ∙ same_is (bin r) x one n same in
-    row_took a.fold value bin a.bins.lo r x n vs cs c.args.bins.now c.accumulate_values_in_one_bin.new.bins values bins
-    (λ j h. c.accumulate_values_in_one_bin.ensures j h
-    ∙ (λ i. after_values (c.fold-op.ensures i) (at c.args.bins.now j)
-    (values_of_bin vs (replicate (length vs) (to_z-of_z w32 one one_fits i)) (lo i +ℤ pos j))))
+    let vs : List ℤ = values_along env (formula_view a.value) r x n in
+    row_took a.fold value bin a.bins.lo r x n vs (replicate n one) c.args.bins.now c.accumulate_point_row_in_one_bin.new.bins refl
+    (same_is (bin r) x one n same) (λ j h. c.accumulate_point_row_in_one_bin.ensures j h
+    ∙ (λ i. after_values a.fold (at c.args.bins.now j) (values_of_bin vs (replicate n (to_z-of_z w32 one one_fits i)) (a.bins.lo +ℤ pos j))))
 
 pub returns-in-Sum-Some : goal.returns-in-Sum-Some
 returns-in-Sum-Some g c =
@@ -129,12 +108,12 @@ returns-in-Sum-Some g c =
     let same : (z : ℤ) → value r z ≡ number = λ z.
     ap (λ (f : KeptFormula). formula_value env (formula_view f) r z) (sym c.value-value.ensures) ∙ c.in-Sum-Some.ensures env z in
     let sum : Sum ≡ a.fold = sym c.in-Sum-Some.is-0 ∙ c.fold-op.ensures in
-    row_took a.fold value bin a.bins.lo r x n (replicate n number) (bins_along env (formula_view a.bin) r x n) c.args.bins.now
+    row_took a.fold value bin a.bins.lo r x n (replicate n number) (values_along env (formula_view a.bin) r x n) c.args.bins.now
     c.add_number_to_bin_of_each_point_of_row.new.bins (same_is (value r) x number n same) refl
     (λ j h. c.add_number_to_bin_of_each_point_of_row.ensures j h
     ∙ (λ i. after_values (sum i) (at c.args.bins.now j)
     (values_of_bin (replicate (c.requires.one_length i) (to_z-of_z w32 number number_fits i))
-    (bins_along env (formula_view (c.bin-bin.ensures i)) r x (c.requires.one_length i)) (lo i +ℤ pos j))))
+    (values_along env (formula_view (c.bin-bin.ensures i)) r x (c.requires.one_length i)) (lo i +ℤ pos j))))
 
 pub returns : goal.returns
 returns g c =
@@ -148,10 +127,10 @@ returns g c =
     let lo_fits : FitsSigned w32 c.lo-lo.result = search rules in
     let lo : to_z w32 (of_z w32 c.lo-lo.result) ≡ a.bins.lo = to_z-of_z w32 c.lo-lo.result lo_fits ∙ c.lo-lo.ensures.end
     ∙ (λ i. (c.bins.ensures i).lo) in
-    let vs : List ℤ = c.borrow_or_evaluate_row-line-2.result.now in
+    let vs : List ℤ = c.borrow_or_evaluate_row-line.result.now in
     let values : vs ≡ map (value r) (numbers_from x n) =
-    row_is (value r) x n vs c.borrow_or_evaluate_row-line-2.ensures.count
-    (λ k l. c.borrow_or_evaluate_row-line-2.ensures.values k l
+    row_is (value r) x n vs c.borrow_or_evaluate_row-line.ensures.count
+    (λ k l. c.borrow_or_evaluate_row-line.ensures.values k l
     ∙ ap (λ (f : KeptFormula). formula_value env (formula_view f) r (x +ℤ pos k)) c.value-value.ensures) in
     let cs : List ℤ = c.borrow_or_evaluate_row-each.result.now in
     let bins : cs ≡ map (bin r) (numbers_from x n) =

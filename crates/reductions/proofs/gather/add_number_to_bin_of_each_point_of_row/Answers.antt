@@ -1,13 +1,12 @@
 use Rattle.std.proofs.Common.{rules, arith, ℕ, ℤ, ◌≡◌, ◌+ℤ◌, pos, length, replicate, List, sym, ◌∙◌, w32, FitsSigned}
 use Rattle.std.specs.Prelude.{map}
 use Rattle.std.proofs.lemmas.Int.{to_z-of_z}
-use Rattle.std.proofs.lemmas.List.{length-map, get_or-map}
 use Rattle.operators.specs.declared.operator.ReductionOp.TheVariants.{Sum}
 use Rattle.job.specs.Values.{formula_value}
 use Rattle.job.specs.Views.{formula_view}
 use Rattle.tile_eval.specs.Rows.{at}
-use Rattle.reductions.specs.inside.Gathering.{after_values, bins_along, values_of_bin}
-use Rattle.reductions.proofs.TakeValues.{row_is}
+use Rattle.reductions.specs.inside.Gathering.{after_values, values_along, values_of_bin}
+use Rattle.reductions.proofs.TakeValues.{row_is, bytes_is}
 use Rattle.reductions.proofs.gather.add_number_to_bin_of_each_point_of_row.Goals as goal
 
 pub returns-in-Some : goal.returns-in-Some
@@ -18,10 +17,9 @@ returns-in-Some g c = λ j h.
     let x : ℤ = c.args.row.now.points.col in
     let n : ℕ = length c.args.bins_of.now in
     let bytes = c.in-Some.bytes.now in
-    let cs : List ℤ = map pos bytes in
     let count : length bytes ≡ n = c.in-Some.ensures.0 ∙ sym c.requires.fits in
-    let bins : cs ≡ bins_along env bin r x n = row_is (formula_value env bin r) x n cs (length-map bytes pos ∙ count) (λ k l.
-    get_or-map pos bytes k 0 (pos 0) (omega (arith, l, count)) ∙ c.in-Some.ensures.1 k (omega (arith, l, c.requires.fits))) in
+    let bins : map pos bytes ≡ values_along env bin r x n = bytes_is (formula_value env bin r) x n bytes count (λ k l.
+    c.in-Some.ensures.1 k (omega (arith, l, c.requires.fits))) in
     let number_fits : FitsSigned w32 c.args.number = search rules in
     let lo_fits : FitsSigned w32 c.args.lo = search rules in
     let first : pos 0 ≡ c.args.lo = sym (sym (to_z-of_z w32 c.args.lo lo_fits) ∙ c.is_each_byte_place_of_its_bin.ensures.first (search rules)) in
@@ -37,7 +35,7 @@ returns g c = λ j h.
     let x : ℤ = c.args.row.now.points.col in
     let n : ℕ = length c.args.bins_of.now in
     let cs : List ℤ = c.borrow_or_evaluate_row-each.result.now in
-    let bins : cs ≡ bins_along env bin r x n = row_is (formula_value env bin r) x n cs c.borrow_or_evaluate_row-each.ensures.count
+    let bins : cs ≡ values_along env bin r x n = row_is (formula_value env bin r) x n cs c.borrow_or_evaluate_row-each.ensures.count
     c.borrow_or_evaluate_row-each.ensures.values in
     let number_fits : FitsSigned w32 c.args.number = search rules in
     let lo_fits : FitsSigned w32 c.args.lo = search rules in
