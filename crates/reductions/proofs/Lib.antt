@@ -1,5 +1,6 @@
 pub mod TotalsInAnyOrder
 pub mod TakeValues
+pub mod TwoTables
 pub mod JoinInto
 pub mod KnownBins
 pub mod GatherOnto

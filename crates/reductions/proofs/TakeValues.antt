@@ -65,10 +65,10 @@ pub came_one : (way : ReductionOp) (here : Bool) (total v : ℤ) (vs : List ℤ)
 came_one way true total v vs = refl
 came_one way false total v vs = refl
 
-not_here : (b c : ℤ) → (c ≡ b → ⊥) → int_eq c b ≡ false
+pub not_here : (b c : ℤ) → (c ≡ b → ⊥) → int_eq c b ≡ false
 not_here b c ne = false_from_ne_true (int_eq c b) (λ e. ne ((Decides-int_eq c b).0 e))
 
-other_place : (b : ℤ) (j k : ℕ) → (j ≡ k → ⊥) → b +ℤ pos k ≡ b +ℤ pos j → ⊥
+pub other_place : (b : ℤ) (j k : ℕ) → (j ≡ k → ⊥) → b +ℤ pos k ≡ b +ℤ pos j → ⊥
 other_place b j k ne e = ne (omega (arith, ints, e))
 
 -- numbers of which one is set to what f makes of it, where f leaves the others

@@ -3,7 +3,7 @@ use Rattle.std.specs.Prelude.{map}
 use Rattle.operators.specs.declared.operator.ReductionOp.TheVariants.{Sum}
 use Rattle.tile_eval.specs.Rows.{EachPlace, at}
 use Rattle.reductions.specs.inside.Gathering.{after_values, values_of_bin}
-use Rattle.reductions.proofs.byte_bins.add_number_to_bin_of_each_byte.Given as goal
+use Rattle.reductions.proofs.byte_bins.add_number_to_bin_of_each_byte_in_turn.Given as goal
 
 -- the bins so far, and the points that are left
 abbrev pub invariant-loop-k : goal.invariant-loop-k
