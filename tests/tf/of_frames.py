@@ -10,7 +10,7 @@ import time
 import unittest
 from typing import Callable
 
-from .shared import COPY, PROGRAM, TOP, InRoom, most_at_a_time
+from .shared import COPY, PROGRAM, TOP, InRoom, most_at_a_time, until_begun
 
 from _tf import frame_files, frames, png
 from _tf.netpbm import Picture
@@ -159,8 +159,8 @@ class Frames(InRoom):
         self.assertEqual(most_at_a_time(noted), 2)
 
     def test_as_many_frames_are_done_at_a_time_as_jobs_says(self):
-        env = self.noting("sleep 0.02")
         for words, jobs in (("", 1), ("--jobs 3", 3)):
+            env = self.noting(until_begun(jobs))
             self.assertEqual(self.tf(f"frames p.pipe - {words}", b"".join(self.frames), **env), (0, b"".join(self.results), ""))
             self.assertEqual(most_at_a_time(self.noted()), jobs)
 

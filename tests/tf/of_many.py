@@ -5,7 +5,7 @@ import subprocess
 import sys
 from unittest import mock
 
-from .shared import COPY, GREY, PROGRAM, TOP, InRoom, most_at_a_time
+from .shared import COPY, GREY, PROGRAM, TOP, InRoom, most_at_a_time, until_begun
 
 from _tf import blame_input, hist, many, png
 from _tf.netpbm import Picture
@@ -47,10 +47,10 @@ class ManyPictures(InRoom):
         for number in range(9):
             self.write(f"b{number}.pgm", b"P5 3 1 255 %c%c%c" % (number, number, number))
             self.write(f"b{number}.png", png.write(Picture(3, 1, 1, 255, bytes([number]) * 3))[0])
-        env = self.noting("sleep 0.02")
         for form in ("pgm", "png"):
             names = " ".join(f"b{number}.{form}" for number in range(9))
             for words, jobs in (("", 1), ("--jobs 3", 3)):
+                env = self.noting(until_begun(jobs))
                 self.assertEqual(self.tf(f"eval p.pipe {names} -o out/{{name}}.{form} {words}", **env), (0, b"", ""))
                 self.assertEqual(most_at_a_time(self.noted()), jobs)
         self.assertEqual([self.content(f"out/b{number}.pgm")[-1] for number in range(9)], [*range(9)])

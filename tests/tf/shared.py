@@ -98,6 +98,11 @@ exit $status
         return [(what, int(first)) for what, first in found]
 
 
+def until_begun(count: int) -> str:
+    """Waits until so many programs have begun, for some seconds at most."""
+    return f"tries=0; until [ $(grep -c begins noted) -ge {count} ] || [ $tries = 500 ]; do sleep 0.01; tries=$((tries + 1)); done"
+
+
 def most_at_a_time(noted: list[tuple[str, int]]) -> int:
     """How many programs ran at a time, at most. All of them have ended."""
     now = [0]
