@@ -15,42 +15,31 @@ pub(crate) struct RowStrips {
     height: usize,
     // How many rows a strip has.
     len: usize,
-    // How many strips there are.
-    count: usize,
-    // The most numbers that are kept for each of them.
-    most: u64,
-    ghost counted: { count ≡ div_ceil height len },
-    ghost few: { count * most ≤ most_numbers },
+    ghost some: { 0 < len },
 }
 
 impl RowStrips {
-    /// So many rows in strips of `len` rows each but the last. All strips together keep as many numbers as one strip of all rows.
+    /// So many rows in strips of `len` rows each but the last.
     pub(crate) fn new(height: usize, len: usize) -> RowStrips
         requires { 0 < len }
         ensures height { result.height ≡ height }
         ensures len { result.len ≡ len }
     {
-        let count = height.div_ceil(len);
-        RowStrips {
-            height,
-            len,
-            count,
-            most: MOST_NUMBERS / (count as u64).max(1),
-        }
+        RowStrips { height, len }
     }
 
     /// How many strips there are.
     pub(crate) fn count_row_strips(&self) -> usize
         ensures { result ≡ div_ceil self.now.height self.now.len }
     {
-        self.count
+        self.height.div_ceil(self.len)
     }
 
-    /// The most numbers that are kept for each strip.
+    /// The most numbers that are kept for each strip: all together keep at most as many as one strip of all rows.
     pub(crate) fn find_row_strip_share(&self) -> u64
         ensures { div_ceil self.now.height self.now.len * result ≤ most_numbers }
     {
-        self.most
+        MOST_NUMBERS / (self.count_row_strips() as u64).max(1)
     }
 
     /// The first row of the strip of this number.

@@ -96,7 +96,6 @@ impl<'a, 'b> StripStreamMaker<'a, 'b> {
         rt: &(impl Threads + Sync),
         alloc: Global,
     ) -> Result<Vec<StripStream<'a>>, StripStreamFault>
-        requires { 0 < self.now.strips.len }
         ensures bytes { IfOk result (λ strips. strips_joined strips.items
             ≡ raw_rows (pipeline_in self.now.job.now) (output_view self.now.output.now) 0
             (row_count (pipeline_in self.now.job.now) (output_view self.now.output.now))) }

@@ -34,7 +34,7 @@ returns-clause-bytes g c =
     (raw_rows job o 0 (row_count job o)) c.in_ok-collect.ensures.0 c.in_ok-collect.field-0
     (λ number strip it. it.bytes
     ∙ ap (λ held. strip_bytes (pipeline_in held.0.now.job.now) (output_view held.0.now.output.now) held.0.now.strips.len number) c.map.ensures.f)
-    (strips_are_rows job o self.strips.len c.requires) made.0 places made.2 c.in_ok-collect.ensures.2
+    (strips_are_rows job o self.strips.len self.strips.some) made.0 places made.2 c.in_ok-collect.ensures.2
 
 pub returns-clause-totals : goal.returns-clause-totals
 returns-clause-totals g c =
