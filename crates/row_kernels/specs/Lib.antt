@@ -1,10 +1,6 @@
 pub mod Operands
 pub mod Added
 pub mod Finishes
-pub mod Terms
-pub mod Differences
-pub mod Products
-pub mod Extremes
 pub mod Places
 pub mod Columns
 pub mod RowMask

@@ -1,3 +1,2 @@
 pub mod Stencil
 pub mod Separable
-pub mod inside

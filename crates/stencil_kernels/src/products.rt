@@ -1,11 +1,11 @@
 #![tactic(auto)]
 //! Products of factors and numbers of lines.
 
-ghost use Rattle.std.specs.Prelude.{◌≡◌, ◌<◌, ◌+ℤ◌, ◌-ℤ◌, ◌*ℤ◌, ℤ, length};
+ghost use Rattle.std.specs.Prelude.{◌≡◌, ◌<◌, ◌+ℤ◌, ◌*ℤ◌, ℤ, length};
 ghost use Rattle.domains.specs.Arithmetic.{wrapped};
 ghost use Rattle.row_loops.specs.Rows.{at};
 
-use domains::arithmetic::{wrapping_add, wrapping_mul, wrapping_sub};
+use domains::arithmetic::{wrapping_add, wrapping_mul};
 
 /// A sum plus one more product, wrapped at 32 bits.
 #[inline]
@@ -14,22 +14,4 @@ pub fn add_tap_product(sum: i32, factor: i32, line: &[i32], k: usize) -> i32
     ensures { (s : ℤ) → sum ≡ wrapped s → result ≡ wrapped (s +ℤ factor *ℤ at line.now k) }
 {
     wrapping_add(sum, wrapping_mul(factor, line[k]))
-}
-
-/// A sum plus the product of a factor and the difference of the numbers of two lines, wrapped at 32 bits.
-#[inline]
-pub fn add_tap_product_of_line_difference(
-    sum: i32,
-    factor: i32,
-    from: &[i32],
-    to: &[i32],
-    k: usize,
-) -> i32
-    requires from { k < length from.now }
-    requires to { k < length to.now }
-    ensures { (s : ℤ) → sum ≡ wrapped s
-        → result ≡ wrapped (s +ℤ factor *ℤ (at to.now k -ℤ at from.now k)) }
-{
-    let gap = wrapping_sub(to[k], from[k]);
-    wrapping_add(sum, wrapping_mul(factor, gap))
 }

@@ -9,11 +9,9 @@ ghost use Rattle.stencil_kernels.specs.Stencil.{tap_sum};
 
 use crate::quintuple::FactorQuintuple;
 use crate::stencil::add_tap_sums;
-use crate::stencil3x3::FactorTriple;
 use row_loops::fill_row;
 
-// Writes the sums of the products of the first factors of a line: of five if there are so many, else of three, else of none.
-// Returns how many.
+// Writes the sums of the products of the first five factors of a line, if there are so many; else of none. Returns how many.
 fn write_first_tap_sums_and_count_taps(out: &mut [i32], line: &[i32], factors: &[i32]) -> usize
     requires { length line.now + 1 ≡ length out.old + length factors.now }
     ensures within { result ≤ length factors.now }
@@ -23,10 +21,6 @@ fn write_first_tap_sums_and_count_taps(out: &mut [i32], line: &[i32], factors: &
     if let Some(five) = FactorQuintuple::from_first_factors(factors) {
         five.write_sums(out, line);
         return 5;
-    }
-    if let Some(three) = FactorTriple::from_first_factors(factors) {
-        three.write_sums(out, line);
-        return 3;
     }
     fill_row(out, 0);
     0

@@ -8,7 +8,6 @@ ghost use Rattle.row_loops.specs.Rows.{EachPlace, at};
 ghost use Rattle.stencil_kernels.specs.Stencil.{tap_sum};
 
 use crate::quintuple::FactorQuintuple;
-use crate::stencil3x3::FactorTriple;
 use row_loops::{ScaledRightOperand, Sum, combine_row_in_place};
 
 /// Adds the products of a factor and the samples of a line.
@@ -24,7 +23,7 @@ pub fn add_line_times_factor(out: &mut [i32], line: &[i32], factor: i32)
     }
 }
 
-// Adds the products of the first factors of a line: of five if there are so many, else of three, else of one. Returns how many.
+// Adds the products of the first five factors of a line, if there are so many; else of one. Returns how many.
 fn add_first_tap_sums_and_count_taps(out: &mut [i32], line: &[i32], factors: &[i32]) -> usize
     requires some { 0 < length factors.now }
     requires line { length line.now + 1 ≡ length out.old + length factors.now }
@@ -37,10 +36,6 @@ fn add_first_tap_sums_and_count_taps(out: &mut [i32], line: &[i32], factors: &[i
     if let Some(five) = FactorQuintuple::from_first_factors(factors) {
         five.add_product_sums(out, line);
         return 5;
-    }
-    if let Some(three) = FactorTriple::from_first_factors(factors) {
-        three.add_product_sums(out, line);
-        return 3;
     }
     add_line_times_factor(out, &line[..out.len()], factors[0]);
     1

@@ -9,4 +9,3 @@ pub mod RowByRow
 pub mod NearAreas
 pub mod SpansByParts
 pub mod Separated
-pub mod Exchanging

@@ -1,16 +1,13 @@
 //! Values of jobs, a row of points at a time, from any source of the samples that are read.
 //!
-//! Words: source row, row source, evaluate, along row, capacity, extreme operator, into epilogue, separable stencil, span
-//! number, operand capacity.
+//! Words: source row, row source, evaluate, along row, capacity, into epilogue, separable stencil, span number,
+//! operand capacity.
 #![tactic(auto)]
 
 mod areas;
 mod cases;
-mod differences;
-mod extremes;
 mod finishes;
 mod functions;
-mod products;
 mod reads;
 mod room;
 mod rows;

@@ -8,22 +8,18 @@ ghost use Rattle.job.specs.Views.{formula_view};
 ghost use Rattle.row_kernels.specs.Finishes.{epilogue_value};
 ghost use Rattle.row_kernels.specs.Operands.{operand_at, Serves, IsGiven};
 ghost use Rattle.row_loops.specs.Rows.{EachPlace, at};
-ghost use Rattle.row_kernels.specs.Terms.{addend_at};
 ghost use Rattle.tile_eval.specs.Reading.{ReadsWithin, HasRoom};
 ghost use Rattle.tile_eval.specs.inside.Operators.{IsBinary};
 
-use crate::extremes::{classify_extreme_operator, is_matching_extreme_operator};
 use crate::finishes::{fuse_earlier_operator_into_epilogue, turn_ternary_into_epilogue};
 use crate::source::RowSource;
 use crate::source_row::SourceRow;
 use job::{Axis, Formula};
 use operators::BinaryOp;
 use row_kernels::{
-    Addend, Epilogue, Operand, RowSpan, add_product_to_operand, apply_unary_to_number,
-    combine_with_scaled_operand, keep_row_where_operand_relation_holds,
-    subtract_product_from_operand, write_binary_results_to_row, write_clamped_difference,
-    write_extremes_of_three_operands, write_literal_op_results_to_row, write_operand_with_epilogue,
-    write_product_to_row, write_sum_of_operand_and_two_addends, write_table_lookups_to_row,
+    Epilogue, Operand, RowSpan, apply_unary_to_number, combine_with_scaled_operand,
+    keep_row_where_operand_relation_holds, write_binary_results_to_row,
+    write_literal_op_results_to_row, write_operand_with_epilogue, write_table_lookups_to_row,
     write_ternary_results_to_row, write_unary_results_to_row,
 };
 use row_loops::{fill_row, fill_row_counting_up};
@@ -162,31 +158,6 @@ impl<'a, S: RowSource> SourceRow<'a, S> {
         }
     }
 
-    // A formula as an addend, if nothing is to be computed but a product with a number.
-    fn borrow_available_addend(&self, formula: &Formula) -> Option<Addend<'a>>
-        requires { ReadsWithin (S.has self.now.source.now) (formula_view formula.now)
-            self.now.points.row self.now.points.col self.now.points.len }
-        ensures serves { IfSome result (λ it. Serves self.now.points.len it.of) }
-        ensures given { IfSome result (λ it. IsGiven it.of) }
-        ensures values { IfSome result (λ it. (out : List ℤ)
-            → EachPlace self.now.points.len (λ k. addend_at it out k
-            ≡ formula_value (S.samples self.now.source.now) (formula_view formula.now)
-            self.now.points.row (self.now.points.col +ℤ pos k))) }
-    {
-        if let Formula::Binary(BinaryOp::Mul, factor, of) = formula {
-            if let Some(factor) = find_constant_along_row(factor, &self.points) {
-                return Some(Addend {
-                    factor: Some(factor),
-                    of: self.borrow_available_operand(of)?,
-                });
-            }
-        }
-        Some(Addend {
-            factor: None,
-            of: self.borrow_available_operand(formula)?,
-        })
-    }
-
     /// A formula as an operand, which is computed into the row itself if it is not available.
     #[cycle(evaluate_formula)]
     pub(crate) fn borrow_operand_or_write_it_into_row(
@@ -238,13 +209,6 @@ impl<'a, S: RowSource> SourceRow<'a, S> {
             (formula_value (S.samples self.now.source.now) (formula_view right.now)
             self.now.points.row (self.now.points.col +ℤ pos k)))) }
     {
-        if let Some(product) = self.match_product_of_factors(right) {
-            match op {
-                BinaryOp::Add => return add_product_to_operand(out, left, product, finish),
-                BinaryOp::Sub => return subtract_product_from_operand(out, left, product, finish),
-                _ => {}
-            }
-        }
         if let Formula::Binary(BinaryOp::Mul, a, b) = right {
             if let Some(factor) = find_constant_along_row(a, &self.points) {
                 let (_, temps) = temps.split_at_mut(out.len());
@@ -270,32 +234,7 @@ impl<'a, S: RowSource> SourceRow<'a, S> {
         write_binary_results_to_row(op, out, left, right, finish);
     }
 
-    // The right operand of a product as an operand. Its own operands use `temps` after the first row.
-    #[cycle(evaluate_formula)]
-    fn obtain_operand_sparing_first_buffer_row(
-        &self,
-        formula: &Formula,
-        out: &mut [i32],
-        temps: &mut [i32],
-    ) -> Operand<'a>
-        requires fits { length out.old ≡ self.now.points.len }
-        requires formula { IsFormula (formula_view formula.now) }
-        requires reads { ReadsWithin (S.has self.now.source.now) (formula_view formula.now)
-            self.now.points.row self.now.points.col (length out.old) }
-        requires own { length out.old ≤ length temps.old }
-        requires room { HasRoom (formula_view formula.now) (length out.old)
-            (length temps.old - length out.old) }
-        ensures serves { Serves (length out.old) result }
-        ensures values { EachPlace (length out.old) (λ k. operand_at result out.new k
-            ≡ formula_value (S.samples self.now.source.now) (formula_view formula.now)
-            self.now.points.row (self.now.points.col +ℤ pos k)) }
-    {
-        let (_, rest) = temps.split_at_mut(out.len());
-        self.borrow_operand_or_write_it_into_row(formula, out, rest)
-    }
-
-    // Applies an operator and its epilogue. If the left operand of a sum is a product with a number, or a sum whose right
-    // operand is available, that is done in the pass of the operator before it.
+    // Applies an operator and its epilogue.
     #[cycle(evaluate_formula)]
     fn evaluate_binary_with_epilogue(
         &self,
@@ -317,57 +256,6 @@ impl<'a, S: RowSource> SourceRow<'a, S> {
         let Formula::Binary(op, a, b) = formula else {
             return;
         };
-        if let Some(it) = self.match_clamped_difference(formula) {
-            return write_clamped_difference(out, it, finish);
-        }
-        if let Some(product) = self.match_product_of_factors(formula) {
-            return write_product_to_row(out, product, finish);
-        }
-        if self.try_sum_ending_in_clamped_differences(formula, finish, out, temps) {
-            return;
-        }
-        if let (BinaryOp::Add, Formula::Binary(BinaryOp::Mul, factor, of)) = (*op, &**a) {
-            if let Some(factor) = find_constant_along_row(factor, &self.points) {
-                let left = self.obtain_operand_sparing_first_buffer_row(of, out, temps);
-                let right = borrow_or_evaluate_right_operand(
-                    self.source,
-                    &self.points,
-                    left,
-                    b,
-                    out,
-                    temps,
-                );
-                return combine_with_scaled_operand(BinaryOp::Add, out, right, factor, left, finish);
-            }
-        }
-        if let (BinaryOp::Add, Formula::Binary(BinaryOp::Add, first, second)) = (*op, &**a) {
-            if let (Some(second), Some(third)) = (
-                self.borrow_available_addend(second),
-                self.borrow_available_addend(b),
-            ) {
-                let first = self.borrow_operand_or_write_it_into_row(first, out, temps);
-                return write_sum_of_operand_and_two_addends(out, first, second, third, finish);
-            }
-        }
-        if self.try_extremes_or_medians_of_lines(formula, finish, out) {
-            return;
-        }
-        if let (Some(extreme), Formula::Binary(inner, first, second)) = (
-            classify_extreme_operator(*op),
-            &**a,
-        ) {
-            let others = (
-                self.borrow_available_operand(second),
-                self.borrow_available_operand(b),
-            );
-            if let (true, (Some(second), Some(third))) = (
-                is_matching_extreme_operator(*inner, extreme),
-                others,
-            ) {
-                let first = self.borrow_operand_or_write_it_into_row(first, out, temps);
-                return write_extremes_of_three_operands(extreme, out, first, second, third, finish);
-            }
-        }
         let left = self.borrow_operand_or_write_it_into_row(a, out, temps);
         self.combine_operand_with_right_formula(*op, left, b, finish, out, temps);
     }

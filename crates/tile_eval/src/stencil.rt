@@ -15,10 +15,7 @@ use crate::source_row::SourceRow;
 use job::Kernel;
 use row_kernels::{Operand, write_quotients_by_literal_to_row};
 use row_loops::fill_row;
-use stencil_kernels::{
-    FiveFactorColumnKernel, Kernel3x3, SeparableKernel, ThreeFactorColumnKernel,
-    add_line_times_factor, add_tap_sums, write_tap_sums,
-};
+use stencil_kernels::{SeparableKernel, add_line_times_factor, add_tap_sums, write_tap_sums};
 
 // Along rows of fewer points, splitting a kernel costs more time than it saves.
 const WIDE: usize = 128;
@@ -100,28 +97,6 @@ impl<'a, S: RowSource> SourceRow<'a, S> {
         room
     }
 
-    // Writes what the first row of a kernel gives.
-    fn write_first_kernel_row_sums(
-        &self,
-        stage: usize,
-        kernel: &Kernel,
-        out: &mut [i32],
-        temps: &mut [i32],
-    )
-        requires kernel { IsKernel kernel.now }
-        requires reads { KernelWithin (S.has self.now.source.now stage) kernel.now
-            self.now.points.row self.now.points.col (length out.old) }
-        requires room { length out.old + 14 ≤ length temps.old }
-        ensures { EachPlace (length out.old) (λ k. at out.new k
-            ≡ wrapped (row_sum kernel.now (S.samples self.now.source.now stage) self.now.points.row
-            (self.now.points.col +ℤ pos k) 0)) }
-    {
-        let factors = kernel.as_slice()[0].as_slice();
-        let count = out.len() + factors.len() - 1;
-        let line = self.borrow_or_read_line_under_kernel_row(stage, kernel, 0, &mut temps[..count]);
-        write_tap_sums(out, line, factors);
-    }
-
     // Adds what a row of a kernel gives.
     fn add_kernel_row_sums(
         &self,
@@ -164,117 +139,10 @@ impl<'a, S: RowSource> SourceRow<'a, S> {
             ≡ wrapped (weighted_sum kernel.now (S.samples self.now.source.now stage)
             self.now.points.row (self.now.points.col +ℤ pos k))) }
     {
-        self.write_first_kernel_row_sums(stage, kernel, out, temps);
-        for a in 1..kernel.as_slice().len() {
+        fill_row(out, 0);
+        for a in 0..kernel.as_slice().len() {
             self.add_kernel_row_sums(stage, kernel, a, out, temps);
         }
-    }
-
-    // The sums of a stencil whose kernel has three rows of three factors. Returns false, and writes nothing, if it has not, or if
-    // not all that it reads can be borrowed from the source.
-    fn try_stencil_3x3(&self, stage: usize, kernel: &Kernel, out: &mut [i32]) -> bool
-        requires kernel { IsKernel kernel.now }
-        requires reads { KernelWithin (S.has self.now.source.now stage) kernel.now
-            self.now.points.row self.now.points.col (length out.old) }
-        ensures { IsTrue result
-            → EachPlace (length out.old) (λ k. at out.new k
-            ≡ wrapped (weighted_sum kernel.now (S.samples self.now.source.now stage)
-            self.now.points.row (self.now.points.col +ℤ pos k))) }
-    {
-        let Some(square) = Kernel3x3::from_kernel(kernel) else {
-            return false;
-        };
-        let count = out.len() + 2;
-        let top = self.borrow_line_under_kernel_row(stage, kernel, 0, count);
-        let middle = self.borrow_line_under_kernel_row(stage, kernel, 1, count);
-        let bottom = self.borrow_line_under_kernel_row(stage, kernel, 2, count);
-        match (top, middle, bottom) {
-            (Some(top), Some(middle), Some(bottom)) => {
-                square.write_sums(out, top, middle, bottom);
-                true
-            }
-            _ => false,
-        }
-    }
-
-    // The sums of a stencil whose kernel has three rows of one factor, likewise.
-    fn try_column_stencil_of_three_rows(
-        &self,
-        stage: usize,
-        kernel: &Kernel,
-        out: &mut [i32],
-    ) -> bool
-        requires kernel { IsKernel kernel.now }
-        requires reads { KernelWithin (S.has self.now.source.now stage) kernel.now
-            self.now.points.row self.now.points.col (length out.old) }
-        ensures { IsTrue result
-            → EachPlace (length out.old) (λ k. at out.new k
-            ≡ wrapped (weighted_sum kernel.now (S.samples self.now.source.now stage)
-            self.now.points.row (self.now.points.col +ℤ pos k))) }
-    {
-        let Some(column) = ThreeFactorColumnKernel::from_kernel(kernel) else {
-            return false;
-        };
-        let count = out.len();
-        let top = self.borrow_line_under_kernel_row(stage, kernel, 0, count);
-        let middle = self.borrow_line_under_kernel_row(stage, kernel, 1, count);
-        let bottom = self.borrow_line_under_kernel_row(stage, kernel, 2, count);
-        match (top, middle, bottom) {
-            (Some(top), Some(middle), Some(bottom)) => {
-                column.write_sums(out, top, middle, bottom);
-                true
-            }
-            _ => false,
-        }
-    }
-
-    // The sums of a stencil whose kernel has five rows of one factor, likewise.
-    fn try_column_stencil_of_five_rows(
-        &self,
-        stage: usize,
-        kernel: &Kernel,
-        out: &mut [i32],
-    ) -> bool
-        requires kernel { IsKernel kernel.now }
-        requires reads { KernelWithin (S.has self.now.source.now stage) kernel.now
-            self.now.points.row self.now.points.col (length out.old) }
-        ensures { IsTrue result
-            → EachPlace (length out.old) (λ k. at out.new k
-            ≡ wrapped (weighted_sum kernel.now (S.samples self.now.source.now stage)
-            self.now.points.row (self.now.points.col +ℤ pos k))) }
-    {
-        let Some(column) = FiveFactorColumnKernel::from_kernel(kernel) else {
-            return false;
-        };
-        let count = out.len();
-        let a = self.borrow_line_under_kernel_row(stage, kernel, 0, count);
-        let b = self.borrow_line_under_kernel_row(stage, kernel, 1, count);
-        let c = self.borrow_line_under_kernel_row(stage, kernel, 2, count);
-        let d = self.borrow_line_under_kernel_row(stage, kernel, 3, count);
-        let e = self.borrow_line_under_kernel_row(stage, kernel, 4, count);
-        match (a, b, c, d, e) {
-            (Some(a), Some(b), Some(c), Some(d), Some(e)) => {
-                column.write_sums(out, a, b, c, d, e);
-                true
-            }
-            _ => false,
-        }
-    }
-
-    // The sums of a stencil, all rows of the kernel at once. Returns whether the kernel has one of these forms and all that it
-    // reads can be borrowed from the source.
-    fn try_small_stencil(&self, stage: usize, kernel: &Kernel, out: &mut [i32]) -> bool
-        requires kernel { IsKernel kernel.now }
-        requires reads { KernelWithin (S.has self.now.source.now stage) kernel.now
-            self.now.points.row self.now.points.col (length out.old) }
-        ensures { IsTrue result
-            → EachPlace (length out.old) (λ k. at out.new k
-            ≡ wrapped (weighted_sum kernel.now (S.samples self.now.source.now stage)
-            self.now.points.row (self.now.points.col +ℤ pos k))) }
-    {
-        self.try_stencil_3x3(stage, kernel, out)
-            || self.try_column_stencil_of_three_rows(stage, kernel, out)
-            || self.try_column_stencil_of_five_rows(stage, kernel, out)
     }
 
     // Adds up the samples in each column under a kernel, each times the factor of its row. Returns false if not all of them can
@@ -387,9 +255,7 @@ impl<'a, S: RowSource> SourceRow<'a, S> {
             ≡ floor_div (wrapped (weighted_sum kernel.now (S.samples self.now.source.now stage)
             self.now.points.row (self.now.points.col +ℤ pos k))) (pos divisor)) }
     {
-        if !self.try_small_stencil(stage, kernel, out)
-            && !self.try_separable_stencil(stage, kernel, out, temps)
-        {
+        if !self.try_separable_stencil(stage, kernel, out, temps) {
             self.evaluate_stencil_sums_by_kernel_rows(stage, kernel, out, temps);
         }
         write_quotients_by_literal_to_row(out, Operand::Written, divisor);

@@ -9,11 +9,6 @@ returns-in-Some-clause-sums c = λ k h s e.
     piece_sum 5 c.in-Some.five c.args.factors.now c.args.line.now k s _ _ c.in-Some.ensures.is c.in-Some.ensures.many e
     (c.add_product_sums.ensures k h)
 
-pub returns-in-Some-from_first_factors-clause-sums : goal.returns-in-Some-from_first_factors-clause-sums
-returns-in-Some-from_first_factors-clause-sums c = λ k h s e.
-    piece_sum 3 c.in-Some-from_first_factors.three c.args.factors.now c.args.line.now k s _ _ c.in-Some-from_first_factors.ensures.is
-    c.in-Some-from_first_factors.ensures.many e (c.add_product_sums-in-Some-from_first_factors.ensures k h)
-
 pub returns-clause-sums : goal.returns-clause-sums
 returns-clause-sums c = λ k h s e.
     let factor : FitsSigned w32 (at c.args.factors.now 0) = search rules in
