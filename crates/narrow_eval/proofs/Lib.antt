@@ -2,4 +2,3 @@ pub mod NarrowRows
 pub mod NarrowAddends
 pub mod NarrowSums
 pub mod NarrowReady
-pub mod NarrowGroups

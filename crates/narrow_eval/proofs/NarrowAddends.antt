@@ -293,10 +293,6 @@ pub differences_taken : (f t d : ℤ) (w : Bool) (x y : ℤ) → IsRest w x (f -
     → ((rest : ℤ) → IsRest w x rest → y ≡ int_wrap w16 (rest +ℤ d)) → y ≡ int_wrap w16 (f -ℤ (t +ℤ pos 0))
 differences_taken f t d w x y h taken = taken _ h ∙ ap (int_wrap w16) (omega (arith, ints))
 
-pub centered_taken : (f wait s : ℤ) (w : Bool) (x y : ℤ) → IsRest w x (f -ℤ wait)
-    → ((rest : ℤ) → IsRest w x rest → y ≡ int_wrap w16 (rest +ℤ s)) → y ≡ int_wrap w16 (f +ℤ s -ℤ wait)
-centered_taken f wait s w x y h taken = taken _ h ∙ ap (int_wrap w16) (omega (arith, ints))
-
 -- ---- one more addend
 
 end_of : (a b c d : ℤ) → c ≡ b +ℤ d → a +ℤ c ≡ (a +ℤ b) +ℤ d

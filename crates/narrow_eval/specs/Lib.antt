@@ -3,4 +3,3 @@ pub mod NarrowStencils
 pub mod NarrowSums
 pub mod NarrowCases
 pub mod NarrowOperators
-pub mod NarrowGroups

@@ -1,14 +1,13 @@
 //! Formulas and functions along rows of points, computed in 16 bits where each number fits.
 //!
 //! Words: narrow formula, narrow function, narrow stencil, narrow source, narrow read, narrow case, narrow points,
-//! narrow sum, narrow addend, narrow group.
+//! narrow sum, narrow addend.
 #![tactic(auto)]
 
 mod narrow_addends;
 mod narrow_cases;
 mod narrow_extremes;
 mod narrow_formulas;
-mod narrow_groups;
 mod narrow_points;
 mod narrow_reads;
 mod narrow_source;

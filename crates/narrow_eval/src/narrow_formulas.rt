@@ -187,9 +187,6 @@ impl<'a, S: NarrowSource> NarrowPoints<'a, S> {
         if is_borrowable_narrow_read(a) && is_borrowable_narrow_read(b) {
             return false;
         }
-        if self.try_narrow_sum_of_group(formula, out) {
-            return true;
-        }
         if self.try_narrow_sum(formula, out, temps) {
             return true;
         }

@@ -7,15 +7,13 @@ ghost use Rattle.domains.specs.Arithmetic.{floor_div};
 ghost use Rattle.operators.specs.Limits.{IsDivisor};
 ghost use Rattle.narrow_kernels.specs.NarrowTaps.{tap_at, tap_sum, HaveTapLines};
 ghost use Rattle.narrow_kernels.specs.NarrowDifferences.{narrow_difference_at, narrow_difference_sum, HaveDifferenceLines};
-ghost use Rattle.narrow_kernels.specs.NarrowCenters.{centered_tap_sum, IsCenter};
 ghost use Rattle.row_loops.specs.Rows.{EachPlace, at};
 ghost use Rattle.job.specs.Values.{binary_value};
 ghost use Rattle.narrow_eval.specs.NarrowSums.{HasSpace, HasAddends, IsRest, Same16, GivesSum, adds, signed};
 
 use narrow_kernels::{
-    NarrowCenter, NarrowClampedDifference, NarrowTap, add_and_divide_narrow_tap_sums,
-    add_centered_narrow_tap_sums, add_narrow_difference_sums, add_narrow_tap_sums,
-    wrap_factor_to_narrow_number, write_centered_narrow_tap_sums, write_divided_narrow_tap_sums,
+    NarrowClampedDifference, NarrowTap, add_and_divide_narrow_tap_sums, add_narrow_difference_sums,
+    add_narrow_tap_sums, wrap_factor_to_narrow_number, write_divided_narrow_tap_sums,
     write_narrow_difference_sums, write_narrow_tap_sums,
 };
 use operators::BinaryOp;
@@ -85,26 +83,6 @@ fn add_narrow_sum_differences_to_row(
         add_narrow_difference_sums(out, differences);
     } else {
         write_narrow_difference_sums(out, differences);
-    }
-}
-
-// Adds clamped differences from a center to what a row has of a sum.
-fn add_centered_narrow_sum_taps_to_row(
-    is_written: bool,
-    center: NarrowCenter<'_>,
-    taps: &[NarrowTap<'_>],
-    out: &mut [i16],
-)
-    requires count { length taps.now ≤ 8 }
-    requires center { IsCenter (length out.old) center }
-    requires taps { HaveTapLines (length out.old) taps.now }
-    ensures { EachPlace (length out.old) (λ k. (rest : ℤ) → IsRest is_written (at out.old k) rest
-        → at out.new k ≡ int_wrap w16 (rest +ℤ centered_tap_sum center.entry taps.now k)) }
-{
-    if is_written {
-        add_centered_narrow_tap_sums(out, center, taps);
-    } else {
-        write_centered_narrow_tap_sums(out, center, taps);
     }
 }
 
@@ -290,26 +268,6 @@ impl<'a> NarrowSum<'a> {
         self.add_narrow_sum_differences_if_many(out);
         self.differences[self.difference_count] = difference;
         self.difference_count += 1;
-    }
-
-    /// The sum and the clamped differences of up to eight taps from a center, which are added to the row.
-    pub(crate) fn add_centered_narrow_sum_taps(
-        &mut self,
-        center: NarrowCenter<'_>,
-        taps: &[NarrowTap<'_>],
-        out: &mut [i16],
-    )
-        requires addends { HasAddends (length out.old) self.old }
-        requires count { length taps.now ≤ 8 }
-        requires center { IsCenter (length out.old) center }
-        requires taps { HaveTapLines (length out.old) taps.now }
-        ensures addends { HasAddends (length out.old) self.new }
-        ensures sum { (f : ℕ → ℤ) → GivesSum (length out.old) f self.old out.old
-            → GivesSum (length out.old) (λ k. f k +ℤ centered_tap_sum center.entry taps.now k) self.new
-            out.new }
-    {
-        add_centered_narrow_sum_taps_to_row(self.is_written, center, taps, out);
-        self.is_written = true;
     }
 
     /// The sum and the products of a factor and the numbers of a line.

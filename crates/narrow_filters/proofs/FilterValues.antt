@@ -20,13 +20,13 @@ use Rattle.narrow_eval.specs.NarrowSums.{Same16}
 use Rattle.narrow_eval.proofs.NarrowRows.{binary_fits, literal_fits}
 use Rattle.narrow_eval.proofs.NarrowSums.{narrow_fits, literal_sum}
 use Rattle.narrow_eval.proofs.NarrowAddends.{same_add, same_wrapped}
-use Rattle.narrow_eval.proofs.NarrowGroups.{centered_difference}
 use Rattle.narrow_filters.specs.declared.filter.NarrowFilterCenter.{NarrowFilterCenter}
 use Rattle.narrow_filters.specs.declared.filter.NarrowFilterTap.{NarrowFilterTap}
 use Rattle.narrow_filters.specs.declared.filter.NarrowFilter.{NarrowFilter}
 use Rattle.narrow_filters.specs.Filters.{read_formula, difference_formula, times, tap_formula, taps_formula, scaled_formula, filter_formula, IsShiftingRead}
 use Rattle.narrow_filters.specs.inside.Taps.{IsReadyRead}
 use Rattle.narrow_filters.specs.inside.TapValues.{sample_of, tap_value, taps_value}
+use Rattle.narrow_filters.proofs.Centered.{centered_difference}
 
 -- ---- products, of which a factor of 1 is not written
 

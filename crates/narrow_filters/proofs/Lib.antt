@@ -1,3 +1,4 @@
+pub mod Centered
 pub mod FoundTaps
 pub mod TapRows
 pub mod FilterValues
