@@ -24,6 +24,7 @@ mod narrow_means;
 mod narrow_operand;
 mod narrow_operators;
 mod narrow_pairs;
+mod narrow_parts;
 mod narrow_reciprocal;
 mod narrow_selection;
 mod narrow_sums;
@@ -36,9 +37,7 @@ pub use narrow_affine_extremes::{
     write_narrow_extremes_of_two_affine_maps,
 };
 pub use narrow_affine_map::NarrowAffineMap;
-pub use narrow_centers::{
-    NarrowCenter, add_centered_narrow_tap_sums, write_centered_narrow_tap_sums,
-};
+pub use narrow_centers::{NarrowCenter, add_centered_narrow_tap_sums};
 pub use narrow_conversions::{
     convert_samples_to_narrow_row, narrow_row_of_wide_numbers, widen_narrow_row,
 };

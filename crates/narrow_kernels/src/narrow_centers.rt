@@ -9,7 +9,6 @@ ghost use Rattle.narrow_kernels.specs.NarrowCenters.{centered_tap_sum, IsCenter}
 ghost use Rattle.narrow_kernels.specs.NarrowNearTaps.{near_tap_at, near_tap_sum, factor_sum, near_quad_at, HasNearQuad};
 ghost use Rattle.row_loops.specs.Rows.{EachPlace, at};
 
-use crate::narrow_loops::fill_narrow_row;
 use crate::narrow_taps::NarrowTap;
 use crate::narrow_terms::{
     NarrowTerm, NarrowTermPair, add_narrow_term, add_wrapping_narrow_numbers,
@@ -236,20 +235,4 @@ pub fn add_centered_narrow_tap_sums(
         factor: negate_sum_of_narrow_tap_factors(taps),
     };
     add_narrow_term(out, NarrowTermPair(own, NarrowTermPair(front, back)));
-}
-
-/// Writes the sums of the clamped differences of up to eight taps from a center, wrapped at 16 bits.
-pub fn write_centered_narrow_tap_sums(
-    out: &mut [i16],
-    center: NarrowCenter<'_>,
-    taps: &[NarrowTap<'_>],
-)
-    requires count { length taps.now ≤ 8 }
-    requires center { IsCenter (length out.old) center }
-    requires taps { HaveTapLines (length out.old) taps.now }
-    ensures { EachPlace (length out.old)
-        (λ k. at out.new k ≡ int_wrap w16 (centered_tap_sum center.entry taps.now k)) }
-{
-    fill_narrow_row(out, 0);
-    add_centered_narrow_tap_sums(out, center, taps);
 }

@@ -13,8 +13,34 @@ use crate::narrow_maps::{
 };
 use crate::narrow_operand::NarrowOperand;
 use crate::narrow_operators::map_narrow_operand;
+use crate::narrow_parts::{NarrowFifth, NarrowNinth, NarrowSeventh, NarrowThird};
 use crate::narrow_reciprocal::NarrowReciprocal;
 use crate::narrow_taps::{NarrowTap, map_narrow_tap_sums};
+
+// The same, where the divisor is no power of two: the least odd ones are known to the compiler.
+fn divide_narrow_tap_sums_with_remainders<S: NarrowNumberMap>(
+    out: &mut [i16],
+    start: S,
+    taps: &[NarrowTap<'_>],
+    number: i16,
+    divisor: u32,
+)
+    requires few { length taps.now ≤ 9 }
+    requires starts { (z : ℤ) → S.fits start z }
+    requires lines { HaveTapLines (length out.old) taps.now }
+    requires least { 2 ≤ divisor }
+    requires most { divisor ≤ 32768 }
+    ensures { EachPlace (length out.old) (λ k. at out.new k ≡ floor_div (int_wrap w16
+        (S.value start (at out.old k) +ℤ (tap_sum taps.now k +ℤ number))) (pos divisor)) }
+{
+    match divisor {
+        3 => map_narrow_tap_sums(out, start, taps, number, NarrowThird),
+        5 => map_narrow_tap_sums(out, start, taps, number, NarrowFifth),
+        7 => map_narrow_tap_sums(out, start, taps, number, NarrowSeventh),
+        9 => map_narrow_tap_sums(out, start, taps, number, NarrowNinth),
+        _ => map_narrow_tap_sums(out, start, taps, number, NarrowReciprocal::new(divisor)),
+    }
+}
 
 // Adds up to nine taps and a number to what each place begins with, and divides the sums, wrapped at 16 bits. They are rounded
 // down.
@@ -41,7 +67,7 @@ fn divide_narrow_tap_sums<S: NarrowNumberMap>(
     } else if bits < 16 && divisor == 1 << bits {
         map_narrow_tap_sums(out, start, taps, number, NarrowRightShift { bits });
     } else {
-        map_narrow_tap_sums(out, start, taps, number, NarrowReciprocal::new(divisor));
+        divide_narrow_tap_sums_with_remainders(out, start, taps, number, divisor);
     }
 }
 

@@ -65,20 +65,20 @@ impl NarrowNumberMap for NarrowReciprocal {
     }
 }
 
-// How far a number lies from 0, and one below 0 from -1.
+/// How far a number lies from 0, and one below 0 from -1.
 #[inline]
 #[tactic(auto, using(std::proofs::lemmas::Int::ints))]
-fn complement_narrow_number(a: i16) -> u16
+pub(crate) fn complement_narrow_number(a: i16) -> u16
     ensures is { result ≡ narrow_complement a }
     ensures most { result < 2 ^ 15 }
 {
     if a < 0 { (-1 - a) as u16 } else { a as u16 }
 }
 
-// `n` if `a` is at least 0, else -1 - `n`.
+/// `n` if `a` is at least 0, else -1 - `n`.
 #[inline]
 #[tactic(auto, using(std::proofs::lemmas::Int::ints))]
-fn undo_narrow_complement(a: i16, n: u16) -> i16
+pub(crate) fn undo_narrow_complement(a: i16, n: u16) -> i16
     requires { n < 2 ^ 15 }
     ensures { result ≡ narrow_uncomplement a n }
 {
