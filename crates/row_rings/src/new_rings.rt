@@ -62,19 +62,32 @@ pub(crate) fn find_greatest_ring_room(
     Ok(room)
 }
 
+// How many numbers a row has room for behind its own. So rows of common widths do not begin at the same place of a page: a processor
+// takes a load for one of what was stored just before, if they lie at the same place of two pages.
+const ROOM_BEHIND: usize = 144;
+
+// A row of `width` numbers.
+fn allocate_ring_row<T: Copy>(alloc: Global, zero: T, width: u32) -> Result<Vec<T>, AllocError>
+    ensures { IfOk result (λ row. length row.items ≡ width) }
+{
+    let mut row = Vec::with_capacity(alloc, width as usize + ROOM_BEHIND)?;
+    row.resize(width as usize, zero)?;
+    Ok(row)
+}
+
 // `count` rows of `width` numbers.
 fn allocate_ring_rows<T: Copy>(
     alloc: Global,
     zero: T,
     count: usize,
-    width: usize,
+    width: u32,
 ) -> Result<Vec<Vec<T>>, AllocError>
     ensures count { IfOk result (λ rows. length rows.items ≡ count) }
     ensures width { IfOk result (λ rows. All (λ row. length row.items ≡ width) rows.items) }
 {
     let mut rows = Vec::with_capacity(alloc, count)?;
     for _ in 0..count {
-        rows.push(vec![in alloc; zero; width]?)?;
+        rows.push(allocate_ring_row(alloc, zero, width)?)?;
     }
     Ok(rows)
 }
@@ -83,8 +96,7 @@ fn allocate_ring_rows<T: Copy>(
 fn allocate_ring<T: Copy>(alloc: Global, zero: T, state: RowState) -> Result<RowRing<T>, AllocError>
     ensures { IfOk result (λ ring. ring.state ≡ state) }
 {
-    let width = state.area.cols.len() as usize;
-    let rows = allocate_ring_rows(alloc, zero, state.kept, width)?;
+    let rows = allocate_ring_rows(alloc, zero, state.kept, state.area.cols.len())?;
     Ok(RowRing { state, rows })
 }
 
