@@ -62,15 +62,16 @@ pub(crate) fn find_greatest_ring_room(
     Ok(room)
 }
 
-// How many numbers a row has room for behind its own. So rows of common widths do not begin at the same place of a page: a processor
-// takes a load for one of what was stored just before, if they lie at the same place of two pages.
+// How many numbers a row has room for behind its own, at most. So rows of common widths do not begin at the same place of a page: a processor
+// takes a load for one of what was stored just before, if they lie at the same place of two pages. A narrow row has a quarter of its width.
 const ROOM_BEHIND: usize = 144;
 
 // A row of `width` numbers.
 fn allocate_ring_row<T: Copy>(alloc: Global, zero: T, width: u32) -> Result<Vec<T>, AllocError>
     ensures { IfOk result (λ row. length row.items ≡ width) }
 {
-    let mut row = Vec::with_capacity(alloc, width as usize + ROOM_BEHIND)?;
+    let room = (width as usize / 4).min(ROOM_BEHIND);
+    let mut row = Vec::with_capacity(alloc, width as usize + room)?;
     row.resize(width as usize, zero)?;
     Ok(row)
 }
