@@ -1,4 +1,5 @@
-ghost use Rattle.std.specs.Prelude.{◌≡◌, ◌≤ℤ◌, ℤ, pos, negsuc, IfSome, IfNone};
+ghost use Rattle.std.specs.Prelude.{◌≡◌, ◌≤ℤ◌, ◌<ℤ◌, ℤ, pos, negsuc, IfSome, IfNone};
+ghost use Rattle.domains.specs.Arithmetic.{floor_div};
 
 use crate::arithmetic::floor_div;
 use crate::span::Span;
@@ -22,6 +23,19 @@ impl Model for Index {
     ghost invariant = { λ x. IsIndex (record { mul = x.mul; add = x.add; div = x.div }) };
 
     ghost inverse = { λ x. record { mul = x.mul; add = x.add; div = x.div } };
+}
+
+// The quotient, rounded down. Most indices do not divide, and a division takes as long as many sums.
+#[inline]
+fn divide_index_product(product: i32, div: i32) -> i32
+    requires { pos 0 <ℤ div }
+    ensures { result ≡ floor_div product div }
+{
+    if div == 1 {
+        product
+    } else {
+        floor_div(product, div)
+    }
 }
 
 impl Index {
@@ -75,7 +89,7 @@ impl Index {
         ensures most { result ≤ℤ pos 1048576 }
         ensures within { IsIndex self.now }
     {
-        floor_div(self.mul * v + self.add, self.div)
+        divide_index_product(self.mul * v + self.add, self.div)
     }
 
     /// From the least to the greatest index at the numbers of `span`, which lies within 32,768 of 0.

@@ -6,7 +6,7 @@ use Rattle.domains.proofs.index.Index.at.Goals as goal
 
 pub returns-clause-value : goal.returns-clause-value
 returns-clause-value c =
-    let result : FitsSigned w32 c.floor_div.result = search rules in
+    let result : FitsSigned w32 c.divide_index_product.result = search rules in
     let v : FitsSigned w32 c.args.v = search rules in
     let mul : FitsSigned w32 c.self.inside.mul = search rules in
     let add : FitsSigned w32 c.self.inside.add = search rules in
@@ -15,7 +15,7 @@ returns-clause-value c =
     let high = c.requires.most in
     to_z-of_z w32 _ result
     ∙ scaled_is _ _ _ _ _ mul v add div (product_fits _ c.args.v c.self.invariant low high) (sum_fits _ c.args.v c.self.invariant low high)
-    c.floor_div.ensures
+    c.divide_index_product.ensures
     ∙ ap (λ x. index_at x c.args.v) c.self.view_is
 
 pub returns-clause-least : goal.returns-clause-least
