@@ -18,23 +18,24 @@ fn get_narrow_line_step(index: &Index) -> usize
     index.mul() as usize
 }
 
-// Takes adjacent numbers from a place on.
-fn gather_adjacent_of_narrow_line(line: &[i16], from: usize, out: &mut [i16])
-    requires { EachPlace (length out.old) (λ k. from + k < length line.now) }
-    ensures { EachPlace (length out.old) (λ k. at out.new k ≡ at line.now (from + k)) }
+// Takes the numbers of a line at steps of one length. (A length that is known here allows vector code, as a line does that begins with
+// the first number.)
+fn gather_steps_of_narrow_line<const STEP: usize>(line: &[i16], out: &mut [i16])
+    requires { EachPlace (length out.old) (λ k. k * STEP < length line.now) }
+    ensures { EachPlace (length out.old) (λ k. at out.new k ≡ at line.now (k * STEP)) }
 {
     for k in 0..out.len() {
-        out[k] = line[from + k];
+        out[k] = line[k * STEP];
     }
 }
 
-// Takes every second number from a place on. (A constant step allows vector code.)
-fn gather_every_second_of_narrow_line(line: &[i16], from: usize, out: &mut [i16])
-    requires { EachPlace (length out.old) (λ k. from + k * 2 < length line.now) }
-    ensures { EachPlace (length out.old) (λ k. at out.new k ≡ at line.now (from + k * 2)) }
+// Takes the numbers of a line at steps of any length.
+fn gather_long_steps_of_narrow_line(line: &[i16], step: usize, out: &mut [i16])
+    requires { EachPlace (length out.old) (λ k. k * step < length line.now) }
+    ensures { EachPlace (length out.old) (λ k. at out.new k ≡ at line.now (k * step)) }
 {
     for k in 0..out.len() {
-        out[k] = line[from + k * 2];
+        out[k] = line[k * step];
     }
 }
 
@@ -43,14 +44,16 @@ fn gather_every_nth_of_narrow_line(line: &[i16], from: usize, step: usize, out: 
     requires { EachPlace (length out.old) (λ k. from + k * step < length line.now) }
     ensures { EachPlace (length out.old) (λ k. at out.new k ≡ at line.now (from + k * step)) }
 {
-    if step == 1 {
-        return gather_adjacent_of_narrow_line(line, from, out);
+    if out.is_empty() {
+        return;
     }
-    if step == 2 {
-        return gather_every_second_of_narrow_line(line, from, out);
-    }
-    for k in 0..out.len() {
-        out[k] = line[from + k * step];
+    let line = &line[from..];
+    match step {
+        1 => gather_steps_of_narrow_line::<1>(line, out),
+        2 => gather_steps_of_narrow_line::<2>(line, out),
+        3 => gather_steps_of_narrow_line::<3>(line, out),
+        4 => gather_steps_of_narrow_line::<4>(line, out),
+        _ => gather_long_steps_of_narrow_line(line, step, out),
     }
 }
 

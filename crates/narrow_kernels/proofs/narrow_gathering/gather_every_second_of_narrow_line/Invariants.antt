@@ -1,6 +1,0 @@
-use Rattle.std.proofs.Common.{◌≡◌, ◌+◌, ◌*◌}
-use Rattle.row_loops.specs.Rows.{EachPlace, at}
-use Rattle.narrow_kernels.proofs.narrow_gathering.gather_every_second_of_narrow_line.Given as goal
-
-abbrev pub invariant-loop-k : goal.invariant-loop-k
-invariant-loop-k l = EachPlace l.k (λ k. at l.out k ≡ at l.line (l.from + k * 2))

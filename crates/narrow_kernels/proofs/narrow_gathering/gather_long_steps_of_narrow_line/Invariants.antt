@@ -1,0 +1,6 @@
+use Rattle.std.proofs.Common.{◌≡◌, ◌*◌}
+use Rattle.row_loops.specs.Rows.{EachPlace, at}
+use Rattle.narrow_kernels.proofs.narrow_gathering.gather_long_steps_of_narrow_line.Given as goal
+
+abbrev pub invariant-loop-k : goal.invariant-loop-k
+invariant-loop-k l = EachPlace l.k (λ k. at l.out k ≡ at l.line (k * l.step))
