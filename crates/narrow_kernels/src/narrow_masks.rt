@@ -6,16 +6,17 @@ ghost use Rattle.std.specs.Ordering.{int_eq};
 ghost use Rattle.domains.specs.Arithmetic.{floor_rem};
 ghost use Rattle.operators.specs.Values.{all_passed};
 ghost use Rattle.operators.specs.Bounds.{BoundsHold};
-ghost use Rattle.operators.specs.Limits.{IsTest};
+ghost use Rattle.operators.specs.Limits.{IsDivisor, IsTest};
 ghost use Rattle.operators.specs.Views.{test_view};
 ghost use Rattle.row_loops.specs.Rows.{EachPlace, at};
 ghost use Rattle.row_kernels.specs.RowMask.{HoldsWhere};
 
 use crate::narrow_conversions::narrow_number_of_wide;
 use crate::narrow_loops::choose_narrow_number;
-use domains::arithmetic::floor_rem;
 use operators::PointTest;
-use row_kernels::{RowMask, RowSpan, copy_row_where_mask_holds};
+use row_kernels::{
+    RowMask, RowSpan, copy_row_where_mask_holds, count_columns_to_first_with_remainder,
+};
 
 // Takes the numbers of the other row at every second place. (Each place is written, which allows vector code.)
 fn copy_narrow_places_with_remainder_by_two(out: &mut [i16], other: &[i16], first: u16)
@@ -30,26 +31,33 @@ fn copy_narrow_places_with_remainder_by_two(out: &mut [i16], other: &[i16], firs
     }
 }
 
-// Takes the numbers of the other row in the columns whose remainder by 2 is `rest`.
-fn copy_narrow_columns_with_remainder_by_two(
+// Takes the numbers of the other row in the columns whose remainder by `modulus` is `rest`.
+fn copy_narrow_columns_with_remainder(
     out: &mut [i16],
     other: &[i16],
+    modulus: u32,
     rest: u32,
     points: &RowSpan,
 )
     requires other { length other.now ≡ length out.old }
-    requires rest { rest < 2 }
+    requires modulus { IsDivisor modulus }
     requires fits { length out.old ≡ points.now.len }
     ensures { EachPlace (length out.old) (λ k. at out.new k
-        ≡ (if int_eq (floor_rem (points.now.col +ℤ pos k) (pos 2)) (pos rest)
+        ≡ (if int_eq (floor_rem (points.now.col +ℤ pos k) (pos modulus)) (pos rest)
         then at other.now k else at out.old k)) }
 {
-    let first = if floor_rem(points.col, 2) == rest as i32 {
-        0
-    } else {
-        1
-    };
-    copy_narrow_places_with_remainder_by_two(out, other, first);
+    if rest >= modulus {
+        return;
+    }
+    let first = count_columns_to_first_with_remainder(points.col, modulus, rest);
+    if modulus == 2 {
+        return copy_narrow_places_with_remainder_by_two(out, other, first as u16);
+    }
+    let mut k = first;
+    while k < out.len() {
+        out[k] = other[k];
+        k += modulus as usize;
+    }
 }
 
 // The number of the other row at a point where all tests hold, else the own one.
@@ -115,8 +123,8 @@ pub fn copy_narrow_row_where_mask_holds(
         then at other.now k else at out.old k)) }
 {
     match passed {
-        RowMask::Leaving(2, rest) if rest < 2 => {
-            copy_narrow_columns_with_remainder_by_two(out, other, rest, points)
+        RowMask::Leaving(modulus, rest) => {
+            copy_narrow_columns_with_remainder(out, other, modulus, rest, points)
         }
         _ => copy_narrow_row_by_points(out, other, tests, passed, points),
     }

@@ -207,6 +207,7 @@ fn turn_narrow_selection_relation(relation: Relation) -> Relation
 }
 
 /// Writes one of two operands at each place: the first where two others are related there, else the other one.
+#[inline(never)]
 pub fn write_narrow_selection(
     out: &mut [i16],
     left: NarrowOperand,

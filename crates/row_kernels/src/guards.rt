@@ -141,6 +141,17 @@ fn count_columns_to_remainder(left: u32, modulus: u32, rest: u32) -> usize
     gap as usize
 }
 
+/// How far after a column the first one lies whose remainder by `modulus` is `rest`.
+pub fn count_columns_to_first_with_remainder(col: i32, modulus: u32, rest: u32) -> usize
+    requires modulus { IsDivisor modulus }
+    requires rest { rest < modulus }
+    ensures few { result < modulus }
+    ensures lands { floor_rem (col +ℤ pos result) (pos modulus) ≡ pos rest }
+    ensures first { EachPlace result (λ d. floor_rem (col +ℤ pos d) (pos modulus) ≢ pos rest) }
+{
+    count_columns_to_remainder(compute_column_remainder(col, modulus), modulus, rest)
+}
+
 // Takes the numbers of the other row at every second place. (Each place is written, which allows vector code.)
 fn copy_places_with_remainder_by_two(out: &mut [i32], other: &[i32], first: u32)
     requires other { length other.now ≡ length out.old }
@@ -172,11 +183,7 @@ fn copy_columns_with_remainder(
     if rest >= modulus {
         return;
     }
-    let first = count_columns_to_remainder(
-        compute_column_remainder(points.col, modulus),
-        modulus,
-        rest,
-    );
+    let first = count_columns_to_first_with_remainder(points.col, modulus, rest);
     if modulus == 2 {
         return copy_places_with_remainder_by_two(out, other, first as u32);
     }

@@ -24,7 +24,9 @@ pub use buffer_view::BufferView;
 pub use finish::Epilogue;
 pub use finishes::write_operand_with_epilogue;
 pub use gathering::gather_index_columns;
-pub use guards::{RowMask, copy_row_where_mask_holds, find_row_mask};
+pub use guards::{
+    RowMask, copy_row_where_mask_holds, count_columns_to_first_with_remainder, find_row_mask,
+};
 pub use lookup::write_table_lookups_to_row;
 pub use operand::Operand;
 pub use row_operators::{

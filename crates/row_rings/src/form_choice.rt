@@ -5,27 +5,11 @@ ghost use Rattle.job.specs.Kept.{pipeline_in};
 ghost use Rattle.value_ranges.specs.Ranges.{AreRanges};
 
 use crate::ring_forms::RingForms;
-use job::{Axis, Body, Function, Job, PointTest, Stage};
+use job::{Body, Function, Job, Stage};
 use linear_rows::is_linear_function;
 use row_plans::RowState;
 use std::alloc::{AllocError, Global};
 use value_ranges::{ValueRange, is_narrow_stage, is_narrow_value_range};
-
-// Whether a test makes 16 bits the slower choice. Columns are chosen point by point there, unless their remainders are by 2.
-fn is_slow_narrow_ring_test(test: &PointTest) -> bool {
-    match test {
-        PointTest::Remainder(Axis::Column, modulus, _) => *modulus != 2,
-        PointTest::Remainder(Axis::Row, _, _) | PointTest::Compare(_, _, _) => false,
-    }
-}
-
-// Whether a case of a function has such a test.
-fn has_slow_narrow_ring_test(function: &Function) -> bool {
-    function.cases().iter().any(|case| case
-        .tests()
-        .iter()
-        .any(|test| is_slow_narrow_ring_test(test)))
-}
 
 // Whether the values of a stage fit in 16 bits.
 fn has_narrow_ring_range(ranges: &[ValueRange], stage: usize) -> bool {
@@ -127,8 +111,7 @@ impl RingFormFlags {
                 Body::Plane(_) | Body::Accumulator(_) => {}
                 Body::Function(function) => {
                     let narrow = is_linear_narrow_ring(function, ranges, stage)
-                        || (is_narrow_stage(job, ranges, stage)
-                            && !has_slow_narrow_ring_test(function));
+                        || is_narrow_stage(job, ranges, stage);
                     self.compute_stage_in_ring_form(stage, found, narrow);
                 }
             }

@@ -9,11 +9,12 @@ use Rattle.row_kernels.proofs.guards.copy_columns_with_remainder.Goals as goal
 
 pub loop-k-init : goal.loop-k-init
 loop-k-init c =
-    let number : pos c.compute_column_remainder.result ≡ floor_rem c.args.points.now.col (pos c.args.modulus) = search rules in
+    let col : FitsSigned w32 c.args.points.now.col = search rules in
+    let passed = simp to_z-of_z at c.count_columns_to_first_with_remainder-first.ensures.first in
     record {
-      done = λ j l h. kept_where c.args.rest _ _ (at c.args.other.now j) _ (c.count_columns_to_remainder-first.ensures.first _ number j l) refl;
+      done = λ j l h. kept_where c.args.rest _ _ (at c.args.other.now j) _ (passed j l) refl;
       ahead = λ j l. refl;
-      here = c.count_columns_to_remainder-first.ensures.lands _ number;
+      here = simp to_z-of_z at c.count_columns_to_first_with_remainder-first.ensures.lands;
     }
 
 pub loop-k-preserved : goal.loop-k-preserved
@@ -34,11 +35,11 @@ loop-k-preserved c =
 pub returns-then-modulus-eq2 : goal.returns-then-modulus-eq2
 returns-then-modulus-eq2 c = λ k h.
     let two : c.args.modulus ≡ 2 = search rules in
-    let number : pos c.compute_column_remainder.result ≡ floor_rem c.args.points.now.col (pos c.args.modulus) = search rules in
-    let small : c.count_columns_to_remainder-first.result < 2 = search rules in
-    let lands : floor_rem (c.args.points.now.col +ℤ pos c.count_columns_to_remainder-first.result) (pos 2) ≡ pos c.args.rest =
-    subst (λ (m : ℕ). floor_rem (c.args.points.now.col +ℤ pos c.count_columns_to_remainder-first.result) (pos m) ≡ pos c.args.rest) two
-    (c.count_columns_to_remainder-first.ensures.lands _ number) in
-    c.copy_places_with_remainder_by_two.ensures k h ∙ tested c.args.points.now.col c.count_columns_to_remainder-first.result c.args.rest small lands k _ _
+    let small : c.count_columns_to_first_with_remainder-first.result < 2 = search rules in
+    let col : FitsSigned w32 c.args.points.now.col = search rules in
+    let lands : floor_rem (c.args.points.now.col +ℤ pos c.count_columns_to_first_with_remainder-first.result) (pos 2) ≡ pos c.args.rest =
+    subst (λ (m : ℕ). floor_rem (c.args.points.now.col +ℤ pos c.count_columns_to_first_with_remainder-first.result) (pos m) ≡ pos c.args.rest) two
+    (simp to_z-of_z at c.count_columns_to_first_with_remainder-first.ensures.lands) in
+    c.copy_places_with_remainder_by_two.ensures k h ∙ tested c.args.points.now.col c.count_columns_to_first_with_remainder-first.result c.args.rest small lands k _ _
     ∙ ap (λ (m : ℕ). if int_eq (floor_rem (c.args.points.now.col +ℤ pos k) (pos m)) (pos c.args.rest) then at c.args.other.now k
     else at c.args.out.now k) (sym two)
