@@ -10,7 +10,7 @@ use Rattle.narrow_pieces.specs.Pieces.{AreFunctionPieces}
 use Rattle.narrow_pieces.specs.declared.piece.NarrowPieces.{NarrowPieces}
 use Rattle.wide_divisions.specs.DivisionSteps.{step_formula, IsRightStep}
 use Rattle.row_rings.specs.declared.ring_shapes.RingShape.{RingShape}
-use Rattle.row_rings.specs.declared.ring_shapes.RingShape.TheVariants.{Linear, Pieces, Filter, Division, Decimation, Phases, Other}
+use Rattle.row_rings.specs.declared.ring_shapes.RingShape.TheVariants.{Linear, Pieces, Filter, Division, Phases, Other}
 use Rattle.row_rings.specs.NarrowRings.{is_linear_body}
 
 -- a function that is this formula everywhere
@@ -37,7 +37,6 @@ IsShapeOf (Linear row) body = IsFormulaBody (linear_formula row) body × IsRight
 IsShapeOf (Pieces pieces) body = ArePiecesOfBody pieces body × (is_linear_body body ≡ false)
 IsShapeOf (Filter filter) body = IsFormulaBody (filter_formula filter) body × IsRightFilter filter × (is_linear_body body ≡ false)
 IsShapeOf (Division step) body = IsFormulaBody (step_formula step) body × IsRightStep step × (is_linear_body body ≡ false)
-IsShapeOf Decimation body = is_linear_body body ≡ false
 IsShapeOf (Phases phases) body = IsPhasedBody phases.functions.items body × (is_linear_body body ≡ false)
 IsShapeOf Other body = is_linear_body body ≡ false
 

@@ -11,7 +11,7 @@ use Rattle.narrow_pieces.specs.PiecesOnce.{AreFunctionPieces-prop}
 use Rattle.narrow_pieces.specs.declared.piece.NarrowPieces.{NarrowPieces}
 use Rattle.wide_divisions.specs.StepsOnce.{IsRightStep-prop}
 use Rattle.row_rings.specs.declared.ring_shapes.RingShape.{RingShape}
-use Rattle.row_rings.specs.declared.ring_shapes.RingShape.TheVariants.{Linear, Pieces, Filter, Division, Decimation, Phases, Other}
+use Rattle.row_rings.specs.declared.ring_shapes.RingShape.TheVariants.{Linear, Pieces, Filter, Division, Phases, Other}
 use Rattle.row_rings.specs.RingShapes.{IsFormulaBody, ArePiecesOfBody, IsPhasedBody, IsShapeOf, AreShapesOf}
 
 IsFormulaBody-prop : (f : Formula) (body : Body) → IsProp (IsFormulaBody f body)
@@ -34,7 +34,6 @@ IsShapeOf-prop (Linear row) body = hlevel (IsFormulaBody-prop, IsRightLinear-pro
 IsShapeOf-prop (Pieces pieces) body = hlevel (ArePiecesOfBody-prop, props)
 IsShapeOf-prop (Filter filter) body = hlevel (IsFormulaBody-prop, IsRightFilter-prop, props)
 IsShapeOf-prop (Division step) body = hlevel (IsFormulaBody-prop, IsRightStep-prop, props)
-IsShapeOf-prop Decimation body = hlevel props
 IsShapeOf-prop (Phases phases) body = hlevel (IsPhasedBody-prop, props)
 IsShapeOf-prop Other body = hlevel props
 

@@ -28,7 +28,6 @@ use column_phases::write_narrow_column_phases;
 use domains::Area;
 use job::{Body, Function, Job};
 use linear_rows::write_linear_row;
-use narrow_decimations::{find_narrow_decimation, write_narrow_decimation};
 use narrow_eval::{NarrowSource, evaluate_narrow_formula, evaluate_narrow_function};
 use narrow_filters::write_narrow_filter;
 use narrow_kernels::convert_samples_to_narrow_row;
@@ -71,30 +70,6 @@ fn write_formula_row_to_narrow_ring<S: NarrowSource>(
     }
 }
 
-// Writes a row of a function by decimation, if it has one, else by its formulas. The contents of `temps` have no meaning.
-fn write_decimated_row_to_narrow_ring<S: NarrowSource>(
-    source: &S,
-    function: &Function,
-    points: &RowSpan,
-    out: &mut [i16],
-    temps: &mut [i16],
-)
-    requires some { 0 < length out.old }
-    requires fits { length out.old ≡ points.now.len }
-    requires function { IsNarrowComputable (S.has source.now) (S.samples source.now) points.now.row
-        points.now.col (length out.old) (length temps.old) (map case_view function.now.cases.items)
-        (option_map formula_view function.now.otherwise) }
-    ensures { EachPlace (length out.old) (λ k. at out.new k
-        ≡ function_value (S.samples source.now) (map case_view function.now.cases.items)
-        (option_map formula_view function.now.otherwise) points.now.row
-        (points.now.col +ℤ pos k)) }
-{
-    match find_narrow_decimation(function) {
-        Some(it) => write_narrow_decimation(source, function, &it, points, out, temps),
-        None => write_formula_row_to_narrow_ring(source, function, points, out, temps),
-    }
-}
-
 // Writes a row of a function of this shape. The contents of `temps` have no meaning.
 fn write_shaped_row_to_narrow_ring<S: NarrowSource>(
     source: &S,
@@ -127,9 +102,6 @@ fn write_shaped_row_to_narrow_ring<S: NarrowSource>(
         RingShape::Linear(linear) => write_linear_row(source, linear, points, out),
         RingShape::Pieces(pieces) => write_narrow_pieces(source, function, pieces, points, out),
         RingShape::Filter(filter) => write_narrow_filter(source, filter, points, out),
-        RingShape::Decimation => write_decimated_row_to_narrow_ring(
-            source, function, points, out, temps,
-        ),
         RingShape::Phases(phases) => {
             write_narrow_column_phases(source, function, phases, points, out, temps)
         }

@@ -12,14 +12,12 @@ ghost use Rattle.row_rings.specs.RingShapes.{IsShapeOf, AreShapesOf};
 use column_phases::{ColumnPhases, find_column_phases};
 use job::{Body, Function, Job, Stage};
 use linear_rows::{LinearRow, find_linear_row};
-use narrow_decimations::find_narrow_decimation;
 use narrow_filters::{NarrowFilter, find_narrow_filter};
 use narrow_pieces::{NarrowPieces, find_narrow_pieces};
 use std::alloc::{AllocError, Global};
 use wide_divisions::{DivisionStep, find_division_step};
 
-/// How the rows of a stage are made: as those of a function that is written in one pass or a few, by decimation where the row allows it,
-/// by phases, or by its formulas. Rows of 32 bits may be steps of a division; those of 16 bits have the other passes. Both may be made
+/// How the rows of a stage are made: as those of a function that is written in one pass or a few, by phases, or by its formulas. Rows of 32 bits may be steps of a division; those of 16 bits have the other passes. Both may be made
 /// by phases or by formulas.
 #[derive(Drop)]
 pub(crate) enum RingShape<'a> {
@@ -27,7 +25,6 @@ pub(crate) enum RingShape<'a> {
     Pieces(NarrowPieces<'a>),
     Filter(NarrowFilter<'a>),
     Division(DivisionStep<'a>),
-    Decimation,
     Phases(ColumnPhases),
     Other,
 }
@@ -50,9 +47,6 @@ fn find_ring_shape_besides_linear<'a>(
     }
     if let Some(step) = find_division_step(function) {
         return Ok(RingShape::Division(step));
-    }
-    if find_narrow_decimation(function).is_some() {
-        return Ok(RingShape::Decimation);
     }
     match find_column_phases(alloc, function)? {
         Some(phases) => Ok(RingShape::Phases(phases)),

@@ -94,15 +94,6 @@ returns-in-Filter g c = λ k h.
     ∙ formula_everywhere (g.S.NarrowSource.samples c.args.source.now) (filter_formula c.in-Filter.filter) (map case_view f.cases.items)
     (option_map formula_view f.otherwise) _ _ is.0
 
--- ---- decimation
-
-pub write_decimated_row_to_narrow_ring-requires-clause-function : goal.write_decimated_row_to_narrow_ring-requires-clause-function
-write_decimated_row_to_narrow_ring-requires-clause-function g c =
-    let f = c.args.function.now in
-    c.requires.function
-    (subst (λ (shape : RingShape). IsShapeOf shape (function (map case_view f.cases.items) (option_map formula_view f.otherwise)))
-    c.in-Decimation.is c.requires.shape)
-
 -- ---- phases
 
 pub write_narrow_column_phases-requires-clause-function : goal.write_narrow_column_phases-requires-clause-function

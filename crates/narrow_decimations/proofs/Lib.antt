@@ -1,4 +1,0 @@
-pub mod WeightedSums
-pub mod Samples
-pub mod Values
-pub mod CaseParts

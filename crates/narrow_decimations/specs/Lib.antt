@@ -1,3 +1,0 @@
-pub mod Weights
-pub mod Decimations
-pub mod inside

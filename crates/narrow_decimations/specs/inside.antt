@@ -1,3 +1,0 @@
--- What clauses of inner functions cite, and no public clause does.
-pub mod Sums
-pub mod Ready
