@@ -163,6 +163,7 @@ impl<'a, S: NarrowSource> NarrowPoints<'a, S> {
     }
 
     /// The values of a stencil.
+    #[inline(never)]
     pub(crate) fn evaluate_narrow_stencil(
         &self,
         stage: usize,

@@ -231,6 +231,7 @@ impl<'a, S: NarrowSource> NarrowPoints<'a, S> {
     }
 
     /// Writes the values of a formula, if it is a sum whose last two addends or more need no computing. Returns whether it is.
+    #[inline(never)]
     #[cycle(evaluate_narrow)]
     pub(crate) fn try_narrow_sum(
         &self,

@@ -103,6 +103,7 @@ impl<'a, S: NarrowSource> NarrowPoints<'a, S> {
     }
 
     /// Writes the results of an operator and a literal on a formula, if it divides more than samples. Returns whether it does.
+    #[inline(never)]
     #[cycle(evaluate_narrow)]
     pub(crate) fn try_divided_narrow_sum(
         &self,

@@ -237,7 +237,8 @@ impl<'a, S: RowSource> SourceRow<'a, S> {
         }
     }
 
-    /// The values of a stencil.
+    /// The values of a stencil. (Apart from the other formulas: it has lists of taps to prepare, which those need not pay for.)
+    #[inline(never)]
     pub(crate) fn evaluate_stencil(
         &self,
         stage: usize,
