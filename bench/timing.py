@@ -1,9 +1,11 @@
 """Runs tilefarm and the C programs on the same pictures as whole processes, in turn, and compares what they write."""
 import argparse
+import functools
 import glob
 import math
 import os
 import random
+import resource
 import statistics
 import subprocess
 import sys
@@ -19,7 +21,7 @@ MEMORY = "/dev/shm" if os.path.isdir("/dev/shm") else tempfile.gettempdir()
 
 class Pipeline(NamedTuple):
     """The kind of picture that a program takes, and the lines of its tables. Its parameters, if the picture does not give them, are a part
-    of the picture's sides."""
+    of the picture's sides. A side whose parameter the picture gives has no name."""
 
     kind: str = "grey"
     part: int = 1
@@ -28,14 +30,18 @@ class Pipeline(NamedTuple):
 
 
 class Suite(NamedTuple):
-    """Pipelines by name, where their texts are, and the same pipelines in C."""
+    """Pipelines by name, where their texts are, and the same pipelines in C, if there are any."""
 
     pipelines: dict
     texts: str
-    sources: str
+    sources: str = ""
 
     def text(self, name):
         return content(f"{TOP}/{self.texts.format(name)}")
+
+    def names(self):
+        """The pipelines that are timed where none is named."""
+        return [it for it in self.pipelines if it not in OTHERS]
 
 
 # The curve of the program in C.
@@ -53,6 +59,16 @@ EXAMPLES = Suite({
     "copy": Pipeline(), "blur": Pipeline(), "half": Pipeline("grey", 2, ("R", "C")), "sobel": Pipeline(), "unsharp": Pipeline(),
     "harris": Pipeline(), "histogram": Pipeline(),
 }, "examples/{0}/{0}.pipe", "bench/pipelines.c")
+# 65,536 divided by the number of points that are within a threshold.
+RECIPROCALS = f"recip 1..25: {' '.join(str(round(65536 / v)) for v in range(1, 26))}\n".encode()
+# Those that nobody tuned the program for.
+UNTUNED = Suite({
+    "bayer": Pipeline(), "box7": Pipeline(), "canny": Pipeline(), "census": Pipeline(), "closing": Pipeline(), "dct4": Pipeline("grey", 4),
+    "dct4q": Pipeline("grey", 4, ("", "Q")), "diffuse6": Pipeline(), "dog": Pipeline(), "down3": Pipeline("grey", 3, ("H", "W")),
+    "down4": Pipeline("colour", 4, ("H", "W")), "emboss": Pipeline("colour"), "gauss5": Pipeline(), "local15": Pipeline(), "log5": Pipeline(),
+    "morphgrad": Pipeline(), "scharr": Pipeline(), "sigma5": Pipeline(), "sigma5t": Pipeline(tables=RECIPROCALS), "tone3": Pipeline("colour"),
+    "unsharp5": Pipeline(), "variance5": Pipeline(), "wbccm": Pipeline("colour"),
+}, "bench/untuned/{0}.pipe")
 
 
 def content(path):
@@ -105,8 +121,20 @@ class Command:
         return int(content(note).split()[-1]) * 1024 / 1e6
 
 
+class OnProcessor(Command):
+    """A command that is timed by what it takes of the processor."""
+
+    def milliseconds(self):
+        before = resource.getrusage(resource.RUSAGE_CHILDREN)
+        self.run()
+        after = resource.getrusage(resource.RUSAGE_CHILDREN)
+        return 1000 * (after.ru_utime + after.ru_stime - before.ru_utime - before.ru_stime)
+
+
 def compiled(made, known, *flags):
     """The C programs of a suite as one program, by flags beside those that the command line names."""
+    if not known.suite.sources:
+        sys.exit("of these pipelines there is no C")
     sources = sorted(glob.glob(f"{TOP}/{known.suite.sources}"))
     kept = ["-DNUMBERS"] * known.numbers
     subprocess.run(["gcc", "-O3", f"-march={known.march}", *kept, *flags, "-o", made, *sources], check=True)
@@ -114,13 +142,16 @@ def compiled(made, known, *flags):
 
 
 class Bench:
-    """A folder with the C program, built where no other is named, and random pictures of so many rows and columns."""
+    """A folder with random pictures of so many rows and columns."""
 
     def __init__(self, room, known, rows, cols):
-        self.room, self.suite, self.program, self.rows, self.cols = room, known.suite, known.program, rows, cols
-        self.native, self.held = known.c or f"{room}/pipelines", None
-        if not known.c:
-            compiled(self.native, known)
+        self.room, self.known, self.suite, self.program, self.rows, self.cols = room, known, known.suite, known.program, rows, cols
+        self.held = None
+
+    @functools.cached_property
+    def native(self):
+        """The C program, which is built where it is first wanted, unless another one is named."""
+        return self.known.c or compiled(f"{self.room}/pipelines", self.known)
 
     def sides(self, name):
         """The rows and columns of a pipeline's picture, of which its parameters are a whole part."""
@@ -141,7 +172,7 @@ class Bench:
     def parameters(self, name):
         """The values of parameters that the picture does not give."""
         pipeline = self.suite.pipelines[name]
-        return [f"{word}={side // pipeline.part}" for word, side in zip(pipeline.names, self.sides(name))]
+        return [f"{word}={side // pipeline.part}" for word, side in zip(pipeline.names, self.sides(name)) if word]
 
     def tilefarm(self, name, options):
         source = f"{self.room}/tilefarm.input"
@@ -183,8 +214,10 @@ def arguments(usage):
     words = argparse.ArgumentParser(usage=usage, allow_abbrev=False, add_help=False)
     words.add_argument("--rounds", type=int, default=7)
     words.add_argument("--side", type=rows_and_cols, nargs="+", default=[(1024, 1024)])
-    words.add_argument("--examples", dest="suite", action="store_const", const=EXAMPLES, default=FIFTEEN)
-    words.add_argument("--only", nargs="+", choices=sorted({*FIFTEEN.pipelines, *EXAMPLES.pipelines}))
+    words.add_argument("--examples", dest="suite", action="store_const", const=EXAMPLES)
+    words.add_argument("--untuned", dest="suite", action="store_const", const=UNTUNED)
+    words.set_defaults(suite=FIFTEEN)
+    words.add_argument("--only", nargs="+", choices=sorted({*FIFTEEN.pipelines, *EXAMPLES.pipelines, *UNTUNED.pipelines}))
     words.add_argument("--program", type=os.path.abspath, default=PROGRAM)
     words.add_argument("--march", default="native")
     words.add_argument("--numbers", action="store_true")
@@ -195,7 +228,7 @@ def arguments(usage):
 def parsed(words):
     """What the command line says, and its other words, which go to tilefarm."""
     known, options = words.parse_known_args()
-    known.only = known.only or [it for it in known.suite.pipelines if it not in OTHERS]
+    known.only = known.only or known.suite.names()
     if unknown := {*known.only}.difference(known.suite.pipelines):
         sys.exit(f"no pipeline of these has the name {', '.join(sorted(unknown))}")
     if not os.path.exists(known.program):

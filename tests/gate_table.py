@@ -127,6 +127,8 @@ CHECKS = tuple(Entry(*it) for it in (
      "losses, `world` refuses no event, and each node ends with all facts"),
     ("other spellings", ("bench/spellings", "--check", "--program", BUILT), PROOFS,
      "Each pipeline of `bench/pipelines` writes the same bytes in two more spellings that a user could write, over small pictures"),
+    ("untuned pipelines", ("bench/beside", "--check", BUILT), PROOFS,
+     "Each pipeline of `bench/untuned` is accepted, and has the values of the reference evaluator over a small picture"),
     ("texts of the errors", ("tests/test_errors", BUILT), PROOFS,
      "What that page shows is what `tf` and the program say, and each declared fault has its entry"),
     ("commands of the pages", ("tests/test_guide", BUILT), PROOFS,
