@@ -21,3 +21,4 @@ pub use narrow_formulas::evaluate_narrow_formula;
 pub use narrow_reads::find_narrow_formula_constant;
 pub use narrow_source::NarrowSource;
 pub use narrow_stencils::borrow_narrow_stencil_line;
+pub use narrow_sum::NarrowSum;

@@ -25,7 +25,7 @@ const DIFFERENCES: usize = 4;
 
 /// A sum along a row of points: the numbers of the row, if it has been written, and the addends that are not in it yet.
 #[derive(Clone, Copy, Debug)]
-pub(crate) struct NarrowSum<'a> {
+pub struct NarrowSum<'a> {
     pub(crate) is_written: bool,
     pub(crate) tap_count: usize,
     pub(crate) taps: [NarrowTap<'a>; TAPS],
@@ -110,7 +110,7 @@ fn divide_narrow_sum_of_row(
 
 impl<'a> NarrowSum<'a> {
     /// A sum of nothing.
-    pub(crate) fn of_no_narrow_addends() -> NarrowSum<'a>
+    pub fn of_no_narrow_addends() -> NarrowSum<'a>
         ensures written { result.is_written ≡ false }
         ensures taps { result.tap_count ≡ 0 }
         ensures differences { result.difference_count ≡ 0 }
@@ -238,7 +238,7 @@ impl<'a> NarrowSum<'a> {
 
     /// The sum and one more tap.
     #[inline(always)]
-    pub(crate) fn push_narrow_sum_tap(&mut self, tap: NarrowTap<'a>, out: &mut [i16])
+    pub fn push_narrow_sum_tap(&mut self, tap: NarrowTap<'a>, out: &mut [i16])
         requires addends { HasAddends (length out.old) self.old }
         requires tap { length tap.line.now ≡ length out.old }
         ensures addends { HasAddends (length out.old) self.new }
@@ -252,7 +252,7 @@ impl<'a> NarrowSum<'a> {
 
     /// The sum and one more clamped difference.
     #[inline(always)]
-    pub(crate) fn push_narrow_sum_difference(
+    pub fn push_narrow_sum_difference(
         &mut self,
         difference: NarrowClampedDifference<'a>,
         out: &mut [i16],
@@ -308,7 +308,7 @@ impl<'a> NarrowSum<'a> {
     }
 
     /// Writes the sum with a number, wrapped at 16 bits and divided, rounded down.
-    pub(crate) fn divide_narrow_sum(&mut self, number: i16, divisor: u32, out: &mut [i16])
+    pub fn divide_narrow_sum(&mut self, number: i16, divisor: u32, out: &mut [i16])
         requires addends { HasAddends (length out.old) self.old }
         requires divisor { IsDivisor divisor }
         ensures { (f : ℕ → ℤ) → GivesSum (length out.old) f self.old out.old

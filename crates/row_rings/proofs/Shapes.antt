@@ -1,24 +1,18 @@
 -- How rows of stages are made in 16 bits: the shape of each stage.
-use Rattle.std.proofs.Common.{ℕ, zero, suc, ℤ, pos, ◌≡◌, ◌+◌, ◌<◌, List, [], ◌∷◌, ◌++◌, Option, None, Some, length, map, take, slice_get}
-use Rattle.std.proofs.Common.{arith, refl, sym, ap, ◌∙◌, subst, Bool, true, false}
-use Rattle.std.specs.Prelude.{All, if◌then◌else◌, slice_index_or}
-use Rattle.std.specs.Ordering.{int_eq}
+use Rattle.std.proofs.Common.{ℕ, zero, suc, ℤ, ◌≡◌, ◌+◌, ◌<◌, List, [], ◌∷◌, ◌++◌, Option, None, Some, length, map, take, slice_get}
+use Rattle.std.proofs.Common.{arith, refl, sym, ap, ◌∙◌, subst}
+use Rattle.std.specs.Prelude.{All, slice_index_or}
 use Rattle.std.proofs.Math.Logic.{∥∥₁_elim}
 use Rattle.std.proofs.Props.{props}
 use Rattle.std.proofs.lemmas.List.{take_more, map-append}
 use Rattle.std.proofs.lemmas.Option.{none-some, same_Some}
-use Rattle.operators.specs.declared.operator.BinaryOp.TheVariants.{Mul}
-use Rattle.job.specs.Formula.{Formula, number, binary}
+use Rattle.job.specs.Formula.{Formula, number, coordinate, read, unary, binary, ternary, literal, lookup, select, stencil}
 use Rattle.job.specs.Pipeline.{JobCase, function, Stage}
 use Rattle.job.specs.Reads.{EachRead, EachTaken, BodyReads, reads_in}
 use Rattle.job.specs.ReadViews.{same_reads-prop}
 use Rattle.job.specs.Values.{Valuation, formula_value}
 use Rattle.job.specs.Views.{stage_view}
 use Rattle.job.specs.declared.stage.Stage.{Stage as KeptStage}
-use Rattle.narrow_filters.specs.Filters.{difference_formula, tap_formula, taps_formula, filter_formula}
-use Rattle.narrow_filters.specs.declared.filter.NarrowFilter.{NarrowFilter}
-use Rattle.narrow_filters.specs.declared.filter.NarrowFilterCenter.{NarrowFilterCenter}
-use Rattle.narrow_filters.specs.declared.filter.NarrowFilterTap.{NarrowFilterTap}
 use Rattle.tile_eval.specs.Cases.{function_value}
 use Rattle.value_ranges.specs.Narrow.{IsNarrow, IsNarrowFunction}
 use Rattle.row_rings.specs.RingShapes.{IsFormulaBody, IsShapeOf, AreShapesOf}
@@ -34,39 +28,32 @@ formula_read P f cases (Some g) r c is h =
     subst (λ xs. All (λ x. EachTaken P x r c) xs) (∥∥₁_elim is (same_reads-prop (reads_in g) (reads_in f)) (λ e. ap reads_in (same_Some g f e.1)))
     (h.1 g refl)
 
--- where the function is narrow, so is the formula, if that can be so in one way
+-- a formula is narrow at a point in one way
+IsNarrow-prop : (env : Valuation) (f : Formula) (r c : ℤ) → IsProp (IsNarrow env f r c)
+IsNarrow-prop env (number n) r c = hlevel props
+IsNarrow-prop env (coordinate x) r c = hlevel props
+IsNarrow-prop env (read g i j) r c = hlevel props
+IsNarrow-prop env (unary op a) r c = hlevel (IsNarrow-prop env a, props)
+IsNarrow-prop env (binary op a b) r c = hlevel (IsNarrow-prop env a, IsNarrow-prop env b, props)
+IsNarrow-prop env (ternary op a b d) r c = hlevel (IsNarrow-prop env a, IsNarrow-prop env b, IsNarrow-prop env d, props)
+IsNarrow-prop env (literal op a n) r c = hlevel (IsNarrow-prop env a, props)
+IsNarrow-prop env (lookup t a) r c = hlevel props
+IsNarrow-prop env (select a relation b x y) r c =
+    hlevel (IsNarrow-prop env a, IsNarrow-prop env b, IsNarrow-prop env x, IsNarrow-prop env y, props)
+IsNarrow-prop env (stencil g divisor kernel) r c = hlevel props
+
+-- where the function is narrow, so is the formula
 pub formula_narrow : (env : Valuation) (f : Formula) (cases : List JobCase) (otherwise : Option Formula) (r c : ℤ)
-    → IsProp (IsNarrow env f r c) → IsFormulaBody f (function cases otherwise) → IsNarrowFunction env cases otherwise r c → IsNarrow env f r c
-formula_narrow env f cases None r c once is h = absurd (∥∥₁_elim is (λ x y. absurd x) (λ e. none-some f e.1))
-formula_narrow env f cases (Some g) r c once is h =
-    ∥∥₁_elim is once (λ e. subst (λ (x : Formula). IsNarrow env x r c) (same_Some g f e.1) (h.other g refl))
+    → IsFormulaBody f (function cases otherwise) → IsNarrowFunction env cases otherwise r c → IsNarrow env f r c
+formula_narrow env f cases None r c is h = absurd (∥∥₁_elim is (λ x y. absurd x) (λ e. none-some f e.1))
+formula_narrow env f cases (Some g) r c is h =
+    ∥∥₁_elim is (IsNarrow-prop env f r c) (λ e. subst (λ (x : Formula). IsNarrow env x r c) (same_Some g f e.1) (h.other g refl))
 
 -- they have one value
 pub formula_everywhere : (env : Valuation) (f : Formula) (cases : List JobCase) (otherwise : Option Formula) (r c : ℤ)
     → IsFormulaBody f (function cases otherwise) → formula_value env f r c ≡ function_value env cases otherwise r c
 formula_everywhere env f cases otherwise r c is =
     ∥∥₁_elim is (hlevel props) (λ e i. function_value env (sym e.0 i) (sym e.1 i) r c)
-
--- ---- filters
-
--- a tap is narrow at a point in one way
-tap_narrow-prop : (env : Valuation) (center : NarrowFilterCenter) (t : NarrowFilterTap) (r c : ℤ) → IsProp (IsNarrow env (tap_formula center t) r c)
-tap_narrow-prop env center t r c = either (int_eq t.factor (pos 1))
-  where
-    either : (one : Bool)
-        → IsProp (IsNarrow env (if one then difference_formula center t.read else binary Mul (number t.factor) (difference_formula center t.read)) r c)
-    either true = hlevel props
-    either false = hlevel props
-
--- and a filter
-taps_narrow-prop : (env : Valuation) (center : NarrowFilterCenter) (ts : List NarrowFilterTap) (r c : ℤ)
-    → IsProp (IsNarrow env (taps_formula center ts) r c)
-taps_narrow-prop env center [] r c = hlevel props
-taps_narrow-prop env center (t ∷ []) r c = tap_narrow-prop env center t r c
-taps_narrow-prop env center (t ∷ u ∷ ts) r c = hlevel (taps_narrow-prop env center (u ∷ ts) r c, tap_narrow-prop env center t r c, props)
-
-pub filter_narrow-prop : (env : Valuation) (filter : NarrowFilter) (r c : ℤ) → IsProp (IsNarrow env (filter_formula filter) r c)
-filter_narrow-prop env filter r c = hlevel (taps_narrow-prop env filter.center filter.taps.items r c, props)
 
 -- ---- the shapes of stages
 

@@ -5,12 +5,12 @@ use Rattle.job.specs.Formula.{Formula}
 use Rattle.job.specs.declared.stage.Function.{Function}
 use Rattle.job.specs.Pipeline.{Body, plane, function, accumulator, Stage, Pipeline}
 use Rattle.linear_rows.specs.RowFormulas.{linear_formula, IsRightLinear}
-use Rattle.narrow_filters.specs.Filters.{filter_formula, IsRightFilter}
 use Rattle.narrow_pieces.specs.Pieces.{AreFunctionPieces}
 use Rattle.narrow_pieces.specs.declared.piece.NarrowPieces.{NarrowPieces}
+use Rattle.narrow_sums.specs.SumRows.{sum_row_formula}
 use Rattle.wide_divisions.specs.DivisionSteps.{step_formula, IsRightStep}
 use Rattle.row_rings.specs.declared.ring_shapes.RingShape.{RingShape}
-use Rattle.row_rings.specs.declared.ring_shapes.RingShape.TheVariants.{Linear, Pieces, Filter, Division, Phases, Other}
+use Rattle.row_rings.specs.declared.ring_shapes.RingShape.TheVariants.{Linear, Sum, Pieces, Division, Phases, Other}
 use Rattle.row_rings.specs.NarrowRings.{is_linear_body}
 
 -- a function that is this formula everywhere
@@ -34,8 +34,8 @@ IsPhasedBody phases (accumulator fold bins value bin) = ⊥
 -- rows that are made so are those of the body. A body of another shape than that of a linear row is none
 abbrev pub IsShapeOf : RingShape → Body → Type 0
 IsShapeOf (Linear row) body = IsFormulaBody (linear_formula row) body × IsRightLinear row
+IsShapeOf (Sum row) body = IsFormulaBody (sum_row_formula row) body × (is_linear_body body ≡ false)
 IsShapeOf (Pieces pieces) body = ArePiecesOfBody pieces body × (is_linear_body body ≡ false)
-IsShapeOf (Filter filter) body = IsFormulaBody (filter_formula filter) body × IsRightFilter filter × (is_linear_body body ≡ false)
 IsShapeOf (Division step) body = IsFormulaBody (step_formula step) body × IsRightStep step × (is_linear_body body ≡ false)
 IsShapeOf (Phases phases) body = IsPhasedBody phases.functions.items body × (is_linear_body body ≡ false)
 IsShapeOf Other body = is_linear_body body ≡ false

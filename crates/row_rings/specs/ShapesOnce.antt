@@ -6,12 +6,11 @@ use Rattle.job.specs.Formula.{Formula}
 use Rattle.job.specs.declared.stage.Function.{Function}
 use Rattle.job.specs.Pipeline.{Body, plane, function, accumulator, Stage}
 use Rattle.linear_rows.specs.LinearOnce.{IsRightLinear-prop}
-use Rattle.narrow_filters.specs.FiltersOnce.{IsRightFilter-prop}
 use Rattle.narrow_pieces.specs.PiecesOnce.{AreFunctionPieces-prop}
 use Rattle.narrow_pieces.specs.declared.piece.NarrowPieces.{NarrowPieces}
 use Rattle.wide_divisions.specs.StepsOnce.{IsRightStep-prop}
 use Rattle.row_rings.specs.declared.ring_shapes.RingShape.{RingShape}
-use Rattle.row_rings.specs.declared.ring_shapes.RingShape.TheVariants.{Linear, Pieces, Filter, Division, Phases, Other}
+use Rattle.row_rings.specs.declared.ring_shapes.RingShape.TheVariants.{Linear, Sum, Pieces, Division, Phases, Other}
 use Rattle.row_rings.specs.RingShapes.{IsFormulaBody, ArePiecesOfBody, IsPhasedBody, IsShapeOf, AreShapesOf}
 
 IsFormulaBody-prop : (f : Formula) (body : Body) → IsProp (IsFormulaBody f body)
@@ -31,8 +30,8 @@ IsPhasedBody-prop phases (accumulator fold bins value bin) = hlevel props
 
 IsShapeOf-prop : (shape : RingShape) (body : Body) → IsProp (IsShapeOf shape body)
 IsShapeOf-prop (Linear row) body = hlevel (IsFormulaBody-prop, IsRightLinear-prop, props)
+IsShapeOf-prop (Sum row) body = hlevel (IsFormulaBody-prop, props)
 IsShapeOf-prop (Pieces pieces) body = hlevel (ArePiecesOfBody-prop, props)
-IsShapeOf-prop (Filter filter) body = hlevel (IsFormulaBody-prop, IsRightFilter-prop, props)
 IsShapeOf-prop (Division step) body = hlevel (IsFormulaBody-prop, IsRightStep-prop, props)
 IsShapeOf-prop (Phases phases) body = hlevel (IsPhasedBody-prop, props)
 IsShapeOf-prop Other body = hlevel props

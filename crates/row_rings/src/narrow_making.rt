@@ -29,9 +29,9 @@ use domains::Area;
 use job::{Body, Function, Job};
 use linear_rows::write_linear_row;
 use narrow_eval::{NarrowSource, evaluate_narrow_formula, evaluate_narrow_function};
-use narrow_filters::write_narrow_filter;
 use narrow_kernels::convert_samples_to_narrow_row;
 use narrow_pieces::write_narrow_pieces;
+use narrow_sums::write_narrow_sum_row;
 use netpbm::Picture;
 use row_plans::RowState;
 use tile_eval::RowSpan;
@@ -100,8 +100,8 @@ fn write_shaped_row_to_narrow_ring<S: NarrowSource>(
 {
     match shape {
         RingShape::Linear(linear) => write_linear_row(source, linear, points, out),
+        RingShape::Sum(sum) => write_narrow_sum_row(source, sum, points, out),
         RingShape::Pieces(pieces) => write_narrow_pieces(source, function, pieces, points, out),
-        RingShape::Filter(filter) => write_narrow_filter(source, filter, points, out),
         RingShape::Phases(phases) => {
             write_narrow_column_phases(source, function, phases, points, out, temps)
         }

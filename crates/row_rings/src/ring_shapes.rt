@@ -12,8 +12,8 @@ ghost use Rattle.row_rings.specs.RingShapes.{IsShapeOf, AreShapesOf};
 use column_phases::{ColumnPhases, find_column_phases};
 use job::{Body, Function, Job, Stage};
 use linear_rows::{LinearRow, find_linear_row};
-use narrow_filters::{NarrowFilter, find_narrow_filter};
 use narrow_pieces::{NarrowPieces, find_narrow_pieces};
+use narrow_sums::{NarrowSumRow, find_narrow_sum_row};
 use std::alloc::{AllocError, Global};
 use wide_divisions::{DivisionStep, find_division_step};
 
@@ -22,8 +22,8 @@ use wide_divisions::{DivisionStep, find_division_step};
 #[derive(Drop)]
 pub(crate) enum RingShape<'a> {
     Linear(LinearRow<'a>),
+    Sum(NarrowSumRow<'a>),
     Pieces(NarrowPieces<'a>),
-    Filter(NarrowFilter<'a>),
     Division(DivisionStep<'a>),
     Phases(ColumnPhases),
     Other,
@@ -39,11 +39,11 @@ fn find_ring_shape_besides_linear<'a>(
     ensures { IfOk result (λ shape. IsShapeOf shape (function_body (map case_view function.now.cases.items)
         (option_map formula_view function.now.otherwise))) }
 {
+    if let Some(sum) = find_narrow_sum_row(alloc, function)? {
+        return Ok(RingShape::Sum(sum));
+    }
     if let Some(pieces) = find_narrow_pieces(function) {
         return Ok(RingShape::Pieces(pieces));
-    }
-    if let Some(filter) = find_narrow_filter(alloc, function)? {
-        return Ok(RingShape::Filter(filter));
     }
     if let Some(step) = find_division_step(function) {
         return Ok(RingShape::Division(step));

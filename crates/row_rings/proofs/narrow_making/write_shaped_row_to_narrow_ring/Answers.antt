@@ -3,11 +3,11 @@ use Rattle.std.specs.Option.{option_map}
 use Rattle.job.specs.Pipeline.{function}
 use Rattle.job.specs.Views.{case_view, formula_view}
 use Rattle.linear_rows.specs.RowFormulas.{linear_formula}
-use Rattle.narrow_filters.specs.Filters.{filter_formula}
+use Rattle.narrow_sums.specs.SumRows.{sum_row_formula}
 use Rattle.value_ranges.specs.Narrow.{Fits16}
 use Rattle.row_rings.specs.RingShapes.{IsShapeOf}
 use Rattle.row_rings.specs.declared.ring_shapes.RingShape.{RingShape}
-use Rattle.row_rings.proofs.Shapes.{formula_read, formula_narrow, formula_everywhere, filter_narrow-prop}
+use Rattle.row_rings.proofs.Shapes.{formula_read, formula_narrow, formula_everywhere}
 use Rattle.row_rings.proofs.narrow_making.write_shaped_row_to_narrow_ring.Goals as goal
 
 -- ---- a linear row
@@ -45,6 +45,34 @@ returns-in-Linear g c = λ k h.
     ∙ formula_everywhere (g.S.NarrowSource.samples c.args.source.now) (linear_formula c.in-Linear.linear) (map case_view f.cases.items)
     (option_map formula_view f.otherwise) _ _ is.0
 
+-- ---- a sum
+
+pub write_narrow_sum_row-requires-clause-reads : goal.write_narrow_sum_row-requires-clause-reads
+write_narrow_sum_row-requires-clause-reads g c = λ k h.
+    let f = c.args.function.now in
+    let is = subst (λ (shape : RingShape). IsShapeOf shape (function (map case_view f.cases.items) (option_map formula_view f.otherwise)))
+    c.in-Sum.is c.requires.shape in
+    formula_read (g.S.NarrowSource.has c.args.source.now) (sum_row_formula c.in-Sum.sum) (map case_view f.cases.items)
+    (option_map formula_view f.otherwise) _ _ is.0 (c.requires.reads k (omega (arith, h, c.requires.fits)))
+
+pub write_narrow_sum_row-requires-clause-narrow : goal.write_narrow_sum_row-requires-clause-narrow
+write_narrow_sum_row-requires-clause-narrow g c = λ k h.
+    let f = c.args.function.now in
+    let is = subst (λ (shape : RingShape). IsShapeOf shape (function (map case_view f.cases.items) (option_map formula_view f.otherwise)))
+    c.in-Sum.is c.requires.shape in
+    formula_narrow (g.S.NarrowSource.samples c.args.source.now) (sum_row_formula c.in-Sum.sum) (map case_view f.cases.items)
+    (option_map formula_view f.otherwise) _ _ is.0
+    ((c.requires.function is.1).narrow k (omega (arith, h, c.requires.fits)))
+
+pub returns-in-Sum : goal.returns-in-Sum
+returns-in-Sum g c = λ k h.
+    let f = c.args.function.now in
+    let is = subst (λ (shape : RingShape). IsShapeOf shape (function (map case_view f.cases.items) (option_map formula_view f.otherwise)))
+    c.in-Sum.is c.requires.shape in
+    c.write_narrow_sum_row.ensures k h
+    ∙ formula_everywhere (g.S.NarrowSource.samples c.args.source.now) (sum_row_formula c.in-Sum.sum) (map case_view f.cases.items)
+    (option_map formula_view f.otherwise) _ _ is.0
+
 -- ---- pieces
 
 pub write_narrow_pieces-requires-clause-pieces : goal.write_narrow_pieces-requires-clause-pieces
@@ -59,40 +87,6 @@ write_narrow_pieces-requires-clause-narrow g c =
     let is = subst (λ (shape : RingShape). IsShapeOf shape (function (map case_view f.cases.items) (option_map formula_view f.otherwise)))
     c.in-Pieces.is c.requires.shape in
     (c.requires.function is.1).narrow
-
--- ---- a filter
-
-pub write_narrow_filter-requires-clause-right : goal.write_narrow_filter-requires-clause-right
-write_narrow_filter-requires-clause-right g c =
-    let f = c.args.function.now in
-    (subst (λ (shape : RingShape). IsShapeOf shape (function (map case_view f.cases.items) (option_map formula_view f.otherwise)))
-    c.in-Filter.is c.requires.shape).1
-
-pub write_narrow_filter-requires-clause-reads : goal.write_narrow_filter-requires-clause-reads
-write_narrow_filter-requires-clause-reads g c = λ k h.
-    let f = c.args.function.now in
-    let is = subst (λ (shape : RingShape). IsShapeOf shape (function (map case_view f.cases.items) (option_map formula_view f.otherwise)))
-    c.in-Filter.is c.requires.shape in
-    formula_read (g.S.NarrowSource.has c.args.source.now) (filter_formula c.in-Filter.filter) (map case_view f.cases.items)
-    (option_map formula_view f.otherwise) _ _ is.0 (c.requires.reads k (omega (arith, h, c.requires.fits)))
-
-pub write_narrow_filter-requires-clause-narrow : goal.write_narrow_filter-requires-clause-narrow
-write_narrow_filter-requires-clause-narrow g c = λ k h.
-    let f = c.args.function.now in
-    let is = subst (λ (shape : RingShape). IsShapeOf shape (function (map case_view f.cases.items) (option_map formula_view f.otherwise)))
-    c.in-Filter.is c.requires.shape in
-    formula_narrow (g.S.NarrowSource.samples c.args.source.now) (filter_formula c.in-Filter.filter) (map case_view f.cases.items)
-    (option_map formula_view f.otherwise) _ _ (filter_narrow-prop (g.S.NarrowSource.samples c.args.source.now) c.in-Filter.filter _ _) is.0
-    ((c.requires.function is.2).narrow k (omega (arith, h, c.requires.fits)))
-
-pub returns-in-Filter : goal.returns-in-Filter
-returns-in-Filter g c = λ k h.
-    let f = c.args.function.now in
-    let is = subst (λ (shape : RingShape). IsShapeOf shape (function (map case_view f.cases.items) (option_map formula_view f.otherwise)))
-    c.in-Filter.is c.requires.shape in
-    c.write_narrow_filter.ensures k h
-    ∙ formula_everywhere (g.S.NarrowSource.samples c.args.source.now) (filter_formula c.in-Filter.filter) (map case_view f.cases.items)
-    (option_map formula_view f.otherwise) _ _ is.0
 
 -- ---- phases
 

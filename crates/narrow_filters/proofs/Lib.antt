@@ -1,4 +1,0 @@
-pub mod Centered
-pub mod FoundTaps
-pub mod TapRows
-pub mod FilterValues

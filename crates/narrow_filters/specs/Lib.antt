@@ -1,3 +1,0 @@
-pub mod Filters
-pub mod FiltersOnce
-pub mod inside

@@ -1,0 +1,2 @@
+pub mod SumRows
+pub mod inside
