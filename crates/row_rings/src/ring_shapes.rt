@@ -17,8 +17,8 @@ use narrow_sums::{NarrowSumRow, find_narrow_sum_row};
 use std::alloc::{AllocError, Global};
 use wide_divisions::{DivisionStep, find_division_step};
 
-/// How the rows of a stage are made: as those of a function that is written in one pass or a few, by phases, or by its formulas. Rows of 32 bits may be steps of a division; those of 16 bits have the other passes. Both may be made
-/// by phases or by formulas.
+/// How the rows of a stage are made: as those of a function that is written in one pass or a few, by phases, or by its formulas. Rows of
+/// 32 bits may be steps of a division; those of 16 bits have the other passes. Both may be made by phases or by formulas.
 #[derive(Drop)]
 pub(crate) enum RingShape<'a> {
     Linear(LinearRow<'a>),
