@@ -25,7 +25,7 @@ nothing : (n : ℕ) → pos 0 ≡ sum_below n (λ k. pos 0)
 nothing zero = refl
 nothing (suc n) = ap (λ (z : ℤ). z +ℤ pos 0) (nothing n)
 
-both : (n : ℕ) (f h : ℕ → ℤ) → sum_below n f +ℤ sum_below n h ≡ sum_below n (λ k. f k +ℤ h k)
+pub both : (n : ℕ) (f h : ℕ → ℤ) → sum_below n f +ℤ sum_below n h ≡ sum_below n (λ k. f k +ℤ h k)
 both zero f h = refl
 both (suc n) f h =
     grouped (sum_below n f) (f n) (sum_below n h) (h n) ∙ ap (λ (z : ℤ). z +ℤ (f n +ℤ h n)) (both n f h)

@@ -8,6 +8,7 @@ mod quintuple;
 mod row_sums;
 mod separable;
 mod stencil;
+mod symmetric;
 
 pub use row_sums::write_tap_sums;
 pub use separable::SeparableKernel;

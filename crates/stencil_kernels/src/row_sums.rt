@@ -9,6 +9,7 @@ ghost use Rattle.stencil_kernels.specs.Stencil.{tap_sum};
 
 use crate::quintuple::FactorQuintuple;
 use crate::stencil::add_tap_sums;
+use crate::symmetric::SymmetricFactors;
 use row_loops::fill_row;
 
 // Writes the sums of the products of the first five factors of a line, if there are so many; else of none. Returns how many.
@@ -18,6 +19,10 @@ fn write_first_tap_sums_and_count_taps(out: &mut [i32], line: &[i32], factors: &
     ensures sums { EachPlace (length out.old) (λ k. at out.new k
         ≡ wrapped (sum_below result (λ b. at factors.now b *ℤ at line.now (k + b)))) }
 {
+    if let Some(five) = SymmetricFactors::from_first_factors(factors) {
+        five.write_symmetric_sums(out, line);
+        return 5;
+    }
     if let Some(five) = FactorQuintuple::from_first_factors(factors) {
         five.write_sums(out, line);
         return 5;

@@ -8,6 +8,7 @@ ghost use Rattle.row_loops.specs.Rows.{EachPlace, at};
 ghost use Rattle.stencil_kernels.specs.Stencil.{tap_sum};
 
 use crate::quintuple::FactorQuintuple;
+use crate::symmetric::SymmetricFactors;
 use row_loops::{ScaledRightOperand, Sum, combine_row_in_place};
 
 /// Adds the products of a factor and the samples of a line.
@@ -33,6 +34,10 @@ fn add_first_tap_sums_and_count_taps(out: &mut [i32], line: &[i32], factors: &[i
         → at out.new k
         ≡ wrapped (s +ℤ sum_below result (λ b. at factors.now b *ℤ at line.now (k + b)))) }
 {
+    if let Some(five) = SymmetricFactors::from_first_factors(factors) {
+        five.add_symmetric_product_sums(out, line);
+        return 5;
+    }
     if let Some(five) = FactorQuintuple::from_first_factors(factors) {
         five.add_product_sums(out, line);
         return 5;

@@ -7,6 +7,11 @@ use Rattle.stencil_kernels.proofs.stencil.add_first_tap_sums_and_count_taps.Goal
 pub returns-in-Some-clause-sums : goal.returns-in-Some-clause-sums
 returns-in-Some-clause-sums c = λ k h s e.
     piece_sum 5 c.in-Some.five c.args.factors.now c.args.line.now k s _ _ c.in-Some.ensures.is c.in-Some.ensures.many e
+    (c.add_symmetric_product_sums.ensures k h)
+
+pub returns-in-Some-from_first_factors-clause-sums : goal.returns-in-Some-from_first_factors-clause-sums
+returns-in-Some-from_first_factors-clause-sums c = λ k h s e.
+    piece_sum 5 c.in-Some-from_first_factors.five c.args.factors.now c.args.line.now k s _ _ c.in-Some-from_first_factors.ensures.is c.in-Some-from_first_factors.ensures.many e
     (c.add_product_sums.ensures k h)
 
 pub returns-clause-sums : goal.returns-clause-sums
