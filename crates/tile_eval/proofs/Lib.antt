@@ -9,3 +9,4 @@ pub mod RowByRow
 pub mod NearAreas
 pub mod SpansByParts
 pub mod Separated
+pub mod RowPairs

@@ -1,20 +1,20 @@
 #![tactic(auto)]
 //! Stencils along rows of points.
 
-ghost use Rattle.std.specs.Prelude.{◌≡◌, ◌≤◌, ◌<◌, ◌+◌, ◌+ℤ◌, ℤ, pos, length, IfSome, IsTrue};
+ghost use Rattle.std.specs.Prelude.{◌≡◌, ◌≤◌, ◌<◌, ◌+◌, ◌+ℤ◌, ℤ, pos, length, IfSome, IsTrue, IsFalse};
 ghost use Rattle.domains.specs.Arithmetic.{wrapped, floor_div};
 ghost use Rattle.job.specs.Values.{kernel_row, kernel_column, weighted_sum};
 ghost use Rattle.job.specs.WellFormed.{IsDivisor, IsKernel};
 ghost use Rattle.row_loops.specs.Rows.{EachPlace, at};
 ghost use Rattle.stencil_kernels.specs.Separable.{IsSeparable};
 ghost use Rattle.tile_eval.specs.Reading.{KernelWithin};
-ghost use Rattle.tile_eval.specs.inside.Stencil.{row_sum, column_sum, IsUnder};
+ghost use Rattle.tile_eval.specs.inside.Stencil.{row_sum, column_sum, IsUnder, IsUnderTwoRows};
 
 use crate::source::RowSource;
 use crate::source_row::SourceRow;
 use job::Kernel;
 use row_kernels::{Operand, write_quotients_by_literal_to_row};
-use row_loops::fill_row;
+use row_loops::{Sum, fill_row, write_combination_of_two_rows};
 use stencil_kernels::{SeparableKernel, add_line_times_factor, add_tap_sums, write_tap_sums};
 
 // Along rows of fewer points, splitting a kernel costs more time than it saves.
@@ -123,7 +123,81 @@ impl<'a, S: RowSource> SourceRow<'a, S> {
         add_tap_sums(out, line, factors);
     }
 
-    // The sums of a stencil, a row of the kernel at a time.
+    // The sums of the samples under two rows of a kernel. Returns false if not all of them can be borrowed from the source.
+    fn try_line_sums_under_kernel_rows(
+        &self,
+        stage: usize,
+        kernel: &Kernel,
+        a: usize,
+        b: usize,
+        sums: &mut [i32],
+    ) -> bool
+        requires kernel { IsKernel kernel.now }
+        requires a { a < length kernel.now }
+        requires b { b < length kernel.now }
+        requires first { EachPlace (length sums.old) (λ j. S.has self.now.source.now stage
+            (kernel_row kernel.now self.now.points.row a)
+            (kernel_column kernel.now self.now.points.col j)) }
+        requires second { EachPlace (length sums.old) (λ j. S.has self.now.source.now stage
+            (kernel_row kernel.now self.now.points.row b)
+            (kernel_column kernel.now self.now.points.col j)) }
+        ensures { IsTrue result
+            → IsUnderTwoRows kernel.now (S.samples self.now.source.now stage)
+            self.now.points.row self.now.points.col a b sums.new }
+    {
+        let Some(first) = self.borrow_line_under_kernel_row(stage, kernel, a, sums.len()) else {
+            return false;
+        };
+        let Some(second) = self.borrow_line_under_kernel_row(stage, kernel, b, sums.len()) else {
+            return false;
+        };
+        write_combination_of_two_rows(sums, first, second, Sum);
+        true
+    }
+
+    // Adds what two rows of a kernel with the same factors give: the samples under them are added first. Returns false, and adds
+    // nothing, if the factors differ, or if not all samples can be borrowed from the source.
+    fn try_sums_of_equal_kernel_rows(
+        &self,
+        stage: usize,
+        kernel: &Kernel,
+        a: usize,
+        b: usize,
+        out: &mut [i32],
+        temps: &mut [i32],
+    ) -> bool
+        requires kernel { IsKernel kernel.now }
+        requires a { a < length kernel.now }
+        requires b { b < length kernel.now }
+        requires reads { KernelWithin (S.has self.now.source.now stage) kernel.now
+            self.now.points.row self.now.points.col (length out.old) }
+        requires room { length out.old + 14 ≤ length temps.old }
+        ensures added { IsTrue result → EachPlace (length out.old) (λ k. (s : ℤ)
+            → at out.old k ≡ wrapped s
+            → at out.new k
+            ≡ wrapped (s
+            +ℤ row_sum kernel.now (S.samples self.now.source.now stage) self.now.points.row
+            (self.now.points.col +ℤ pos k) a
+            +ℤ row_sum kernel.now (S.samples self.now.source.now stage) self.now.points.row
+            (self.now.points.col +ℤ pos k) b)) }
+        ensures nothing { IsFalse result → out.new ≡ out.old }
+    {
+        let factors = kernel.as_slice()[a].as_slice();
+        let equal = factors == kernel.as_slice()[b].as_slice();
+        if !equal {
+            return false;
+        }
+        let count = out.len() + factors.len() - 1;
+        let sums = &mut temps[..count];
+        if !self.try_line_sums_under_kernel_rows(stage, kernel, a, b, sums) {
+            return false;
+        }
+        add_tap_sums(out, sums, factors);
+        true
+    }
+
+    // The sums of a stencil, a row of the kernel at a time. A row is added together with the last one that is left, if that has the same
+    // factors.
     fn evaluate_stencil_sums_by_kernel_rows(
         &self,
         stage: usize,
@@ -140,8 +214,16 @@ impl<'a, S: RowSource> SourceRow<'a, S> {
             self.now.points.row (self.now.points.col +ℤ pos k))) }
     {
         fill_row(out, 0);
-        for a in 0..kernel.as_slice().len() {
-            self.add_kernel_row_sums(stage, kernel, a, out, temps);
+        let mut a = 0;
+        let mut end = kernel.as_slice().len();
+        while a < end {
+            let last = end - 1;
+            if a < last && self.try_sums_of_equal_kernel_rows(stage, kernel, a, last, out, temps) {
+                end = last;
+            } else {
+                self.add_kernel_row_sums(stage, kernel, a, out, temps);
+            }
+            a += 1;
         }
     }
 
