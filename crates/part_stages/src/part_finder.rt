@@ -11,9 +11,10 @@ use crate::column_kernels::{
 };
 use crate::part_counts::{PartForms, find_formula_of_part_forms, is_most_of_part_area};
 use crate::part_forms::PartForm;
+use crate::part_quotients::{is_light_beside_part_quotients, is_part_quotient};
 use crate::part_ranks::has_own_part_reads;
 use crate::part_stages::PartStages;
-use job::{Formula, Job, Read, Stage};
+use job::{Body, Formula, Job, Read, Stage};
 use std::alloc::{AllocError, Global};
 
 /// What was found of a job.
@@ -24,6 +25,8 @@ struct PartFinder {
     is_found: bool,
     // The place of the part that is looked at next.
     place: usize,
+    // Whether quotients that are parts of its formula become stages: this is none itself, and all else fits in 16 bits.
+    has_quotients: bool,
 }
 
 // The stages of a job of which parts of formulas are the formulas.
@@ -50,6 +53,14 @@ fn reads_most_of_repeated_part(job: &Job, reader: &Stage, form: PartForm) -> boo
     match job.stage(source) {
         Some(from) => is_most_of_part_area(reader.domain(), from.domain()),
         None => false,
+    }
+}
+
+// Whether a function has cases, so that its formulas may be the formulas of other stages.
+fn has_case_parts(reader: &Stage) -> bool {
+    match reader.body() {
+        Body::Function(function) => !function.cases().is_empty(),
+        Body::Plane(_) | Body::Accumulator(_) => false,
     }
 }
 
@@ -127,12 +138,63 @@ impl PartFinder {
             self.is_found = true;
             return Ok(true);
         }
-        if !forms.is_repeated_part(form) || !reads_most_of_repeated_part(job, reader, form) {
+        let is_wanted = forms.is_repeated_part(form)
+            || self.has_quotients && is_part_quotient(formula);
+        if !is_wanted || !reads_most_of_repeated_part(job, reader, form) {
             return Ok(false);
         }
         let is_made = self.parts.push_part_stage(alloc, job, formula)?;
         self.is_found = self.is_found || is_made;
         Ok(is_made)
+    }
+
+    // Adds the stage of a formula of a function with cases, if there is none. Whether there is one.
+    fn find_case_part(
+        &mut self,
+        alloc: Global,
+        job: &Job,
+        forms: &PartForms,
+        reader: &Stage,
+        formula: &Formula,
+    ) -> Result<bool, AllocError>
+        ensures { OnOk result (ArePartStages (pipeline_in job.now) self.old.parts
+            → ArePartStages (pipeline_in job.now) self.new.parts) }
+    {
+        let Some(form) = forms.part_form(self.place) else {
+            return Ok(false);
+        };
+        if !form.is_near || !reads_most_of_repeated_part(job, reader, form) {
+            return Ok(false);
+        }
+        if !self.parts.has_part_formula(formula)
+            && !self.parts.push_part_stage(alloc, job, formula)?
+        {
+            return Ok(false);
+        }
+        self.is_found = true;
+        self.place = self.place.saturating_add(form.size);
+        Ok(true)
+    }
+
+    // Adds the stages of the parts of a formula: of all of it, where it is a quotient beside other cases.
+    fn find_case_or_repeated_parts(
+        &mut self,
+        alloc: Global,
+        job: &Job,
+        forms: &PartForms,
+        reader: &Stage,
+        formula: &Formula,
+    ) -> Result<(), AllocError>
+        ensures { OnOk result (ArePartStages (pipeline_in job.now) self.old.parts
+            → ArePartStages (pipeline_in job.now) self.new.parts) }
+    {
+        let is_quotient = is_part_quotient(formula);
+        self.has_quotients = !is_quotient && is_light_beside_part_quotients(formula);
+        let is_case = is_quotient && has_case_parts(reader);
+        if is_case && self.find_case_part(alloc, job, forms, reader, formula)? {
+            return Ok(());
+        }
+        self.find_repeated_parts_of_formula(alloc, job, forms, reader, formula)
     }
 
     // Adds the stages of the repeated parts of a formula.
@@ -195,7 +257,7 @@ impl PartFinder {
     {
         for place in 0..forms.count_part_formulas(number, reader) {
             if let Some(formula) = find_formula_of_part_forms(reader, place) {
-                self.find_repeated_parts_of_formula(alloc, job, forms, reader, formula)?;
+                self.find_case_or_repeated_parts(alloc, job, forms, reader, formula)?;
             }
         }
         Ok(())
@@ -218,8 +280,9 @@ impl PartFinder {
     }
 }
 
-/// Stages for the parts that formulas of a job repeat, and for the columns of its kernels that are products of a column and a row and
-/// are faster in two steps, to stand behind its own. None where there is nothing of the kind.
+/// Stages for the parts that formulas of a job repeat, for quotients that are computed in 16 bits only as functions of their own, and
+/// for the columns of its kernels that are products of a column and a row and are faster in two steps, to stand behind its own. None
+/// where there is nothing of the kind.
 ///
 /// # Errors
 ///
@@ -235,6 +298,7 @@ pub fn find_part_stages(alloc: Global, job: &Job) -> Result<Option<PartStages>, 
         parts: list_whole_parts(alloc, job, &forms)?,
         is_found: false,
         place: 0,
+        has_quotients: false,
     };
     finder.find_column_stages(alloc, job)?;
     finder.find_repeated_parts(alloc, job, &forms)?;

@@ -78,8 +78,8 @@ impl PartForm {
     }
 }
 
-// Whether an index is a step.
-fn is_part_step(index: &Index) -> bool {
+/// Whether an index is a step.
+pub(crate) fn is_part_step(index: &Index) -> bool {
     index.mul() == 1 && index.div() == 1
 }
 
