@@ -5,11 +5,27 @@ ghost use Rattle.std.specs.Prelude.{◌≡◌, IfOk, map};
 ghost use Rattle.std.specs.List.{AllZip};
 ghost use Rattle.std.specs.Option.{option_map};
 ghost use Rattle.job.specs.Views.{case_view, formula_view};
+ghost use Rattle.joined_formulas.specs.Joins.{Joins};
 ghost use Rattle.normal_jobs.specs.StandIns.{StandsForCase, StandsForOther};
 
 use job::{Formula, Function, JobCase};
-use joined_formulas::{StageFormula, make_joined_formula};
+use joined_formulas::{StageFormula, find_joined_part, make_joined_formula};
 use std::alloc::{AllocError, Global};
+
+// The formula of a function with cases in normal form. (It may be the read of a stage that has its values. A function without cases reads
+// no such stage: this may be itself.)
+fn make_normal_case_formula(
+    alloc: Global,
+    known: &[StageFormula],
+    formula: &Formula,
+) -> Result<Formula, AllocError>
+    ensures { IfOk result (λ made. Joins known.now (formula_view formula.now) (formula_view made)) }
+{
+    match find_joined_part(known, formula) {
+        Some(read) => Ok(read),
+        None => make_joined_formula(alloc, known, formula),
+    }
+}
 
 // The case with its formula in normal form.
 fn make_normal_case(
@@ -19,7 +35,7 @@ fn make_normal_case(
 ) -> Result<JobCase, AllocError>
     ensures { IfOk result (λ made. StandsForCase known.now (case_view case.now) (case_view made)) }
 {
-    let formula = make_joined_formula(alloc, known, case.formula())?;
+    let formula = make_normal_case_formula(alloc, known, case.formula())?;
     JobCase::new(alloc, *case.area(), case.tests().to_vec(alloc)?, formula)
 }
 
@@ -44,11 +60,13 @@ fn make_normal_otherwise(
     alloc: Global,
     known: &[StageFormula],
     otherwise: &Option<Formula>,
+    has_cases: bool,
 ) -> Result<Option<Formula>, AllocError>
     ensures { IfOk result (λ made. StandsForOther known.now (option_map formula_view otherwise.now)
         (option_map formula_view made)) }
 {
     match otherwise {
+        Some(formula) if has_cases => { Ok(Some(make_normal_case_formula(alloc, known, formula)?)) }
         Some(formula) => Ok(Some(make_joined_formula(alloc, known, formula)?)),
         None => Ok(None),
     }
@@ -71,6 +89,7 @@ pub(crate) fn make_normal_function(
         (option_map formula_view made.otherwise)) }
 {
     let cases = make_normal_cases(alloc, known, function.cases())?;
-    let otherwise = make_normal_otherwise(alloc, known, function.otherwise())?;
+    let has_cases = !function.cases().is_empty();
+    let otherwise = make_normal_otherwise(alloc, known, function.otherwise(), has_cases)?;
     Function::new(alloc, cases, otherwise)
 }
