@@ -8,7 +8,9 @@ ghost use Rattle.column_phases.specs.Phases.{ArePhasesOf};
 
 use crate::phase::ColumnPhase;
 use crate::phase_fault::PhaseFault;
-use crate::weighing::{do_column_phases_pay, weigh_column_phase_reads};
+use crate::weighing::{
+    alternates_by_column_phase_tests, do_column_phases_pay, weigh_column_phase_reads,
+};
 use job::Function;
 use std::alloc::{AllocError, Global};
 
@@ -71,7 +73,7 @@ pub fn find_column_phases(
     ensures { IfOk result (λ found. IfSome found (λ phases. ArePhasesOf phases.functions.items
         (map case_view function.now.cases.items) (option_map formula_view function.now.otherwise))) }
 {
-    if weigh_column_phase_reads(function) == 0 {
+    if weigh_column_phase_reads(function) == 0 && !alternates_by_column_phase_tests(function) {
         return Ok(None);
     }
     for period in 2..5 {
