@@ -1,9 +1,8 @@
 #![tactic(auto)]
 //! The next row of a ring, from the rows of others.
 
-ghost use Rattle.std.specs.Prelude.{◌≡◌, ◌<◌, ◌+ℤ◌, pos, length, map};
+ghost use Rattle.std.specs.Prelude.{◌≡◌, ◌<◌, pos, length, map};
 ghost use Rattle.std.specs.Option.{option_map};
-ghost use Rattle.column_phases.specs.Phases.{ArePhasesOf};
 ghost use Rattle.domains.specs.Span.{len_of};
 ghost use Rattle.job.specs.Kept.{pipeline_in};
 ghost use Rattle.job.specs.Pipeline.{function as function_body};
@@ -11,23 +10,20 @@ ghost use Rattle.job.specs.Values.{sample_at};
 ghost use Rattle.job.specs.Views.{case_view, formula_view};
 ghost use Rattle.row_loops.specs.Rows.{EachPlace, at};
 ghost use Rattle.row_plans.specs.Rows.{next_row};
-ghost use Rattle.row_rings.specs.RingRows.{sample_in, IsKeptPoint};
 ghost use Rattle.row_rings.specs.RingShapes.{IsFormulaBody, IsShapeOf, IsStageShape};
 ghost use Rattle.row_rings.specs.TrueRings.{AreTrueRings, HasStageRoom};
-ghost use Rattle.row_rings.specs.inside.Making.{row_area, IsPictureRow, IsRowToWrite, IsFunctionRow, IsMakeable, IsValueRow, HasOneRowMore};
-ghost use Rattle.tile_eval.specs.Cases.{function_value, IsComputable};
-ghost use Rattle.tile_eval.specs.Reading.{HasFunctionRoom};
+ghost use Rattle.row_rings.specs.inside.Making.{IsPictureRow, IsRowToWrite, IsFunctionRow, IsMakeable, IsValueRow, HasOneRowMore};
 ghost use Rattle.wide_divisions.specs.DivisionSteps.{step_formula, IsRightStep};
 
 use crate::ring::{RowRing, RowRings};
 use crate::ring_shapes::RingShape;
-use column_phases::{ColumnPhases, write_wide_column_phases};
+use column_phases::write_wide_column_phases;
 use domains::{Area, Span};
 use job::{Body, Function, Job};
 use netpbm::Picture;
 use row_kernels::convert_samples_to_row;
 use row_plans::RowState;
-use tile_eval::{RowSpan, evaluate_function_area, find_span_number_at_position};
+use tile_eval::{RowSpan, SourceRow, evaluate_function_area, find_span_number_at_position};
 use wide_divisions::{DivisionStep, write_division_step};
 
 // Writes a row of a plane, which is counted from the first one of the picture.
@@ -51,7 +47,17 @@ fn write_formula_row_to_ring(
         (length temps.old) }
     ensures { IsFunctionRow known.now.rings.items function.now area.now (length out.old) out.new }
 {
-    evaluate_function_area(known, function, area, out, temps);
+    match (function.cases(), function.otherwise()) {
+        ([], Some(formula)) => {
+            let points = RowSpan::from_area_top(area);
+            let own = SourceRow {
+                source: known,
+                points,
+            };
+            own.evaluate_formula(formula, out, temps);
+        }
+        _ => evaluate_function_area(known, function, area, out, temps),
+    }
 }
 
 // Writes a row of a step of a division, on an area of one row. The contents of the operands' buffer have no meaning.
@@ -77,26 +83,8 @@ fn write_division_row_to_ring(
     }
 }
 
-// Writes a row of a function by its phases, on an area of one row. The contents of the operands' buffer have no meaning.
-fn write_phased_row_to_ring(
-    known: &RowRings<i32>,
-    function: &Function,
-    phases: &ColumnPhases,
-    area: &Area,
-    out: &mut [i32],
-    temps: &mut [i32],
-)
-    requires row { IsRowToWrite known.now.rings.items function.now area.now (length out.old)
-        (length temps.old) }
-    requires phases { ArePhasesOf phases.now.functions.items
-        (map case_view function.now.cases.items) (option_map formula_view function.now.otherwise) }
-    ensures { IsFunctionRow known.now.rings.items function.now area.now (length out.old) out.new }
-{
-    write_wide_column_phases(known, function, phases, area, out, temps);
-}
-
 // Writes a row of a function of this shape, on an area of one row. The contents of the operands' buffer have no meaning.
-fn write_shaped_row_to_ring(
+fn write_function_row_to_ring(
     known: &RowRings<i32>,
     function: &Function,
     shape: &RingShape<'_>,
@@ -115,39 +103,9 @@ fn write_shaped_row_to_ring(
             write_division_row_to_ring(known, function, step, area, out, temps)
         }
         RingShape::Phases(phases) => {
-            write_phased_row_to_ring(known, function, phases, area, out, temps)
+            write_wide_column_phases(known, function, phases, area, out, temps)
         }
         _ => write_formula_row_to_ring(known, function, area, out, temps),
-    }
-}
-
-// Writes a row of a function of this shape. The contents of the operands' buffer have no meaning.
-fn write_function_row_to_ring(
-    known: &RowRings<i32>,
-    function: &Function,
-    shape: &RingShape<'_>,
-    area: &Area,
-    row: i32,
-    out: &mut [i32],
-    temps: &mut [i32],
-)
-    requires function { IsComputable (IsKeptPoint known.now.rings.items) (row_area area.now row)
-        (map case_view function.now.cases.items) (option_map formula_view function.now.otherwise) }
-    requires count { length out.old ≡ len_of area.now.cols }
-    requires room { HasFunctionRoom (len_of area.now.cols) (length temps.old)
-        (map case_view function.now.cases.items) (option_map formula_view function.now.otherwise) }
-    requires shape { IsShapeOf shape.now (function_body (map case_view function.now.cases.items)
-        (option_map formula_view function.now.otherwise)) }
-    ensures { EachPlace (len_of area.now.cols) (λ k. at out.new k
-        ≡ function_value (sample_in known.now.rings.items) (map case_view function.now.cases.items)
-        (option_map formula_view function.now.otherwise) row (area.now.cols.lo +ℤ pos k)) }
-{
-    if let Some(rows) = Span::new(row, row) {
-        let own = Area {
-            rows,
-            cols: area.cols,
-        };
-        write_shaped_row_to_ring(known, function, shape, &own, out, temps);
     }
 }
 
@@ -176,7 +134,13 @@ fn write_stage_row_to_ring(
         Body::Plane(plane) => write_samples_to_ring(job.picture(), *plane, state.next, out),
         Body::Function(function) => {
             let row = find_span_number_at_position(&state.area.rows, state.next as u32);
-            write_function_row_to_ring(known, function, shape, &state.area, row, out, temps);
+            if let Some(rows) = Span::new(row, row) {
+                let own = Area {
+                    rows,
+                    cols: state.area.cols,
+                };
+                write_function_row_to_ring(known, function, shape, &own, out, temps);
+            }
         }
         Body::Accumulator(_) => {}
     }
