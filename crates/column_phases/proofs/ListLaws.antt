@@ -50,3 +50,9 @@ get_grown Q [] x are is zero y e = subst (Q 0) (same_Some x y e) is
 get_grown Q [] x are is (suc p) y e = absurd (none-some y e)
 get_grown Q (z ∷ xs) x are is zero y e = are zero y e
 get_grown Q (z ∷ xs) x are is (suc p) y e = get_grown (λ n. Q (suc n)) xs x (λ n. are (suc n)) is p y e
+
+-- the item of a number is the one that is there
+pub same_item : {K : Type 0} (xs : List K) (i : ℕ) (x f : K) → x ≡ slice_index_or xs i x → slice_get xs i ≡ Some f → x ≡ f
+same_item [] i x f so e = absurd (none-some f e)
+same_item (z ∷ xs) zero x f so e = so ∙ same_Some z f e
+same_item (z ∷ xs) (suc i) x f so e = same_item xs i x f so e

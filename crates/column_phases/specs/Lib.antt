@@ -1,3 +1,4 @@
 pub mod Phases
 pub mod PhasesOnce
 pub mod inside
+pub mod Programs

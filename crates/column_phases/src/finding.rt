@@ -5,6 +5,8 @@ ghost use Rattle.std.specs.Prelude.{◌≡◌, ◌≤◌, ◌<◌, length, map, 
 ghost use Rattle.std.specs.Option.{option_map};
 ghost use Rattle.job.specs.Views.{case_view, formula_view};
 ghost use Rattle.column_phases.specs.Phases.{ArePhasesOf};
+ghost use Rattle.column_phases.specs.Programs.{AreProgramsOf};
+ghost use Rattle.narrow_eval.specs.NarrowPrograms.{IsProgramOf};
 
 use crate::phase::ColumnPhase;
 use crate::phase_fault::PhaseFault;
@@ -12,14 +14,18 @@ use crate::weighing::{
     alternates_by_column_phase_tests, do_column_phases_pay, weigh_column_phase_reads,
 };
 use job::Function;
+use narrow_eval::{NarrowFunction, choose_narrow_function};
 use std::alloc::{AllocError, Global};
 
-/// The phases of a function by a period: what it is at the columns of each rest.
+/// The phases of a function by a period: what it is at the columns of each rest, with programs for rows of 16 bits.
 #[derive(Drop)]
 pub struct ColumnPhases {
     pub(crate) functions: Vec<Function>,
+    pub(crate) programs: Vec<NarrowFunction>,
     ghost least: { 2 ≤ length functions.items },
     ghost most: { length functions.items ≤ 4 },
+    ghost count: { length programs.items ≡ length functions.items },
+    ghost programmed: { AreProgramsOf programs.items functions.items },
 }
 
 impl ColumnPhases {
@@ -32,14 +38,31 @@ impl ColumnPhases {
         self.functions.len()
     }
 
-    /// The phase of a rest.
+    /// The phase of a rest, and its program.
     #[inline]
-    pub(crate) fn borrow_column_phase(&self, rest: usize) -> &Function
+    pub(crate) fn borrow_column_phase(&self, rest: usize) -> (&Function, &NarrowFunction)
         requires { rest < length self.now.functions.items }
-        ensures { slice_get self.now.functions.items rest ≡ Some result.now }
+        ensures phase { slice_get self.now.functions.items rest ≡ Some result.0.now }
+        ensures program { IsProgramOf result.1.now (map case_view result.0.now.cases.items)
+            (option_map formula_view result.0.now.otherwise) }
     {
-        &self.functions[rest]
+        (&self.functions[rest], &self.programs[rest])
     }
+}
+
+// A program for each phase.
+fn list_column_phase_programs(
+    alloc: Global,
+    functions: &[Function],
+) -> Result<Vec<NarrowFunction>, AllocError>
+    ensures count { IfOk result (λ made. length made.items ≡ length functions.now) }
+    ensures programs { IfOk result (λ made. AreProgramsOf made.items functions.now) }
+{
+    let mut made = Vec::with_capacity(alloc, functions.len())?;
+    for function in functions {
+        made.push(choose_narrow_function(alloc, function)?)?;
+    }
+    Ok(made)
 }
 
 // The phases by a period.
@@ -58,7 +81,11 @@ fn list_column_phases(
         let phase = ColumnPhase { period, rest };
         functions.push(phase.make_column_phase_function(alloc, function)?)?;
     }
-    Ok(ColumnPhases { functions })
+    let programs = list_column_phase_programs(alloc, &functions)?;
+    Ok(ColumnPhases {
+        functions,
+        programs,
+    })
 }
 
 /// The phases of a function by its least period, if it alternates along a row and they pay.

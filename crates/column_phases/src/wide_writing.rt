@@ -72,7 +72,7 @@ fn write_wide_column_phase<S: RowSource>(
         (area.now.cols.lo +ℤ pos k)) }
 {
     let points = RowSpan::from_area_top(area);
-    let (phase, part) = phases.slice_column_phase(&points, place);
+    let (phase, _, part) = phases.slice_column_phase(&points, place);
     let end = from + part.len;
     if let Some(cols) = part.columns() {
         let own = Area {

@@ -10,8 +10,9 @@ ghost use Rattle.linear_rows.specs.LinearRows.{is_row_of_ones, is_kernel_of_ones
 ghost use Rattle.linear_rows.specs.RowFormulas.{mean_formula, IsRightMean};
 
 use job::{Kernel, KernelFactors};
-use narrow_eval::{NarrowSource, borrow_narrow_stencil_line};
+use narrow_eval::borrow_narrow_stencil_line;
 use narrow_kernels::write_narrow_means_of_nine;
+use narrow_sums::NarrowSource;
 use row_kernels::RowSpan;
 
 /// A stage, and a kernel of nine factors that are 1.

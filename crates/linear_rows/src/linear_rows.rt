@@ -6,7 +6,7 @@ ghost use Rattle.std.specs.Option.{option_map};
 ghost use Rattle.job.specs.Reads.{EachRead};
 ghost use Rattle.job.specs.Values.{formula_value};
 ghost use Rattle.job.specs.Views.{case_view, formula_view};
-ghost use Rattle.narrow_eval.specs.NarrowFormulas.{FitsWithin};
+ghost use Rattle.narrow_sums.specs.NarrowFormulas.{FitsWithin};
 ghost use Rattle.row_loops.specs.Rows.{EachPlace, at};
 ghost use Rattle.linear_rows.specs.LinearRows.{is_linear_formula, is_linear_function};
 ghost use Rattle.linear_rows.specs.RowFormulas.{linear_formula, IsRightLinear};
@@ -16,7 +16,7 @@ use crate::linear_means::{LinearMean, match_linear_mean, write_linear_mean};
 use crate::linear_quotient::LinearQuotient;
 use crate::linear_quotients::{find_linear_quotient, write_linear_quotient};
 use job::{Formula, Function};
-use narrow_eval::NarrowSource;
+use narrow_sums::NarrowSource;
 use row_kernels::RowSpan;
 use std::alloc::{AllocError, Global};
 

@@ -16,7 +16,7 @@ use crate::linear_lines::{LinearLine, LinearPair, add_linear_term};
 use crate::linear_taps::{LinearSum, LinearTap};
 use domains::arithmetic::{wrapping_add, wrapping_mul};
 use job::Formula;
-use narrow_eval::NarrowSource;
+use narrow_sums::NarrowSource;
 use operators::{BinaryOp, UnaryOp};
 use row_kernels::RowSpan;
 use row_loops::fill_row;

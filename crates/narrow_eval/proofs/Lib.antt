@@ -1,4 +1,3 @@
-pub mod NarrowRows
-pub mod NarrowAddends
-pub mod NarrowSums
+pub mod NarrowStencils
 pub mod NarrowReady
+pub mod Sizes

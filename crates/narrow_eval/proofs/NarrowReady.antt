@@ -1,19 +1,20 @@
 -- Cases along a row of points that are computed in 16 bits.
-use Rattle.std.proofs.Common.{arith, ℕ, ℤ, ◌≡◌, ◌-◌, ◌<◌, ◌≤◌, pos, ◌+ℤ◌, ◌↔◌, List, length, take, drop, map}
+use Rattle.std.proofs.Common.{arith, ℕ, ℤ, ◌≡◌, ◌-◌, ◌+◌, ◌<◌, ◌≤◌, pos, ◌+ℤ◌, ◌↔◌, List, length, take, drop, map}
 use Rattle.std.proofs.Common.{Option, Some, None, subst, sym, ◌∙◌, refl}
 use Rattle.std.specs.Prelude.{All, slice_index_or}
 use Rattle.std.specs.Option.{ForSome, option_map}
+use Rattle.std.proofs.lemmas.Grind.{common_steps}
 use Rattle.std.proofs.lemmas.List.Elements.{All-take, All-drop}
 use Rattle.domains.specs.Area.{HoldsPoint}
 use Rattle.domains.specs.declared.area.Area.{Area}
-use Rattle.job.specs.declared.formula.Formula.{Formula as KeptFormula}
-use Rattle.job.specs.declared.stage.JobCase.{JobCase as KeptCase}
+use Rattle.narrow_eval.specs.declared.narrow_program.NarrowProgram.{NarrowProgram}
+use Rattle.narrow_eval.specs.declared.narrow_case.NarrowCase.{NarrowCase}
 use Rattle.job.specs.Formula.{Formula}
 use Rattle.job.specs.Pipeline.{JobCase}
 use Rattle.job.specs.Values.{Valuation}
 use Rattle.job.specs.Boxes.{BoundsHold}
 use Rattle.job.specs.Reads.{EachRead, other_formula}
-use Rattle.job.specs.Views.{case_view, formula_view}
+use Rattle.narrow_eval.specs.NarrowPrograms.{program_case, program_formula}
 use Rattle.job.specs.WellFormed.{IsFormula}
 use Rattle.job.proofs.Agreeing.{All-left, All-right}
 use Rattle.job.proofs.BoxLaws.{box_is_cut, passed_in_box}
@@ -73,27 +74,31 @@ module _ (has : ℕ → ℤ → ℤ → Type 0) (env : Valuation) (r c : ℤ) (n
     is.capacity.other f there,
   )
 
+-- the cases behind the first are fewer
+pub fewer_cases : (ps : List NarrowCase) → 1 ≤ length ps → length (take (length ps - 1) (drop 1 ps)) + 1 ≡ length ps
+fewer_cases ps some = grind (arith, common_steps)
+
 -- the cases behind the first
-pub narrow_behind : (has : ℕ → ℤ → ℤ → Type 0) (env : Valuation) (r c : ℤ) (n room : ℕ) (ps : List KeptCase) (o : Option KeptFormula)
+pub narrow_behind : (has : ℕ → ℤ → ℤ → Type 0) (env : Valuation) (r c : ℤ) (n room : ℕ) (ps : List NarrowCase) (o : Option NarrowProgram)
     → AreNarrowCases has env r c n room ps o → AreNarrowCases has env r c n room (take (length ps - 1) (drop 1 ps)) o
 narrow_behind has env r c n room ps o h = record {
   cases = All-take P (length ps - 1) (drop 1 ps) (All-drop P 1 ps h.cases);
   other = h.other;
 }
   where
-    P : KeptCase → Type 0
-    P p = EachPlace n (λ k. IsNarrowCase has env (case_view p) r (c +ℤ pos k)) × IsRoomy n room (case_view p)
+    P : NarrowCase → Type 0
+    P p = EachPlace n (λ k. IsNarrowCase has env (program_case p) r (c +ℤ pos k)) × IsRoomy n room (program_case p)
 
 -- what is ready along a row is so along a part
-pub narrow_part : (has : ℕ → ℤ → ℤ → Type 0) (env : Valuation) (row col r c : ℤ) (a b room : ℕ) (xs : List ℤ) (ps : List KeptCase)
-    (o : Option KeptFormula) → a < b → b ≤ length xs → r ≡ row → c ≡ col +ℤ pos a
+pub narrow_part : (has : ℕ → ℤ → ℤ → Type 0) (env : Valuation) (row col r c : ℤ) (a b room : ℕ) (xs : List ℤ) (ps : List NarrowCase)
+    (o : Option NarrowProgram) → a < b → b ≤ length xs → r ≡ row → c ≡ col +ℤ pos a
     → AreNarrowCases has env row col (length xs) room ps o → AreNarrowCases has env r c (length (take (b - a) (drop a xs))) room ps o
 narrow_part has env row col r c a b room xs ps o l le e f h =
     let less : length (take (b - a) (drop a xs)) ≤ length xs = rw (cut_len a b xs l le) (omega arith) in
     record {
       cases = λ i d m. (
-        part_each (IsNarrowCase has env (case_view (slice_index_or ps i d))) row col r c a b xs l le e f (λ k n low high. (h.cases i d m).0 k n),
-        roomy_less (length xs) _ room (case_view (slice_index_or ps i d)) less (h.cases i d m).1,
+        part_each (IsNarrowCase has env (program_case (slice_index_or ps i d))) row col r c a b xs l le e f (λ k n low high. (h.cases i d m).0 k n),
+        roomy_less (length xs) _ room (program_case (slice_index_or ps i d)) less (h.cases i d m).1,
       );
       other = λ g is.
           let it = h.other g is in (
@@ -104,15 +109,15 @@ narrow_part has env row col r c a b room xs ps o l le e f h =
     }
 
 -- a function that is computable has cases that are ready
-pub ready_from : (has : ℕ → ℤ → ℤ → Type 0) (env : Valuation) (r c : ℤ) (n room : ℕ) (ps : List KeptCase) (o : Option KeptFormula)
-    (qs : List KeptCase) (u : Option KeptFormula) → qs ≡ ps → u ≡ o
-    → IsNarrowComputable has env r c n room (map case_view ps) (option_map formula_view o) → AreNarrowCases has env r c n room qs u
+pub ready_from : (has : ℕ → ℤ → ℤ → Type 0) (env : Valuation) (r c : ℤ) (n room : ℕ) (ps : List NarrowCase) (o : Option NarrowProgram)
+    (qs : List NarrowCase) (u : Option NarrowProgram) → qs ≡ ps → u ≡ o
+    → IsNarrowComputable has env r c n room (map program_case ps) (option_map program_formula o) → AreNarrowCases has env r c n room qs u
 ready_from has env r c n room ps o qs u e f is =
     let ready : AreNarrowCases has env r c n room ps o = record {
       cases =
           All-from_map (λ p. EachPlace n (λ k. IsNarrowCase has env p r (c +ℤ pos k)) × IsRoomy n room p)
-          case_view ps (cases_ready has env r c n room (map case_view ps) (option_map formula_view o) is);
-      other = other_ready has env r c n room (map case_view ps) (option_map formula_view o) is;
+          program_case ps (cases_ready has env r c n room (map program_case ps) (option_map program_formula o) is);
+      other = other_ready has env r c n room (map program_case ps) (option_map program_formula o) is;
     } in
-    subst (λ (x : List KeptCase). AreNarrowCases has env r c n room x u) (sym e)
-    (subst (λ (x : Option KeptFormula). AreNarrowCases has env r c n room ps x) (sym f) ready)
+    subst (λ (x : List NarrowCase). AreNarrowCases has env r c n room x u) (sym e)
+    (subst (λ (x : Option NarrowProgram). AreNarrowCases has env r c n room ps x) (sym f) ready)

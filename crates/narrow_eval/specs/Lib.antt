@@ -1,5 +1,4 @@
-pub mod NarrowFormulas
+pub mod NarrowPrograms
 pub mod NarrowStencils
-pub mod NarrowSums
 pub mod NarrowCases
-pub mod NarrowOperators
+pub mod inside

@@ -3,20 +3,20 @@ use Rattle.std.specs.Prelude.{ℕ, ◌≡◌, ℤ, pos, ◌+ℤ◌, true, Option
 use Rattle.std.specs.Option.{option_map, ForSome}
 use Rattle.domains.specs.Area.{HoldsPoint}
 use Rattle.domains.specs.declared.area.Area.{Area}
-use Rattle.job.specs.declared.formula.Formula.{Formula as KeptFormula}
-use Rattle.job.specs.declared.stage.JobCase.{JobCase as KeptCase}
 use Rattle.job.specs.Formula.{Formula}
 use Rattle.job.specs.Pipeline.{JobCase, function}
 use Rattle.job.specs.Values.{Valuation, all_passed}
 use Rattle.job.specs.Boxes.{AreBoxed, BoundsHold}
 use Rattle.job.specs.Reads.{EachRead, BodyReads, formulas_of}
-use Rattle.job.specs.Views.{case_view, formula_view}
 use Rattle.job.specs.WellFormed.{IsFormula, IsTest}
 use Rattle.row_loops.specs.Rows.{EachPlace}
 use Rattle.tile_eval.specs.Reading.{HasRoom, HasFunctionRoom}
 use Rattle.tile_eval.specs.Cases.{InBox}
 use Rattle.tile_eval.specs.inside.Cases.{IsRoomy}
 use Rattle.value_ranges.specs.Narrow.{IsNarrow, IsNarrowFunction}
+use Rattle.narrow_eval.specs.NarrowPrograms.{program_case, program_formula}
+use Rattle.narrow_eval.specs.declared.narrow_case.NarrowCase.{NarrowCase}
+use Rattle.narrow_eval.specs.declared.narrow_program.NarrowProgram.{NarrowProgram}
 
 -- at a point: where its tests hold it lies in the box; there the bounds hold, all that the formula reads is available, and it is
 -- narrow
@@ -27,10 +27,10 @@ pub record IsNarrowCase (has : ℕ → ℤ → ℤ → Type 0) (env : Valuation)
   pub narrow : InBox p.box r c → IsNarrow env p.formula r c
 
 -- along n points of row r from column c on, each case is ready and has capacity, and so has what holds elsewhere
-pub record AreNarrowCases (has : ℕ → ℤ → ℤ → Type 0) (env : Valuation) (r c : ℤ) (n room : ℕ) (ps : List KeptCase) (o : Option KeptFormula)
+pub record AreNarrowCases (has : ℕ → ℤ → ℤ → Type 0) (env : Valuation) (r c : ℤ) (n room : ℕ) (ps : List NarrowCase) (o : Option NarrowProgram)
     : Type 0 where
-  pub cases : All (λ p. EachPlace n (λ k. IsNarrowCase has env (case_view p) r (c +ℤ pos k)) × IsRoomy n room (case_view p)) ps
-  pub other : ForSome (option_map formula_view o) (λ f. EachPlace n (λ k. EachRead has f r (c +ℤ pos k) × IsNarrow env f r (c +ℤ pos k))
+  pub cases : All (λ p. EachPlace n (λ k. IsNarrowCase has env (program_case p) r (c +ℤ pos k)) × IsRoomy n room (program_case p)) ps
+  pub other : ForSome (option_map program_formula o) (λ f. EachPlace n (λ k. EachRead has f r (c +ℤ pos k) × IsNarrow env f r (c +ℤ pos k))
       × IsFormula f × HasRoom f n room)
 
 -- a function is computable in 16 bits at n points of row r from column c on: they lie in a domain that has the boxes of the

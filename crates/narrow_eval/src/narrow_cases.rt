@@ -8,7 +8,7 @@ ghost use Rattle.job.specs.Boxes.{BoundsHold};
 ghost use Rattle.job.specs.Formula.{Test};
 ghost use Rattle.job.specs.Reads.{EachRead};
 ghost use Rattle.job.specs.Values.{all_passed, formula_value};
-ghost use Rattle.job.specs.Views.{case_view, formula_view};
+ghost use Rattle.job.specs.Views.{test_view};
 ghost use Rattle.job.specs.WellFormed.{IsFormula, IsTest};
 ghost use Rattle.row_kernels.specs.RowMask.{HoldsWhere};
 ghost use Rattle.row_loops.specs.Rows.{EachPlace, at};
@@ -16,14 +16,16 @@ ghost use Rattle.tile_eval.specs.Reading.{HasRoom, ReadsWithin};
 ghost use Rattle.tile_eval.specs.Cases.{InBox, function_value};
 ghost use Rattle.tile_eval.specs.inside.Cases.{IsRoomy};
 ghost use Rattle.value_ranges.specs.Narrow.{IsNarrow};
-ghost use Rattle.narrow_eval.specs.NarrowFormulas.{NarrowWithin};
+ghost use Rattle.narrow_sums.specs.NarrowFormulas.{NarrowWithin};
+ghost use Rattle.narrow_eval.specs.NarrowPrograms.{program_formula, program_case};
 ghost use Rattle.narrow_eval.specs.NarrowCases.{IsNarrowCase, AreNarrowCases, IsNarrowComputable};
 
+use crate::narrow_case::{NarrowCase, NarrowFunction};
 use crate::narrow_points::NarrowPoints;
-use crate::narrow_source::NarrowSource;
+use crate::narrow_program::NarrowProgram;
 use domains::Area;
-use job::{Formula, Function, JobCase};
 use narrow_kernels::{copy_narrow_row_where_mask_holds, fill_narrow_row};
+use narrow_sums::NarrowSource;
 use row_kernels::{RowMask, RowSpan, find_row_mask};
 
 // The places of a row of points that lie in an area: the first one, and the end.
@@ -63,77 +65,76 @@ fn are_narrow_case_masks_complementary(first: RowMask, second: RowMask) -> bool
 fn obtain_narrow_case_line<'a, S: NarrowSource>(
     source: &'a S,
     points: &RowSpan,
-    formula: &Formula,
+    program: &NarrowProgram,
     temps: &'a mut [i16],
 ) -> &'a [i16]
-    requires formula { IsFormula (formula_view formula.now) }
-    requires narrow { NarrowWithin (S.samples source.now) (formula_view formula.now) points.now.row
+    requires formula { IsFormula (program_formula program.now) }
+    requires narrow { NarrowWithin (S.samples source.now) (program_formula program.now) points.now.row
         points.now.col points.now.len }
-    requires reads { ReadsWithin (S.has source.now) (formula_view formula.now) points.now.row
+    requires reads { ReadsWithin (S.has source.now) (program_formula program.now) points.now.row
         points.now.col points.now.len }
     requires own { points.now.len ≤ length temps.old }
-    requires room { HasRoom (formula_view formula.now) points.now.len
+    requires room { HasRoom (program_formula program.now) points.now.len
         (length temps.old - points.now.len) }
     ensures count { length result.now ≡ points.now.len }
     ensures values { EachPlace points.now.len (λ k. at result.now k
-        ≡ formula_value (S.samples source.now) (formula_view formula.now) points.now.row
+        ≡ formula_value (S.samples source.now) (program_formula program.now) points.now.row
         (points.now.col +ℤ pos k)) }
 {
     let row = NarrowPoints {
         source,
         points: *points,
     };
-    if let Some(line) = row.borrow_narrow_read_line(formula) {
-        return line;
+    if let NarrowProgram::Line(read) = program {
+        return row.borrow_narrow_program_line(read);
     }
     let (own, rest) = temps.split_at_mut(points.len);
-    row.evaluate_narrow(formula, own, rest);
+    row.run_narrow_program(program, own, rest);
     own
 }
 
 impl<S: NarrowSource> NarrowPoints<'_, S> {
     // A case over a row that lies in its box.
-    fn overwrite_narrow_case_in_box(&self, case: &JobCase, out: &mut [i16], temps: &mut [i16])
+    fn overwrite_narrow_case_in_box(&self, case: &NarrowCase, out: &mut [i16], temps: &mut [i16])
         requires some { 0 < length out.old }
         requires fits { length out.old ≡ self.now.points.len }
-        requires inside { EachPlace (length out.old) (λ k. InBox (case_view case.now).box
+        requires inside { EachPlace (length out.old) (λ k. InBox (program_case case.now).box
             self.now.points.row (self.now.points.col +ℤ pos k)) }
         requires ready { EachPlace (length out.old) (λ k. IsNarrowCase (S.has self.now.source.now)
             (S.samples self.now.source.now)
-            (case_view case.now) self.now.points.row (self.now.points.col +ℤ pos k)) }
-        requires roomy { IsRoomy (length out.old) (length temps.old) (case_view case.now) }
+            (program_case case.now) self.now.points.row (self.now.points.col +ℤ pos k)) }
+        requires roomy { IsRoomy (length out.old) (length temps.old) (program_case case.now) }
         ensures { EachPlace (length out.old) (λ k. at out.new k
-            ≡ (if all_passed (case_view case.now).tests self.now.points.row
+            ≡ (if all_passed (program_case case.now).tests self.now.points.row
             (self.now.points.col +ℤ pos k)
-            then formula_value (S.samples self.now.source.now) (case_view case.now).formula
+            then formula_value (S.samples self.now.source.now) (program_case case.now).formula
             self.now.points.row (self.now.points.col +ℤ pos k) else at out.old k)) }
     {
-        match find_row_mask(case.tests(), &self.points) {
+        match find_row_mask(&case.tests, &self.points) {
             RowMask::Nowhere => {}
-            RowMask::Everywhere => self.evaluate_narrow(case.formula(), out, temps),
+            RowMask::Everywhere => self.run_narrow_program(&case.program, out, temps),
             passed => {
-                let formula = case.formula();
-                let line = obtain_narrow_case_line(self.source, &self.points, formula, temps);
-                copy_narrow_row_where_mask_holds(out, line, case.tests(), passed, &self.points);
+                let line = obtain_narrow_case_line(self.source, &self.points, &case.program, temps);
+                copy_narrow_row_where_mask_holds(out, line, &case.tests, passed, &self.points);
             }
         }
     }
 
     // Takes the values of a case, where its tests hold.
-    fn overwrite_narrow_case(&self, case: &JobCase, out: &mut [i16], temps: &mut [i16])
+    fn overwrite_narrow_case(&self, case: &NarrowCase, out: &mut [i16], temps: &mut [i16])
         requires fits { length out.old ≡ self.now.points.len }
         requires some { 0 < length out.old }
         requires case { EachPlace (length out.old) (λ k. IsNarrowCase (S.has self.now.source.now)
             (S.samples self.now.source.now)
-            (case_view case.now) self.now.points.row (self.now.points.col +ℤ pos k))
-            × IsRoomy (length out.old) (length temps.old) (case_view case.now) }
+            (program_case case.now) self.now.points.row (self.now.points.col +ℤ pos k))
+            × IsRoomy (length out.old) (length temps.old) (program_case case.now) }
         ensures { EachPlace (length out.old) (λ k. at out.new k
-            ≡ (if all_passed (case_view case.now).tests self.now.points.row
+            ≡ (if all_passed (program_case case.now).tests self.now.points.row
             (self.now.points.col +ℤ pos k)
-            then formula_value (S.samples self.now.source.now) (case_view case.now).formula
+            then formula_value (S.samples self.now.source.now) (program_case case.now).formula
             self.now.points.row (self.now.points.col +ℤ pos k) else at out.old k)) }
     {
-        let Some(area) = case.area() else {
+        let Some(area) = &case.area else {
             return;
         };
         if let Some((from, to)) = find_narrow_case_interval(area, &self.points) {
@@ -149,13 +150,13 @@ impl<S: NarrowSource> NarrowPoints<'_, S> {
     // The values where no case holds: 0 if none are specified.
     fn evaluate_narrow_otherwise(
         &self,
-        otherwise: &Option<Formula>,
+        otherwise: &Option<NarrowProgram>,
         out: &mut [i16],
         temps: &mut [i16],
     )
         requires some { 0 < length out.old }
         requires fits { length out.old ≡ self.now.points.len }
-        requires other { ForSome (option_map formula_view otherwise.now)
+        requires other { ForSome (option_map program_formula otherwise.now)
             (λ f. EachPlace (length out.old) (λ k. EachRead (S.has self.now.source.now) f
             self.now.points.row (self.now.points.col +ℤ pos k)
             × IsNarrow (S.samples self.now.source.now) f self.now.points.row
@@ -164,36 +165,36 @@ impl<S: NarrowSource> NarrowPoints<'_, S> {
         ensures { EachPlace (length out.old) (λ k. at out.new k
             ≡ option_map_or (λ f. formula_value (S.samples self.now.source.now) f
             self.now.points.row (self.now.points.col +ℤ pos k))
-            (option_map formula_view otherwise.now) (pos 0)) }
+            (option_map program_formula otherwise.now) (pos 0)) }
     {
         match otherwise {
-            Some(formula) => {
+            Some(program) => {
                 let to = out.len();
-                self.evaluate_narrow_formula_on_part(formula, 0, to, out, temps);
+                self.run_narrow_program_on_part(program, 0, to, out, temps);
             }
             None => fill_narrow_row(out, 0),
         }
     }
 
     // The part of a row where the tests of a case hold, if this is known without testing each point: its first place and its end.
-    fn find_narrow_case_interval_by_tests(&self, case: &JobCase) -> Option<(usize, usize)>
+    fn find_narrow_case_interval_by_tests(&self, case: &NarrowCase) -> Option<(usize, usize)>
         requires some { 0 < self.now.points.len }
         requires ready { EachPlace self.now.points.len (λ k. IsNarrowCase (S.has self.now.source.now)
             (S.samples self.now.source.now)
-            (case_view case.now) self.now.points.row (self.now.points.col +ℤ pos k)) }
-        requires tests { All IsTest (case_view case.now).tests }
+            (program_case case.now) self.now.points.row (self.now.points.col +ℤ pos k)) }
+        requires tests { All IsTest (program_case case.now).tests }
         ensures most { IfSome result (λ p. (p.0 ≤ p.1) × (p.1 ≤ self.now.points.len)) }
         ensures held { IfSome result (λ p. EachPlace self.now.points.len
-            (λ k. (all_passed (case_view case.now).tests self.now.points.row
+            (λ k. (all_passed (program_case case.now).tests self.now.points.row
             (self.now.points.col +ℤ pos k) ≡ true) ↔ ((p.0 ≤ k) × (k < p.1)))) }
     {
-        let Some(area) = case.area() else {
+        let Some(area) = &case.area else {
             return Some((0, 0));
         };
         let Some((from, to)) = find_narrow_case_interval(area, &self.points) else {
             return Some((0, 0));
         };
-        match find_row_mask(case.tests(), &self.points) {
+        match find_row_mask(&case.tests, &self.points) {
             RowMask::Nowhere => Some((0, 0)),
             RowMask::Everywhere => Some((from, to)),
             _ => None,
@@ -203,37 +204,37 @@ impl<S: NarrowSource> NarrowPoints<'_, S> {
     // The part of a row where a case's tests hold unless those of the case before it do, if known without testing each point.
     fn find_narrow_case_interval_where_earlier_fails(
         &self,
-        before: &JobCase,
-        case: &JobCase,
+        before: &NarrowCase,
+        case: &NarrowCase,
     ) -> Option<(usize, usize)>
         requires some { 0 < self.now.points.len }
         requires before { EachPlace self.now.points.len (λ k. IsNarrowCase (S.has self.now.source.now)
             (S.samples self.now.source.now)
-            (case_view before.now) self.now.points.row (self.now.points.col +ℤ pos k)) }
+            (program_case before.now) self.now.points.row (self.now.points.col +ℤ pos k)) }
         requires ready { EachPlace self.now.points.len (λ k. IsNarrowCase (S.has self.now.source.now)
             (S.samples self.now.source.now)
-            (case_view case.now) self.now.points.row (self.now.points.col +ℤ pos k)) }
-        requires first { All IsTest (case_view before.now).tests }
-        requires tests { All IsTest (case_view case.now).tests }
+            (program_case case.now) self.now.points.row (self.now.points.col +ℤ pos k)) }
+        requires first { All IsTest (program_case before.now).tests }
+        requires tests { All IsTest (program_case case.now).tests }
         ensures most { IfSome result (λ p. (p.0 ≤ p.1) × (p.1 ≤ self.now.points.len)) }
         ensures inside { IfSome result (λ p. EachPlace self.now.points.len (λ k. p.0 ≤ k → k < p.1
-            → InBox (case_view case.now).box self.now.points.row (self.now.points.col +ℤ pos k))) }
+            → InBox (program_case case.now).box self.now.points.row (self.now.points.col +ℤ pos k))) }
         ensures held { IfSome result (λ p. EachPlace self.now.points.len
-            (λ k. all_passed (case_view before.now).tests self.now.points.row
+            (λ k. all_passed (program_case before.now).tests self.now.points.row
             (self.now.points.col +ℤ pos k) ≡ false
-            → (all_passed (case_view case.now).tests self.now.points.row
+            → (all_passed (program_case case.now).tests self.now.points.row
             (self.now.points.col +ℤ pos k) ≡ true) ↔ ((p.0 ≤ k) × (k < p.1)))) }
     {
-        let (Some(area), Some(box_before)) = (case.area(), before.area()) else {
+        let (Some(area), Some(box_before)) = (&case.area, &before.area) else {
             return None;
         };
         let (from, to) = find_narrow_case_interval(area, &self.points)?;
         let (first, second) = find_narrow_case_interval(box_before, &self.points)?;
-        let passed = find_row_mask(case.tests(), &self.points);
+        let passed = find_row_mask(&case.tests, &self.points);
         if first == from
             && second == to
             && are_narrow_case_masks_complementary(
-                find_row_mask(before.tests(), &self.points),
+                find_row_mask(&before.tests, &self.points),
                 passed,
             )
         {
@@ -244,9 +245,9 @@ impl<S: NarrowSource> NarrowPoints<'_, S> {
     }
 
     // The values of a formula at a part of the points.
-    fn evaluate_narrow_formula_on_part(
+    fn run_narrow_program_on_part(
         &self,
-        formula: &Formula,
+        program: &NarrowProgram,
         from: usize,
         to: usize,
         out: &mut [i16],
@@ -255,16 +256,16 @@ impl<S: NarrowSource> NarrowPoints<'_, S> {
         requires fits { length out.old ≡ self.now.points.len }
         requires order { from ≤ to }
         requires most { to ≤ length out.old }
-        requires formula { IsFormula (formula_view formula.now) }
+        requires formula { IsFormula (program_formula program.now) }
         requires narrow { EachPlace (length out.old) (λ k. from ≤ k → k < to
-            → IsNarrow (S.samples self.now.source.now) (formula_view formula.now)
+            → IsNarrow (S.samples self.now.source.now) (program_formula program.now)
             self.now.points.row (self.now.points.col +ℤ pos k)) }
         requires reads { EachPlace (length out.old) (λ k. from ≤ k → k < to
-            → EachRead (S.has self.now.source.now) (formula_view formula.now)
+            → EachRead (S.has self.now.source.now) (program_formula program.now)
             self.now.points.row (self.now.points.col +ℤ pos k)) }
-        requires room { HasRoom (formula_view formula.now) (length out.old) (length temps.old) }
+        requires room { HasRoom (program_formula program.now) (length out.old) (length temps.old) }
         ensures inside { EachPlace (length out.old) (λ k. from ≤ k → k < to → at out.new k
-            ≡ formula_value (S.samples self.now.source.now) (formula_view formula.now)
+            ≡ formula_value (S.samples self.now.source.now) (program_formula program.now)
             self.now.points.row (self.now.points.col +ℤ pos k)) }
         ensures outside { EachPlace (length out.old) (λ k. (k < from) ⊎ (to ≤ k)
             → at out.new k ≡ at out.old k) }
@@ -275,7 +276,7 @@ impl<S: NarrowSource> NarrowPoints<'_, S> {
                 source: self.source,
                 points,
             };
-            inner.evaluate_narrow(formula, &mut out[from..to], temps);
+            inner.run_narrow_program(program, &mut out[from..to], temps);
         }
     }
 
@@ -283,8 +284,8 @@ impl<S: NarrowSource> NarrowPoints<'_, S> {
     #[cycle(evaluate_narrow_cases)]
     fn evaluate_narrow_cases_on_part(
         &self,
-        cases: &[JobCase],
-        otherwise: &Option<Formula>,
+        cases: &[NarrowCase],
+        otherwise: &Option<NarrowProgram>,
         from: usize,
         to: usize,
         out: &mut [i16],
@@ -296,8 +297,8 @@ impl<S: NarrowSource> NarrowPoints<'_, S> {
         requires ready { AreNarrowCases (S.has self.now.source.now) (S.samples self.now.source.now) self.now.points.row
             self.now.points.col (length out.old) (length temps.old) cases.now otherwise.now }
         ensures inside { EachPlace (length out.old) (λ k. from ≤ k → k < to → at out.new k
-            ≡ function_value (S.samples self.now.source.now) (map case_view cases.now)
-            (option_map formula_view otherwise.now) self.now.points.row
+            ≡ function_value (S.samples self.now.source.now) (map program_case cases.now)
+            (option_map program_formula otherwise.now) self.now.points.row
             (self.now.points.col +ℤ pos k)) }
         ensures outside { EachPlace (length out.old) (λ k. (k < from) ⊎ (to ≤ k)
             → at out.new k ≡ at out.old k) }
@@ -316,9 +317,9 @@ impl<S: NarrowSource> NarrowPoints<'_, S> {
     #[cycle(evaluate_narrow_cases)]
     fn evaluate_narrow_cases_where_earlier_fails(
         &self,
-        before: &JobCase,
-        cases: &[JobCase],
-        otherwise: &Option<Formula>,
+        before: &NarrowCase,
+        cases: &[NarrowCase],
+        otherwise: &Option<NarrowProgram>,
         out: &mut [i16],
         temps: &mut [i16],
     )
@@ -326,14 +327,14 @@ impl<S: NarrowSource> NarrowPoints<'_, S> {
         requires fits { length out.old ≡ self.now.points.len }
         requires before { EachPlace (length out.old) (λ k. IsNarrowCase (S.has self.now.source.now)
             (S.samples self.now.source.now)
-            (case_view before.now) self.now.points.row (self.now.points.col +ℤ pos k)) }
-        requires tests { All IsTest (case_view before.now).tests }
+            (program_case before.now) self.now.points.row (self.now.points.col +ℤ pos k)) }
+        requires tests { All IsTest (program_case before.now).tests }
         requires ready { AreNarrowCases (S.has self.now.source.now) (S.samples self.now.source.now) self.now.points.row
             self.now.points.col (length out.old) (length temps.old) cases.now otherwise.now }
-        ensures { EachPlace (length out.old) (λ k. all_passed (case_view before.now).tests
+        ensures { EachPlace (length out.old) (λ k. all_passed (program_case before.now).tests
             self.now.points.row (self.now.points.col +ℤ pos k) ≡ false → at out.new k
-            ≡ function_value (S.samples self.now.source.now) (map case_view cases.now)
-            (option_map formula_view otherwise.now) self.now.points.row
+            ≡ function_value (S.samples self.now.source.now) (map program_case cases.now)
+            (option_map program_formula otherwise.now) self.now.points.row
             (self.now.points.col +ℤ pos k)) }
     {
         if let [case, rest @ ..] = cases {
@@ -342,7 +343,7 @@ impl<S: NarrowSource> NarrowPoints<'_, S> {
             ) {
                 self.evaluate_narrow_cases_on_part(rest, otherwise, 0, from, out, temps);
                 self.evaluate_narrow_cases_on_part(rest, otherwise, to, out.len(), out, temps);
-                return self.evaluate_narrow_formula_on_part(case.formula(), from, to, out, temps);
+                return self.run_narrow_program_on_part(&case.program, from, to, out, temps);
             }
         }
         self.evaluate_narrow_cases(cases, otherwise, out, temps);
@@ -352,8 +353,8 @@ impl<S: NarrowSource> NarrowPoints<'_, S> {
     #[cycle(evaluate_narrow_cases)]
     fn evaluate_narrow_cases(
         &self,
-        cases: &[JobCase],
-        otherwise: &Option<Formula>,
+        cases: &[NarrowCase],
+        otherwise: &Option<NarrowProgram>,
         out: &mut [i16],
         temps: &mut [i16],
     )
@@ -362,8 +363,8 @@ impl<S: NarrowSource> NarrowPoints<'_, S> {
         requires ready { AreNarrowCases (S.has self.now.source.now) (S.samples self.now.source.now) self.now.points.row
             self.now.points.col (length out.old) (length temps.old) cases.now otherwise.now }
         ensures { EachPlace (length out.old) (λ k. at out.new k
-            ≡ function_value (S.samples self.now.source.now) (map case_view cases.now)
-            (option_map formula_view otherwise.now) self.now.points.row
+            ≡ function_value (S.samples self.now.source.now) (map program_case cases.now)
+            (option_map program_formula otherwise.now) self.now.points.row
             (self.now.points.col +ℤ pos k)) }
     {
         let [case, behind @ ..] = cases else {
@@ -373,7 +374,7 @@ impl<S: NarrowSource> NarrowPoints<'_, S> {
             Some((from, to)) => {
                 self.evaluate_narrow_cases_on_part(behind, otherwise, 0, from, out, temps);
                 self.evaluate_narrow_cases_on_part(behind, otherwise, to, out.len(), out, temps);
-                self.evaluate_narrow_formula_on_part(case.formula(), from, to, out, temps);
+                self.run_narrow_program_on_part(&case.program, from, to, out, temps);
             }
             None => {
                 self.evaluate_narrow_cases_where_earlier_fails(case, behind, otherwise, out, temps);
@@ -387,7 +388,7 @@ impl<S: NarrowSource> NarrowPoints<'_, S> {
 /// `temps` have no meaning.
 pub fn evaluate_narrow_function<S: NarrowSource>(
     source: &S,
-    function: &Function,
+    function: &NarrowFunction,
     points: &RowSpan,
     out: &mut [i16],
     temps: &mut [i16],
@@ -395,16 +396,17 @@ pub fn evaluate_narrow_function<S: NarrowSource>(
     requires some { 0 < length out.old }
     requires fits { length out.old ≡ points.now.len }
     requires function { IsNarrowComputable (S.has source.now) (S.samples source.now) points.now.row
-        points.now.col (length out.old) (length temps.old) (map case_view function.now.cases.items)
-        (option_map formula_view function.now.otherwise) }
+        points.now.col (length out.old) (length temps.old)
+        (map program_case function.now.cases.items)
+        (option_map program_formula function.now.otherwise) }
     ensures { EachPlace (length out.old) (λ k. at out.new k
-        ≡ function_value (S.samples source.now) (map case_view function.now.cases.items)
-        (option_map formula_view function.now.otherwise) points.now.row
+        ≡ function_value (S.samples source.now) (map program_case function.now.cases.items)
+        (option_map program_formula function.now.otherwise) points.now.row
         (points.now.col +ℤ pos k)) }
 {
     let row = NarrowPoints {
         source,
         points: *points,
     };
-    row.evaluate_narrow_cases(function.cases(), function.otherwise(), out, temps);
+    row.evaluate_narrow_cases(&function.cases, &function.otherwise, out, temps);
 }

@@ -1,35 +1,29 @@
 #![tactic(auto)]
-//! The least, the greatest and the middle one of three reads along a row of points, in one pass.
+//! Formulas of two and three reads that one instruction computes: distances, least, greatest and middle ones.
 
-ghost use Rattle.std.specs.Prelude.{◌≡◌, ◌+ℤ◌, ℤ, pos, length, true, IsTrue};
-ghost use Rattle.std.specs.Int.{int_min, int_max};
-ghost use Rattle.job.specs.Values.{Valuation, formula_value, binary_value};
+ghost use Rattle.std.specs.Prelude.{◌≡◌, IfSome, true};
+ghost use Rattle.operators.specs.declared.operator.UnaryOp.TheVariants.{Abs};
+ghost use Rattle.operators.specs.declared.operator.BinaryOp.TheVariants.{Max};
+ghost use Rattle.job.specs.Formula.{unary, binary};
 ghost use Rattle.job.specs.Views.{formula_view};
-ghost use Rattle.row_loops.specs.Rows.{EachPlace, at};
-ghost use Rattle.tile_eval.specs.Reading.{ReadsWithin};
+ghost use Rattle.narrow_eval.specs.NarrowPrograms.{program_formula};
 
-use crate::narrow_points::NarrowPoints;
-use crate::narrow_source::NarrowSource;
+use crate::narrow_program::NarrowProgram;
 use domains::Index;
 use job::Formula;
-use narrow_kernels::{
-    write_narrow_greatest_of_three_lines, write_narrow_least_of_three_lines,
-    write_narrow_medians_of_three_lines,
-};
-use operators::BinaryOp;
+use narrow_sums::match_narrow_sum_read;
+use operators::{BinaryOp, UnaryOp};
 
 // Whether two indices are the same.
-fn are_same_narrow_read_indices(first: &Index, second: &Index) -> bool
+fn are_same_narrow_program_indices(first: &Index, second: &Index) -> bool
     ensures { result ≡ true → first.now ≡ second.now }
 {
     *first == *second
 }
 
 // Whether two formulas are the same read.
-fn are_same_narrow_reads(first: &Formula, second: &Formula) -> bool
-    ensures { result ≡ true → (env : Valuation) (r c : ℤ)
-        → formula_value env (formula_view first.now) r c
-        ≡ formula_value env (formula_view second.now) r c }
+fn are_same_narrow_program_reads(first: &Formula, second: &Formula) -> bool
+    ensures { result ≡ true → formula_view first.now ≡ formula_view second.now }
 {
     let Formula::Read(stage, row, column) = first else {
         return false;
@@ -37,123 +31,92 @@ fn are_same_narrow_reads(first: &Formula, second: &Formula) -> bool
     let Formula::Read(other, other_row, other_column) = second else {
         return false;
     };
-    if *stage != *other || !are_same_narrow_read_indices(row, other_row) {
+    if *stage != *other || !are_same_narrow_program_indices(row, other_row) {
         return false;
     }
-    are_same_narrow_read_indices(column, other_column)
+    are_same_narrow_program_indices(column, other_column)
 }
 
-impl<'a, S: NarrowSource> NarrowPoints<'a, S> {
-    // Writes the least or the greatest of three reads, if the operator is that of the formula.
-    fn try_narrow_extremes_of_reads(
-        &self,
-        op: BinaryOp,
-        pair: &Formula,
-        third: &Formula,
-        out: &mut [i16],
-    ) -> bool
-        requires fits { length out.old ≡ self.now.points.len }
-        requires pair { ReadsWithin (S.has self.now.source.now) (formula_view pair.now)
-            self.now.points.row self.now.points.col (length out.old) }
-        requires third { ReadsWithin (S.has self.now.source.now) (formula_view third.now)
-            self.now.points.row self.now.points.col (length out.old) }
-        ensures { IsTrue result → EachPlace (length out.old) (λ k. at out.new k
-            ≡ binary_value op (formula_value (S.samples self.now.source.now)
-            (formula_view pair.now) self.now.points.row (self.now.points.col +ℤ pos k))
-            (formula_value (S.samples self.now.source.now)
-            (formula_view third.now) self.now.points.row (self.now.points.col +ℤ pos k))) }
-    {
-        let Formula::Binary(inner, first, second) = pair else {
-            return false;
-        };
-        if *inner != op {
-            return false;
+/// The absolute difference of two lines that an operator and its formula give.
+pub(crate) fn choose_narrow_program_of_distance(
+    op: UnaryOp,
+    formula: &Formula,
+) -> Option<NarrowProgram>
+    ensures { IfSome result (λ it. program_formula it ≡ unary op (formula_view formula.now)) }
+{
+    match (op, formula) {
+        (UnaryOp::Abs, Formula::Binary(BinaryOp::Sub, left, right)) => {
+            Some(NarrowProgram::Distance(
+                match_narrow_sum_read(left)?,
+                match_narrow_sum_read(right)?,
+            ))
         }
-        let (Some(first), Some(second), Some(third)) = (
-            self.borrow_narrow_read_line(first),
-            self.borrow_narrow_read_line(second),
-            self.borrow_narrow_read_line(third),
-        ) else {
-            return false;
-        };
-        match (op, *inner) {
-            (BinaryOp::Min, BinaryOp::Min) => {
-                write_narrow_least_of_three_lines(out, first, second, third);
-                true
-            }
-            (BinaryOp::Max, BinaryOp::Max) => {
-                write_narrow_greatest_of_three_lines(out, first, second, third);
-                true
-            }
-            _ => false,
-        }
+        _ => None,
     }
+}
 
-    // Writes the middle one of three reads, if the formulas are the lesser one of two, and the lesser one of their greater one and
-    // a third.
-    fn try_narrow_medians_of_reads(&self, low: &Formula, high: &Formula, out: &mut [i16]) -> bool
-        requires fits { length out.old ≡ self.now.points.len }
-        requires low { ReadsWithin (S.has self.now.source.now) (formula_view low.now)
-            self.now.points.row self.now.points.col (length out.old) }
-        requires high { ReadsWithin (S.has self.now.source.now) (formula_view high.now)
-            self.now.points.row self.now.points.col (length out.old) }
-        ensures { IsTrue result → EachPlace (length out.old) (λ k. at out.new k
-            ≡ int_max (formula_value (S.samples self.now.source.now)
-            (formula_view low.now) self.now.points.row (self.now.points.col +ℤ pos k))
-            (formula_value (S.samples self.now.source.now)
-            (formula_view high.now) self.now.points.row (self.now.points.col +ℤ pos k))) }
+// The middle ones of three lines: the greater of the lesser of two, and of the lesser of their greater and a third.
+fn choose_narrow_program_of_median(low: &Formula, high: &Formula) -> Option<NarrowProgram>
+    ensures { IfSome result (λ it. program_formula it
+        ≡ binary Max (formula_view low.now) (formula_view high.now)) }
+{
+    let Formula::Binary(BinaryOp::Min, first, second) = low else {
+        return None;
+    };
+    let Formula::Binary(BinaryOp::Min, greater, third) = high else {
+        return None;
+    };
+    let Formula::Binary(BinaryOp::Max, same_first, same_second) = &**greater else {
+        return None;
+    };
+    if !are_same_narrow_program_reads(same_first, first)
+        || !are_same_narrow_program_reads(same_second, second)
     {
-        let Formula::Binary(BinaryOp::Min, first, second) = low else {
-            return false;
-        };
-        let Formula::Binary(BinaryOp::Min, upper, third) = high else {
-            return false;
-        };
-        let Formula::Binary(BinaryOp::Max, same_first, same_second) = &**upper else {
-            return false;
-        };
-        if !are_same_narrow_reads(same_first, first)
-            || !are_same_narrow_reads(same_second, second)
-        {
-            return false;
-        }
-        match (
-            self.borrow_narrow_read_line(first),
-            self.borrow_narrow_read_line(second),
-            self.borrow_narrow_read_line(third),
-        ) {
-            (Some(first), Some(second), Some(third)) => {
-                write_narrow_medians_of_three_lines(out, first, second, third);
-                true
-            }
-            _ => false,
-        }
+        return None;
     }
+    Some(NarrowProgram::Median(
+        match_narrow_sum_read(first)?,
+        match_narrow_sum_read(second)?,
+        match_narrow_sum_read(third)?,
+    ))
+}
 
-    /// Writes the values of a formula, if it is the least, the greatest or the middle one of three reads. Returns whether it is.
-    pub(crate) fn try_narrow_formula_of_three_reads(
-        &self,
-        formula: &Formula,
-        out: &mut [i16],
-    ) -> bool
-        requires fits { length out.old ≡ self.now.points.len }
-        requires reads { ReadsWithin (S.has self.now.source.now) (formula_view formula.now)
-            self.now.points.row self.now.points.col (length out.old) }
-        ensures { IsTrue result → EachPlace (length out.old) (λ k. at out.new k
-            ≡ formula_value (S.samples self.now.source.now)
-            (formula_view formula.now) self.now.points.row (self.now.points.col +ℤ pos k)) }
-    {
-        let Formula::Binary(op, a, b) = formula else {
-            return false;
-        };
-        match op {
-            BinaryOp::Min => self.try_narrow_extremes_of_reads(*op, a, b, out),
-            BinaryOp::Max => {
-                self.try_narrow_extremes_of_reads(*op, a, b, out)
-                    || self.try_narrow_medians_of_reads(a, b, out)
-                    || self.try_narrow_medians_of_reads(b, a, out)
-            }
-            _ => false,
-        }
+// The least or the greatest of three lines.
+fn choose_narrow_program_of_extreme(
+    op: BinaryOp,
+    pair: &Formula,
+    third: &Formula,
+) -> Option<NarrowProgram>
+    ensures { IfSome result (λ it. program_formula it
+        ≡ binary op (formula_view pair.now) (formula_view third.now)) }
+{
+    let Formula::Binary(inner, first, second) = pair else {
+        return None;
+    };
+    let first = match_narrow_sum_read(first)?;
+    let second = match_narrow_sum_read(second)?;
+    let third = match_narrow_sum_read(third)?;
+    match (op, *inner) {
+        (BinaryOp::Min, BinaryOp::Min) => Some(NarrowProgram::Least(first, second, third)),
+        (BinaryOp::Max, BinaryOp::Max) => Some(NarrowProgram::Greatest(first, second, third)),
+        _ => None,
+    }
+}
+
+/// The least, the greatest or the middle ones of three lines that an operator makes of two formulas.
+pub(crate) fn choose_narrow_program_of_three_reads(
+    op: BinaryOp,
+    left: &Formula,
+    right: &Formula,
+) -> Option<NarrowProgram>
+    ensures { IfSome result (λ it. program_formula it
+        ≡ binary op (formula_view left.now) (formula_view right.now)) }
+{
+    match choose_narrow_program_of_extreme(op, left, right) {
+        Some(it) => Some(it),
+        None => match op {
+            BinaryOp::Max => choose_narrow_program_of_median(left, right),
+            BinaryOp::Add | BinaryOp::Sub | BinaryOp::Mul | BinaryOp::Min => None,
+        },
     }
 }

@@ -1,7 +1,7 @@
 #![tactic(auto)]
 //! Rows of points, with the source of the samples there.
 
-use crate::narrow_source::NarrowSource;
+use narrow_sums::NarrowSource;
 use row_kernels::RowSpan;
 
 /// A row of points, and the source of the samples that are read there.

@@ -11,13 +11,12 @@ ghost use Rattle.tile_eval.specs.Reading.{KernelWithin};
 ghost use Rattle.value_ranges.specs.Narrow.{IsNarrowStencil, steps_before_division};
 ghost use Rattle.tile_eval.specs.inside.Stencil.{IsUnder};
 ghost use Rattle.narrow_eval.specs.NarrowStencils.{rows_below, line_total};
-ghost use Rattle.narrow_eval.specs.NarrowSums.{HasAddends, GivesSum};
+ghost use Rattle.narrow_sums.specs.NarrowSums.{HasAddends, GivesSum};
 
 use crate::narrow_points::NarrowPoints;
-use crate::narrow_source::NarrowSource;
-use crate::narrow_sum::NarrowSum;
 use job::Kernel;
 use narrow_kernels::{NarrowOperand, write_narrow_binary_results};
+use narrow_sums::{NarrowSource, NarrowSum};
 use operators::BinaryOp;
 use row_kernels::RowSpan;
 use value_ranges::count_narrow_steps_before_division;

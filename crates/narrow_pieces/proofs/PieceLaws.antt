@@ -24,8 +24,8 @@ use Rattle.narrow_kernels.specs.declared.narrow_affine_map.NarrowAffineMap.{Narr
 use Rattle.narrow_kernels.specs.declared.narrow_affine_extremes.NarrowExtreme.{NarrowExtreme}
 use Rattle.narrow_kernels.specs.NarrowAffine.{affine_value, FitsAffine}
 use Rattle.narrow_kernels.specs.NarrowAffineExtremes.{extreme_value}
-use Rattle.narrow_eval.proofs.NarrowRows.{narrow_along}
-use Rattle.narrow_eval.proofs.NarrowSums.{narrow_fits}
+use Rattle.narrow_sums.proofs.NarrowFormulas.{narrow_along}
+use Rattle.narrow_sums.proofs.NarrowFormulas.{narrow_fits}
 use Rattle.narrow_pieces.specs.declared.piece.NarrowPiece.{NarrowPiece}
 use Rattle.narrow_pieces.specs.declared.piece.NarrowPieces.{NarrowPieces}
 use Rattle.narrow_pieces.specs.declared.piece.NarrowPieces.TheVariants.{Two, Three}

@@ -3,13 +3,13 @@
 
 ghost use Rattle.std.specs.Prelude.{◌≡◌, ℤ, IfSome, FitsSigned};
 ghost use Rattle.std.specs.Int.{w16};
+ghost use Rattle.job.specs.Values.{Valuation, formula_value};
 ghost use Rattle.job.specs.Views.{formula_view};
 ghost use Rattle.operators.specs.Values.{binary_value, literal_value};
 ghost use Rattle.narrow_kernels.specs.NarrowAffine.{affine_value, FitsAffine};
 ghost use Rattle.narrow_pieces.specs.inside.Steps.{step_value, IsStepOf};
 
 use job::Formula;
-use narrow_eval::find_narrow_formula_constant;
 use narrow_kernels::NarrowAffineMap;
 use operators::{BinaryOp, LiteralOp};
 
@@ -65,18 +65,30 @@ fn find_narrow_piece_step_with_literal(op: LiteralOp, literal: u32) -> Option<Na
     }
 }
 
+// A number of the text that fits in 16 bits.
+#[tactic(auto, using(std::proofs::lemmas::Int::ints))]
+fn find_narrow_piece_number(formula: &Formula) -> Option<i16>
+    ensures { IfSome result (λ it. (env : Valuation) (r c : ℤ)
+        → formula_value env (formula_view formula.now) r c ≡ it) }
+{
+    match formula {
+        Formula::Number(number) if -32768 <= *number && *number <= 32767 => Some(*number as i16),
+        _ => None,
+    }
+}
+
 /// The last operator of a formula as a step, and the formula that the step takes the values of.
 pub(crate) fn match_narrow_piece_step(formula: &Formula) -> Option<(NarrowPieceStep, &Formula)>
     ensures { IfSome result (λ p. IsStepOf p.0 (formula_view p.1.now) (formula_view formula.now)) }
 {
     match formula {
-        Formula::Binary(op, left, right) => match find_narrow_formula_constant(right) {
+        Formula::Binary(op, left, right) => match find_narrow_piece_number(right) {
             Some(number) => Some((
                 find_narrow_piece_step_with_right_number(*op, number)?,
                 &**left,
             )),
             None => {
-                let number = find_narrow_formula_constant(left)?;
+                let number = find_narrow_piece_number(left)?;
                 let step = find_narrow_piece_step_with_left_number(*op, number)?;
                 Some((step, &**right))
             }

@@ -15,11 +15,11 @@ ghost use Rattle.narrow_pieces.specs.inside.Ready.{IsReadyPiece};
 
 use crate::piece::{NarrowPiece, NarrowPieces};
 use job::Function;
-use narrow_eval::NarrowSource;
 use narrow_kernels::{
     NarrowAffineLine, write_narrow_extremes_of_three_affine_maps,
     write_narrow_extremes_of_two_affine_maps,
 };
+use narrow_sums::NarrowSource;
 use row_kernels::RowSpan;
 
 // The samples that a piece takes along the points, with its map.

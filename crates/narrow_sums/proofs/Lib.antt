@@ -1,5 +1,7 @@
+pub mod NarrowFormulas
+pub mod NarrowAddends
 pub mod TermLaws
 pub mod TermOrders
-pub mod SumLaws
-pub mod RowLaws
 pub mod NearLaws
+pub mod SumRows
+pub mod RowLaws

@@ -22,7 +22,8 @@ use Rattle.narrow_sums.specs.declared.terms.NarrowSumTerm.{NarrowSumTerm}
 use Rattle.narrow_sums.specs.inside.TermValues.{sample_of, term_value}
 use Rattle.narrow_sums.specs.inside.TermOrders.{ordered_value, numbered_value}
 use Rattle.narrow_sums.specs.inside.NearTerms.{gap, near_read, IsNear, IsNearSum}
-use Rattle.narrow_sums.specs.inside.Terms.{IsReadyRead, IsReadyPart}
+use Rattle.tile_eval.specs.Reading.{ReadsWithin}
+use Rattle.narrow_sums.specs.SumTerms.{read_formula, part_formula}
 use Rattle.narrow_sums.proofs.TermOrders.{numbered_is, ordered_append}
 
 -- ---- what is found
@@ -46,10 +47,10 @@ near_more center bounds ts k t within front last =
     P : NarrowSumTerm → Type 0
     P u = IsNear center bounds u.part
 
-pub left_ready : (has : ℕ → ℤ → ℤ → Type 0) (r c : ℤ) (n : ℕ) (part : NarrowSumPart) → IsReadyPart has r c n part
-    → IsReadyRead has r c n (near_read part)
-left_ready has r c n (Read x) h = h
-left_ready has r c n (Difference d) h = h.0
+pub left_reads : (has : ℕ → ℤ → ℤ → Type 0) (r c : ℤ) (n : ℕ) (part : NarrowSumPart) → ReadsWithin has (part_formula part) r c n
+    → ReadsWithin has (read_formula (near_read part)) r c n
+left_reads has r c n (Read x) h = h
+left_reads has r c n (Difference d) h = h.0.0
 
 -- ---- lines
 
@@ -65,20 +66,20 @@ centered_sum_end center (x ∷ taps) tap k =
 module _ (env : Valuation) (r c : ℤ) (n : ℕ) (own : NarrowSumRead) (bounds : NarrowSumBounds) (center : NarrowCenter) (terms : List NarrowSumTerm)
     (has : IsNearSum env r c n own bounds center terms) where
   -- the line of a term
-  line_value : (tap : NarrowTap) (t : NarrowSumTerm) (k : ℕ) → k < n → tap.factor ≡ t.factor
+  line_value : (tap : NarrowTap) (t : NarrowSumTerm) (k : ℕ) → k < n → tap.factor ≡ t.weight
       → at tap.line.now k ≡ sample_of env (near_read t.part) r (c +ℤ pos k) → IsNear own bounds t.part → Fits16 (gap env t.part r (c +ℤ pos k))
       → centered_tap_at center tap k ≡ term_value env t r (c +ℤ pos k)
   line_value tap t k l factor line near fits =
       let here : ℤ = c +ℤ pos k in
       (λ i. factor i *ℤ clamped (line i -ℤ has.line.line k l i) (has.line.low i) (has.line.high i))
-      ∙ ap (λ (z : ℤ). t.factor *ℤ clamped z bounds.low bounds.high)
+      ∙ ap (λ (z : ℤ). t.weight *ℤ clamped z bounds.low bounds.high)
       (sym (near env r here).0 ∙ sym (int_wrap_fits w16 (gap env t.part r here) fits))
-      ∙ ap (λ (z : ℤ). t.factor *ℤ z) (sym (near env r here).1)
+      ∙ ap (λ (z : ℤ). t.weight *ℤ z) (sym (near env r here).1)
 
   -- one more line, where as many lines have what the front of an order adds
   pub one_more_line : (lines : List NarrowTap) (order : List ℕ) (count : ℕ) (tap : NarrowTap) (t : NarrowSumTerm)
       (k : ℕ) → k < n → count < length lines → count < length order → slice_index_or order count 0 < length terms
-      → t ≡ slice_index_or terms (slice_index_or order count 0) t → tap.factor ≡ t.factor
+      → t ≡ slice_index_or terms (slice_index_or order count 0) t → tap.factor ≡ t.weight
       → at tap.line.now k ≡ sample_of env (near_read t.part) r (c +ℤ pos k)
       → centered_tap_sum center (take count lines) k ≡ ordered_value env terms (take count order) r (c +ℤ pos k)
       → centered_tap_sum center (take (count + 1) (set lines count tap)) k ≡ ordered_value env terms (take (count + 1) order) r (c +ℤ pos k)
@@ -115,13 +116,13 @@ next_values env r c terms start end xs le =
 pub chunk_added : (s a x b d : ℤ) → x ≡ b → d ≡ a +ℤ b → s +ℤ a +ℤ x ≡ s +ℤ d
 chunk_added s a x b d e f = omega (arith, ints, e, f)
 
--- what is added to nothing, and a number
-pub from_none : (x h z m n : ℤ) → x ≡ int_wrap w16 (pos 0 +ℤ h) → h ≡ z → m ≡ n → int_wrap w16 (x +ℤ (pos 0 +ℤ m)) ≡ int_wrap w16 (z +ℤ n)
-from_none x h z m n e f g =
+-- what is added to a rest, and a number
+pub from_rest : (x rest h z m n : ℤ) → x ≡ int_wrap w16 (rest +ℤ h) → h ≡ z → m ≡ n → int_wrap w16 (x +ℤ (pos 0 +ℤ m)) ≡ int_wrap w16 (rest +ℤ z +ℤ n)
+from_rest x rest h z m n e f g =
     ap (λ (y : ℤ). int_wrap w16 (y +ℤ (pos 0 +ℤ m))) e
-    ∙ int_wrap-add_left w16 (pos 0 +ℤ h) (pos 0 +ℤ m)
-    ∙ ap (int_wrap w16) (together h m)
-    ∙ (λ i. int_wrap w16 (f i +ℤ g i))
+    ∙ int_wrap-add_left w16 (rest +ℤ h) (pos 0 +ℤ m)
+    ∙ ap (int_wrap w16) (together (rest +ℤ h) m)
+    ∙ (λ i. int_wrap w16 (rest +ℤ f i +ℤ g i))
   where
-    together : (a b : ℤ) → (pos 0 +ℤ a) +ℤ (pos 0 +ℤ b) ≡ a +ℤ b
+    together : (a b : ℤ) → a +ℤ (pos 0 +ℤ b) ≡ a +ℤ b
     together a b = omega (arith, ints)

@@ -1,2 +1,5 @@
+pub mod NarrowFormulas
+pub mod NarrowSums
+pub mod SumTerms
 pub mod SumRows
 pub mod inside

@@ -2,5 +2,4 @@
 pub mod TermValues
 pub mod TermOrders
 pub mod NearTerms
-pub mod Terms
-pub mod TermsOnce
+pub mod RowValues

@@ -11,7 +11,7 @@ ghost use Rattle.narrow_sums.specs.inside.NearTerms.{IsNear, AreNear};
 use crate::terms::{NarrowSumBounds, NarrowSumPart, NarrowSumRead, NarrowSumTerm};
 use domains::Index;
 
-// The fewest terms that are added from a center. Of fewer no pass has eight, in which each four of one factor are added first.
+// The fewest terms that are added from a center. Of fewer no pass has eight, in which each four of one weight are added first.
 const MANY: usize = 8;
 
 // Whether two indices are the same.
@@ -22,19 +22,19 @@ fn is_same_narrow_sum_read_index(index: &Index, other: &Index) -> bool
 }
 
 // Whether two reads are the same.
-fn is_same_narrow_sum_read(read: &NarrowSumRead<'_>, other: &NarrowSumRead<'_>) -> bool
+fn is_same_narrow_sum_read(read: &NarrowSumRead, other: &NarrowSumRead) -> bool
     ensures { IsTrue result → (env : Valuation) (r c : ℤ)
         → sample_of env read.now r c ≡ sample_of env other.now r c }
 {
     read.stage == other.stage
-        && is_same_narrow_sum_read_index(read.row, other.row)
-        && is_same_narrow_sum_read_index(read.col, other.col)
+        && is_same_narrow_sum_read_index(&read.row, &other.row)
+        && is_same_narrow_sum_read_index(&read.col, &other.col)
 }
 
 // Whether a part is a difference from a center, with these bounds.
 fn is_near_narrow_sum_part(
-    part: &NarrowSumPart<'_>,
-    center: &NarrowSumRead<'_>,
+    part: &NarrowSumPart,
+    center: &NarrowSumRead,
     bounds: NarrowSumBounds,
 ) -> bool
     ensures { IsTrue result → IsNear center.now bounds part.now }
@@ -49,7 +49,7 @@ fn is_near_narrow_sum_part(
 }
 
 // The bounds of the first term, if 0 lies between them.
-fn find_first_narrow_sum_term_bounds(terms: &[NarrowSumTerm<'_>]) -> Option<NarrowSumBounds>
+fn find_first_narrow_sum_term_bounds(terms: &[NarrowSumTerm]) -> Option<NarrowSumBounds>
     ensures { IfSome result (λ it. (it.low ≤ℤ pos 0) × (pos 0 ≤ℤ it.high)) }
 {
     let NarrowSumPart::Difference(first) = terms.first()?.part else {
@@ -67,8 +67,8 @@ fn find_first_narrow_sum_term_bounds(terms: &[NarrowSumTerm<'_>]) -> Option<Narr
 
 // The bounds of terms that are all differences from a center.
 fn find_narrow_sum_term_bounds(
-    terms: &[NarrowSumTerm<'_>],
-    center: &NarrowSumRead<'_>,
+    terms: &[NarrowSumTerm],
+    center: &NarrowSumRead,
 ) -> Option<NarrowSumBounds>
     ensures { IfSome result (λ it. AreNear center.now it terms.now) }
 {
@@ -86,8 +86,8 @@ fn find_narrow_sum_term_bounds(
 
 /// The bounds of terms, if all are differences from the center and have the same bounds.
 pub(crate) fn find_narrow_sum_row_bounds(
-    terms: &[NarrowSumTerm<'_>],
-    center: &Option<NarrowSumRead<'_>>,
+    terms: &[NarrowSumTerm],
+    center: &Option<NarrowSumRead>,
 ) -> Option<NarrowSumBounds>
     ensures { (x : ReadView) (b : BoundsView) → center.now ≡ Some x → result ≡ Some b → AreNear x b terms.now }
 {

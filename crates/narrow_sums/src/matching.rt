@@ -1,18 +1,15 @@
 #![tactic(auto)]
 //! The terms that formulas are.
 
-ghost use Rattle.std.specs.Prelude.{◌≡◌, pos, true, IfSome, IsTrue};
+ghost use Rattle.std.specs.Prelude.{◌≡◌, true, IfSome};
 ghost use Rattle.operators.specs.declared.operator.BinaryOp.TheVariants.{Sub};
 ghost use Rattle.job.specs.Formula.{number, binary};
-ghost use Rattle.job.specs.Reads.{reads_in};
 ghost use Rattle.job.specs.Views.{formula_view};
-ghost use Rattle.narrow_eval.specs.NarrowSums.{Same16, adds, signed};
-ghost use Rattle.narrow_sums.specs.inside.TermValues.{part_reads, IsTermOf};
-ghost use Rattle.narrow_sums.specs.inside.NearTerms.{IsPartFitting};
-ghost use Rattle.narrow_sums.specs.inside.Terms.{read_formula, difference_formula, part_formula, term_formula, times, IsShiftingRead, IsShiftingPart};
+ghost use Rattle.narrow_sums.specs.NarrowSums.{Same16, adds, signed};
+ghost use Rattle.narrow_sums.specs.SumTerms.{read_formula, difference_formula, part_formula, term_formula, times};
 
+use crate::reads::match_narrow_sum_read;
 use crate::terms::{NarrowSumDifference, NarrowSumPart, NarrowSumRead, NarrowSumTerm};
-use domains::Index;
 use job::Formula;
 use operators::{BinaryOp, TernaryOp};
 
@@ -26,38 +23,10 @@ pub(crate) fn match_narrow_sum_term_number(formula: &Formula) -> Option<i16>
     }
 }
 
-/// Whether an index only adds.
-#[inline]
-pub(crate) fn is_adding_narrow_sum_read_index(index: &Index) -> bool
-    ensures { IsTrue result → (index.now.mul ≡ pos 1) × (index.now.div ≡ pos 1) }
-{
-    index.mul() == 1 && index.div() == 1
-}
-
-/// A read whose samples can be borrowed.
-pub(crate) fn match_narrow_sum_read(formula: &Formula) -> Option<NarrowSumRead<'_>>
-    ensures some { IfSome result (λ it. formula_view formula.now ≡ read_formula it) }
-    ensures shifting { IfSome result IsShiftingRead }
-{
-    match formula {
-        Formula::Read(stage, row, col) if is_adding_narrow_sum_read_index(col) => {
-            Some(NarrowSumRead {
-                stage: *stage,
-                row,
-                col,
-            })
-        }
-        _ => None,
-    }
-}
-
-// The difference of two such reads.
-fn match_difference_of_narrow_sum_reads(
-    formula: &Formula,
-) -> Option<(NarrowSumRead<'_>, NarrowSumRead<'_>)>
-    ensures some { IfSome result (λ it. formula_view formula.now
+// The difference of two reads whose samples can be borrowed.
+fn match_difference_of_narrow_sum_reads(formula: &Formula) -> Option<(NarrowSumRead, NarrowSumRead)>
+    ensures { IfSome result (λ it. formula_view formula.now
         ≡ binary Sub (read_formula it.0) (read_formula it.1)) }
-    ensures shifting { IfSome result (λ it. IsShiftingRead it.0 × IsShiftingRead it.1) }
 {
     match formula {
         Formula::Binary(BinaryOp::Sub, left, right) => Some((
@@ -69,9 +38,8 @@ fn match_difference_of_narrow_sum_reads(
 }
 
 // A clamped difference.
-fn match_clamped_narrow_sum_part(formula: &Formula) -> Option<NarrowSumDifference<'_>>
-    ensures some { IfSome result (λ it. formula_view formula.now ≡ difference_formula it) }
-    ensures shifting { IfSome result (λ it. IsShiftingRead it.left × IsShiftingRead it.right) }
+fn match_clamped_narrow_sum_part(formula: &Formula) -> Option<NarrowSumDifference>
+    ensures { IfSome result (λ it. formula_view formula.now ≡ difference_formula it) }
 {
     match formula {
         Formula::Ternary(TernaryOp::Clamp, of, low, high) => {
@@ -88,9 +56,8 @@ fn match_clamped_narrow_sum_part(formula: &Formula) -> Option<NarrowSumDifferenc
 }
 
 // A read or a clamped difference.
-fn match_narrow_sum_part(formula: &Formula) -> Option<NarrowSumPart<'_>>
-    ensures some { IfSome result (λ it. formula_view formula.now ≡ part_formula it) }
-    ensures shifting { IfSome result IsShiftingPart }
+fn match_narrow_sum_part(formula: &Formula) -> Option<NarrowSumPart>
+    ensures { IfSome result (λ it. formula_view formula.now ≡ part_formula it) }
 {
     match match_narrow_sum_read(formula) {
         Some(read) => Some(NarrowSumPart::Read(read)),
@@ -109,16 +76,6 @@ fn split_narrow_sum_term(formula: &Formula) -> Option<(i16, &Formula)>
         },
         _ => Some((1, formula)),
     }
-}
-
-// A term that is not subtracted.
-fn match_narrow_sum_term(formula: &Formula) -> Option<NarrowSumTerm<'_>>
-    ensures some { IfSome result (λ it. formula_view formula.now ≡ term_formula it) }
-    ensures shifting { IfSome result (λ it. IsShiftingPart it.part) }
-{
-    let (factor, of) = split_narrow_sum_term(formula)?;
-    let part = match_narrow_sum_part(of)?;
-    Some(NarrowSumTerm { factor, part })
 }
 
 /// Whether an operator adds or subtracts.
@@ -142,21 +99,19 @@ fn sign_narrow_sum_term_factor(op: BinaryOp, factor: i16) -> i16
     }
 }
 
-/// The term by which an operator joins a formula to a sum.
-pub(crate) fn match_signed_narrow_sum_term(
-    op: BinaryOp,
-    formula: &Formula,
-) -> Option<NarrowSumTerm<'_>>
+/// The term that a formula is, with the operator that joins it to a sum.
+pub(crate) fn match_narrow_sum_term(op: BinaryOp, formula: &Formula) -> Option<NarrowSumTerm>
     requires { adds op ≡ true }
-    ensures value { IfSome result (λ it. IsTermOf op (formula_view formula.now) it) }
-    ensures reads { IfSome result (λ it. part_reads it.part ≡ reads_in (formula_view formula.now)) }
-    ensures shifting { IfSome result (λ it. IsShiftingPart it.part) }
-    ensures fits { IfSome result (λ it. IsPartFitting (formula_view formula.now) it.part) }
+    ensures op { IfSome result (λ it. it.op ≡ op) }
+    ensures formula { IfSome result (λ it. formula_view formula.now ≡ term_formula it) }
 {
-    let term = match_narrow_sum_term(formula)?;
-    let factor = sign_narrow_sum_term_factor(op, term.factor);
+    let (factor, of) = split_narrow_sum_term(formula)?;
+    let part = match_narrow_sum_part(of)?;
+    let weight = sign_narrow_sum_term_factor(op, factor);
     Some(NarrowSumTerm {
+        op,
         factor,
-        part: term.part,
+        weight,
+        part,
     })
 }

@@ -1,95 +1,55 @@
 #![tactic(auto)]
 //! Rows of sums.
 
-ghost use Rattle.std.specs.Prelude.{◌≡◌, ◌≤◌, ◌+ℤ◌, ◌*ℤ◌, ℕ, ℤ, pos, length, take, All};
-ghost use Rattle.domains.specs.Arithmetic.{floor_div};
+ghost use Rattle.std.specs.Prelude.{◌≡◌, ◌≤◌, ◌+ℤ◌, ◌*ℤ◌, ℕ, ℤ, pos, length, take};
 ghost use Rattle.std.specs.Int.{w16, int_wrap};
-ghost use Rattle.domains.specs.Index.{index_at};
-ghost use Rattle.job.specs.Reads.{EachRead};
+ghost use Rattle.operators.specs.Limits.{IsDivisor};
+ghost use Rattle.job.specs.Formula.{Formula as FormulaView};
 ghost use Rattle.job.specs.Values.{formula_value};
 ghost use Rattle.row_loops.specs.Rows.{EachPlace, at};
-ghost use Rattle.value_ranges.specs.Narrow.{IsNarrow};
-ghost use Rattle.narrow_eval.specs.NarrowSums.{HasAddends, GivesSum};
+ghost use Rattle.tile_eval.specs.Reading.{ReadsWithin};
 ghost use Rattle.narrow_kernels.specs.NarrowDifferences.{narrow_difference_at};
 ghost use Rattle.narrow_kernels.specs.NarrowTaps.{HaveTapLines};
 ghost use Rattle.narrow_kernels.specs.NarrowCenters.{centered_tap_sum, IsCenter};
 ghost use Rattle.narrow_kernels.specs.declared.narrow_centers.NarrowCenter.{NarrowCenter as CenterView};
+ghost use Rattle.narrow_sums.specs.NarrowFormulas.{NarrowWithin};
+ghost use Rattle.narrow_sums.specs.NarrowSums.{HasAddends, GivesSum, IsRest};
+ghost use Rattle.narrow_sums.specs.SumTerms.{read_formula, difference_formula, part_formula, TermsWithin};
+ghost use Rattle.narrow_sums.specs.SumRows.{sum_row_formula, joined_sum_formula, RowReadsWithin};
 ghost use Rattle.narrow_sums.specs.declared.terms.NarrowSumRead.{NarrowSumRead as ReadView};
 ghost use Rattle.narrow_sums.specs.declared.terms.NarrowSumBounds.{NarrowSumBounds as BoundsView};
-ghost use Rattle.narrow_sums.specs.inside.NearTerms.{near_read, AreNear, AreGapsFitting, IsNearSum};
-ghost use Rattle.narrow_sums.specs.SumRows.{sum_row_formula};
-ghost use Rattle.narrow_sums.specs.inside.TermValues.{sample_of, part_value, term_value, terms_value};
-ghost use Rattle.narrow_sums.specs.inside.TermOrders.{ordered_value, AreTermNumbers};
-ghost use Rattle.narrow_sums.specs.inside.Terms.{IsShiftingRead, IsReadyRead, IsReadyPart};
 ghost use Rattle.narrow_sums.specs.declared.terms.NarrowSumPart.TheVariants.{Difference};
+ghost use Rattle.narrow_sums.specs.inside.NearTerms.{near_read, AreNear, AreGapsFitting, IsNearSum};
+ghost use Rattle.narrow_sums.specs.inside.TermValues.{part_value, term_value};
+ghost use Rattle.narrow_sums.specs.inside.TermOrders.{ordered_value, AreTermNumbers};
+ghost use Rattle.narrow_sums.specs.inside.RowValues.{number_of, divisor_of, divided_value, row_value};
 
-use crate::matching::is_adding_narrow_sum_read_index;
+use crate::narrow_source::NarrowSource;
+use crate::narrow_sum::NarrowSum;
+use crate::reads::borrow_narrow_sum_read_line;
 use crate::sum_row::NarrowSumRow;
 use crate::terms::{
     NarrowSumBounds, NarrowSumDifference, NarrowSumPart, NarrowSumRead, NarrowSumTerm,
 };
-use narrow_eval::{NarrowSource, NarrowSum};
 use narrow_kernels::{
-    NarrowCenter, NarrowClampedDifference, NarrowOperand, NarrowTap,
-    add_and_divide_narrow_tap_sums, add_centered_narrow_tap_sums, fill_narrow_row,
-    write_narrow_binary_results,
+    NarrowCenter, NarrowClampedDifference, NarrowTap, add_and_divide_narrow_tap_sums,
+    add_centered_narrow_tap_sums, add_narrow_tap_sums, fill_narrow_row,
 };
-use operators::BinaryOp;
 use row_kernels::RowSpan;
 
 // How many differences from a center are added in one pass.
 const NEAR: usize = 8;
 
-// The row that a read takes, without a division if its index only adds.
-#[inline]
-fn find_row_of_narrow_sum_read(read: &NarrowSumRead<'_>, points: &RowSpan) -> i32
-    ensures { result ≡ index_at read.now.row.now points.now.row }
-{
-    if is_adding_narrow_sum_read_index(read.row) {
-        points.row + read.row.add()
-    } else {
-        points.row_at_index(read.row)
-    }
-}
-
-// The first column that a read takes.
-#[inline]
-fn find_first_column_of_narrow_sum_read(read: &NarrowSumRead<'_>, points: &RowSpan) -> i32
-    requires { IsShiftingRead read.now }
-    ensures { result ≡ index_at read.now.col.now points.now.col }
-{
-    points.col + read.col.add()
-}
-
-// The samples that a read takes along the points.
-#[inline]
-fn borrow_narrow_sum_read_line<'a, S: NarrowSource>(
-    source: &'a S,
-    read: &NarrowSumRead<'_>,
-    points: &RowSpan,
-) -> &'a [i16]
-    requires { IsReadyRead (S.has source.now) points.now.row points.now.col points.now.len read.now }
-    ensures count { length result.now ≡ points.now.len }
-    ensures values { EachPlace points.now.len (λ k. at result.now k
-        ≡ sample_of (S.samples source.now) read.now points.now.row (points.now.col +ℤ pos k)) }
-{
-    let row = find_row_of_narrow_sum_read(read, points);
-    let first = find_first_column_of_narrow_sum_read(read, points);
-    source.borrow_narrow_row(read.stage, row, first, points.len)
-}
-
-// A factor, and the lines whose clamped difference it multiplies.
+// A weight, and the lines whose clamped difference it multiplies.
 #[inline]
 fn borrow_narrow_sum_part_lines<'a, S: NarrowSource>(
     source: &'a S,
     factor: i16,
-    difference: &NarrowSumDifference<'_>,
+    difference: &NarrowSumDifference,
     points: &RowSpan,
 ) -> NarrowClampedDifference<'a>
-    requires left { IsReadyRead (S.has source.now) points.now.row points.now.col points.now.len
-        difference.now.left }
-    requires right { IsReadyRead (S.has source.now) points.now.row points.now.col points.now.len
-        difference.now.right }
+    requires { ReadsWithin (S.has source.now) (difference_formula difference.now) points.now.row
+        points.now.col points.now.len }
     ensures left { length result.left.now ≡ points.now.len }
     ensures right { length result.right.now ≡ points.now.len }
     ensures values { EachPlace points.now.len (λ k. narrow_difference_at result k
@@ -109,21 +69,21 @@ fn borrow_narrow_sum_part_lines<'a, S: NarrowSource>(
 #[inline]
 fn push_narrow_sum_term<'a, S: NarrowSource>(
     source: &'a S,
-    term: &NarrowSumTerm<'_>,
+    term: &NarrowSumTerm,
     points: &RowSpan,
     sum: &mut NarrowSum<'a>,
     out: &mut [i16],
 )
     requires fits { length out.old ≡ points.now.len }
-    requires ready { IsReadyPart (S.has source.now) points.now.row points.now.col points.now.len
-        term.now.part }
+    requires reads { ReadsWithin (S.has source.now) (part_formula term.now.part) points.now.row
+        points.now.col points.now.len }
     requires addends { HasAddends (length out.old) sum.old }
     ensures addends { HasAddends (length out.old) sum.new }
     ensures sum { (f : ℕ → ℤ) → GivesSum (length out.old) f sum.old out.old
         → GivesSum (length out.old) (λ k. f k +ℤ term_value (S.samples source.now) term.now points.now.row
         (points.now.col +ℤ pos k)) sum.new out.new }
 {
-    let factor = term.factor;
+    let factor = term.weight;
     match &term.part {
         NarrowSumPart::Read(read) => {
             let line = borrow_narrow_sum_read_line(source, read, points);
@@ -139,7 +99,7 @@ fn push_narrow_sum_term<'a, S: NarrowSource>(
 // Adds the terms of these numbers to a sum.
 fn push_narrow_sum_terms<'a, S: NarrowSource>(
     source: &'a S,
-    terms: &[NarrowSumTerm<'_>],
+    terms: &[NarrowSumTerm],
     order: &[usize],
     points: &RowSpan,
     sum: &mut NarrowSum<'a>,
@@ -147,8 +107,8 @@ fn push_narrow_sum_terms<'a, S: NarrowSource>(
 )
     requires fits { length out.old ≡ points.now.len }
     requires numbers { AreTermNumbers terms.now order.now }
-    requires ready { All (λ t. IsReadyPart (S.has source.now) points.now.row points.now.col
-        points.now.len t.part) terms.now }
+    requires reads { TermsWithin (S.has source.now) terms.now points.now.row points.now.col
+        points.now.len }
     requires addends { HasAddends (length out.old) sum.old }
     ensures addends { HasAddends (length out.old) sum.new }
     ensures sum { (f : ℕ → ℤ) → GivesSum (length out.old) f sum.old out.old
@@ -162,7 +122,7 @@ fn push_narrow_sum_terms<'a, S: NarrowSource>(
 
 // The left read of a difference, or the read.
 #[inline]
-fn find_left_narrow_sum_read<'a>(part: &NarrowSumPart<'a>) -> NarrowSumRead<'a>
+fn find_left_narrow_sum_read(part: &NarrowSumPart) -> NarrowSumRead
     ensures { result ≡ near_read part.now }
 {
     match part {
@@ -171,18 +131,18 @@ fn find_left_narrow_sum_read<'a>(part: &NarrowSumPart<'a>) -> NarrowSumRead<'a>
     }
 }
 
-// The left lines of up to eight terms of these numbers, with their factors.
+// The left lines of up to eight terms of these numbers, with their weights.
 #[inline]
 fn borrow_left_narrow_sum_term_lines<'a, S: NarrowSource>(
     source: &'a S,
-    terms: &[NarrowSumTerm<'_>],
+    terms: &[NarrowSumTerm],
     order: &[usize],
     points: &RowSpan,
 ) -> [NarrowTap<'a>; NEAR]
     requires count { length order.now ≤ 8 }
     requires numbers { AreTermNumbers terms.now order.now }
-    requires ready { All (λ t. IsReadyPart (S.has source.now) points.now.row points.now.col
-        points.now.len t.part) terms.now }
+    requires reads { TermsWithin (S.has source.now) terms.now points.now.row points.now.col
+        points.now.len }
     ensures space { length result ≡ 8 }
     ensures lines { HaveTapLines points.now.len (take (length order.now) result) }
     ensures values { (own : ReadView) (bounds : BoundsView) (center : CenterView)
@@ -200,7 +160,7 @@ fn borrow_left_narrow_sum_term_lines<'a, S: NarrowSource>(
         let left = find_left_narrow_sum_read(&term.part);
         lines[i] = NarrowTap {
             line: borrow_narrow_sum_read_line(source, &left, points),
-            factor: term.factor,
+            factor: term.weight,
         };
     }
     lines
@@ -209,7 +169,7 @@ fn borrow_left_narrow_sum_term_lines<'a, S: NarrowSource>(
 // Adds the terms of these numbers, which are differences from a center.
 fn add_near_narrow_sum_terms<S: NarrowSource>(
     source: &S,
-    terms: &[NarrowSumTerm<'_>],
+    terms: &[NarrowSumTerm],
     order: &[usize],
     center: NarrowCenter<'_>,
     points: &RowSpan,
@@ -217,8 +177,8 @@ fn add_near_narrow_sum_terms<S: NarrowSource>(
 )
     requires fits { length out.old ≡ points.now.len }
     requires numbers { AreTermNumbers terms.now order.now }
-    requires ready { All (λ t. IsReadyPart (S.has source.now) points.now.row points.now.col
-        points.now.len t.part) terms.now }
+    requires reads { TermsWithin (S.has source.now) terms.now points.now.row points.now.col
+        points.now.len }
     requires center { IsCenter (length out.old) center }
     ensures { (own : ReadView) (bounds : BoundsView)
         → IsNearSum (S.samples source.now) points.now.row points.now.col points.now.len own bounds center.entry terms.now
@@ -236,99 +196,191 @@ fn add_near_narrow_sum_terms<S: NarrowSource>(
     }
 }
 
-// Writes the quotients of a sum whose terms are differences from a center.
-fn write_near_narrow_sum_row_quotients<S: NarrowSource>(
+// The number that a row adds: 0 if there is none.
+#[inline]
+fn find_number_of_narrow_sum_row(row: &NarrowSumRow) -> i16
+    ensures { result ≡ number_of row.now.number }
+{
+    match row.number {
+        Some(number) => number,
+        None => 0,
+    }
+}
+
+// The divisor of a row: 1 if there is no quotient.
+#[inline]
+fn find_divisor_of_narrow_sum_row(row: &NarrowSumRow) -> u32
+    ensures value { result ≡ divisor_of row.now.quotient }
+    ensures divisor { IsDivisor result }
+{
+    match row.quotient {
+        Some(quotient) => quotient.divisor,
+        None => 1,
+    }
+}
+
+// Writes 0 at each place of a row that has not been written.
+fn clear_unwritten_narrow_sum_row(is_written: bool, out: &mut [i16])
+    ensures { EachPlace (length out.old) (λ k. (rest : ℤ) → IsRest is_written (at out.old k) rest
+        → at out.new k ≡ int_wrap w16 rest) }
+{
+    if !is_written {
+        fill_narrow_row(out, 0);
+    }
+}
+
+// Adds terms that are differences from a center, and the number, to the rest of a sum, and divides it.
+fn divide_near_narrow_sum_row<S: NarrowSource>(
     source: &S,
-    row: &NarrowSumRow<'_>,
-    own: &NarrowSumRead<'_>,
+    row: &NarrowSumRow,
+    own: &NarrowSumRead,
     bounds: NarrowSumBounds,
     points: &RowSpan,
+    is_written: bool,
     out: &mut [i16],
 )
     requires fits { length out.old ≡ points.now.len }
-    requires own { IsReadyRead (S.has source.now) points.now.row points.now.col points.now.len own.now }
-    requires ready { All (λ t. IsReadyPart (S.has source.now) points.now.row points.now.col
-        points.now.len t.part) row.now.terms.items }
+    requires own { ReadsWithin (S.has source.now) (read_formula own.now) points.now.row
+        points.now.col points.now.len }
+    requires reads { TermsWithin (S.has source.now) row.now.terms.items points.now.row
+        points.now.col points.now.len }
     requires near { AreNear own.now bounds row.now.terms.items }
-    requires gaps { AreGapsFitting (S.samples source.now) points.now.row points.now.col points.now.len
-        row.now.terms.items }
-    ensures { EachPlace (length out.old) (λ k. at out.new k
-        ≡ floor_div (int_wrap w16 (terms_value (S.samples source.now) row.now.terms.items points.now.row
-        (points.now.col +ℤ pos k) +ℤ row.now.number)) (pos row.now.divisor)) }
+    ensures { (f : ℕ → ℤ) → AreGapsFitting (S.samples source.now) points.now.row points.now.col
+        points.now.len row.now.terms.items
+        → EachPlace (length out.old) (λ k. IsRest is_written (at out.old k) (f k))
+        → EachPlace (length out.old) (λ k. at out.new k ≡ divided_value (S.samples source.now)
+        row.now (f k) points.now.row (points.now.col +ℤ pos k)) }
 {
     let center = NarrowCenter {
         line: borrow_narrow_sum_read_line(source, own, points),
         low: bounds.low,
         high: bounds.high,
     };
-    fill_narrow_row(out, 0);
+    clear_unwritten_narrow_sum_row(is_written, out);
     add_near_narrow_sum_terms(source, &row.terms, &row.order, center, points, out);
-    add_and_divide_narrow_tap_sums(out, &[], row.number, row.divisor);
+    let number = find_number_of_narrow_sum_row(row);
+    let divisor = find_divisor_of_narrow_sum_row(row);
+    add_and_divide_narrow_tap_sums(out, &[], number, divisor);
 }
 
-// Writes the quotients of any sum.
-fn write_plain_narrow_sum_row_quotients<S: NarrowSource>(
+// Adds any terms, and the number, to the rest of a sum, and divides it.
+fn divide_plain_narrow_sum_row<S: NarrowSource>(
     source: &S,
-    row: &NarrowSumRow<'_>,
+    row: &NarrowSumRow,
     points: &RowSpan,
+    is_written: bool,
     out: &mut [i16],
 )
     requires fits { length out.old ≡ points.now.len }
-    requires ready { All (λ t. IsReadyPart (S.has source.now) points.now.row points.now.col
-        points.now.len t.part) row.now.terms.items }
-    ensures { EachPlace (length out.old) (λ k. at out.new k
-        ≡ floor_div (int_wrap w16 (terms_value (S.samples source.now) row.now.terms.items points.now.row
-        (points.now.col +ℤ pos k) +ℤ row.now.number)) (pos row.now.divisor)) }
+    requires reads { TermsWithin (S.has source.now) row.now.terms.items points.now.row
+        points.now.col points.now.len }
+    ensures { (f : ℕ → ℤ)
+        → EachPlace (length out.old) (λ k. IsRest is_written (at out.old k) (f k))
+        → EachPlace (length out.old) (λ k. at out.new k ≡ divided_value (S.samples source.now)
+        row.now (f k) points.now.row (points.now.col +ℤ pos k)) }
 {
-    let mut sum = NarrowSum::of_no_narrow_addends();
+    let mut sum = NarrowSum::from_narrow_row(is_written);
     push_narrow_sum_terms(source, &row.terms, &row.order, points, &mut sum, out);
-    sum.divide_narrow_sum(row.number, row.divisor, out);
+    let number = find_number_of_narrow_sum_row(row);
+    let divisor = find_divisor_of_narrow_sum_row(row);
+    sum.divide_narrow_sum(number, divisor, out);
 }
 
-// Writes the quotients of a sum.
-fn write_narrow_sum_row_quotients<S: NarrowSource>(
+// Adds the terms and the number to the rest of a sum, and divides it.
+fn divide_narrow_sum_row<S: NarrowSource>(
     source: &S,
-    row: &NarrowSumRow<'_>,
+    row: &NarrowSumRow,
     points: &RowSpan,
+    is_written: bool,
     out: &mut [i16],
 )
     requires fits { length out.old ≡ points.now.len }
-    requires reads { EachPlace points.now.len (λ k. EachRead (S.has source.now)
-        (sum_row_formula row.now) points.now.row (points.now.col +ℤ pos k)) }
-    requires narrow { EachPlace points.now.len (λ k. IsNarrow (S.samples source.now)
-        (sum_row_formula row.now) points.now.row (points.now.col +ℤ pos k)) }
-    ensures { EachPlace (length out.old) (λ k. at out.new k
-        ≡ floor_div (int_wrap w16 (terms_value (S.samples source.now) row.now.terms.items points.now.row
-        (points.now.col +ℤ pos k) +ℤ row.now.number)) (pos row.now.divisor)) }
+    requires reads { RowReadsWithin (S.has source.now) row.now points.now.row points.now.col
+        points.now.len }
+    ensures { (f : ℕ → ℤ) → AreGapsFitting (S.samples source.now) points.now.row points.now.col
+        points.now.len row.now.terms.items
+        → EachPlace (length out.old) (λ k. IsRest is_written (at out.old k) (f k))
+        → EachPlace (length out.old) (λ k. at out.new k ≡ divided_value (S.samples source.now)
+        row.now (f k) points.now.row (points.now.col +ℤ pos k)) }
 {
     match (&row.center, row.bounds) {
         (Some(center), Some(bounds)) => {
-            write_near_narrow_sum_row_quotients(source, row, center, bounds, points, out);
+            divide_near_narrow_sum_row(source, row, center, bounds, points, is_written, out);
         }
-        _ => write_plain_narrow_sum_row_quotients(source, row, points, out),
+        _ => divide_plain_narrow_sum_row(source, row, points, is_written, out),
+    }
+}
+
+// Adds the numbers of a line to those of a row, wrapped at 16 bits.
+fn add_line_of_narrow_sum_center(line: &[i16], out: &mut [i16])
+    requires { length line.now ≡ length out.old }
+    ensures { EachPlace (length out.old) (λ k. (s : ℤ) → at out.old k ≡ int_wrap w16 s
+        → at out.new k ≡ int_wrap w16 (s +ℤ at line.now k)) }
+{
+    add_narrow_tap_sums(out, &[NarrowTap { line, factor: 1 }]);
+}
+
+// Writes what a row makes of the rest of a sum, wrapped at 16 bits.
+fn complete_narrow_sum_row<S: NarrowSource>(
+    source: &S,
+    row: &NarrowSumRow,
+    points: &RowSpan,
+    is_written: bool,
+    out: &mut [i16],
+)
+    requires fits { length out.old ≡ points.now.len }
+    requires reads { RowReadsWithin (S.has source.now) row.now points.now.row points.now.col
+        points.now.len }
+    ensures { (f : ℕ → ℤ) → AreGapsFitting (S.samples source.now) points.now.row points.now.col
+        points.now.len row.now.terms.items
+        → EachPlace (length out.old) (λ k. IsRest is_written (at out.old k) (f k))
+        → EachPlace (length out.old) (λ k. at out.new k ≡ row_value (S.samples source.now) row.now
+        (f k) points.now.row (points.now.col +ℤ pos k)) }
+{
+    divide_narrow_sum_row(source, row, points, is_written, out);
+    if let Some(center) = &row.center {
+        let line = borrow_narrow_sum_read_line(source, center, points);
+        add_line_of_narrow_sum_center(line, out);
     }
 }
 
 /// Writes the values of a sum at a row of points, where each number that is computed fits in 16 bits.
 pub fn write_narrow_sum_row<S: NarrowSource>(
     source: &S,
-    row: &NarrowSumRow<'_>,
+    row: &NarrowSumRow,
     points: &RowSpan,
     out: &mut [i16],
 )
     requires fits { length out.old ≡ points.now.len }
-    requires reads { EachPlace points.now.len (λ k. EachRead (S.has source.now)
-        (sum_row_formula row.now) points.now.row (points.now.col +ℤ pos k)) }
-    requires narrow { EachPlace points.now.len (λ k. IsNarrow (S.samples source.now)
-        (sum_row_formula row.now) points.now.row (points.now.col +ℤ pos k)) }
+    requires reads { ReadsWithin (S.has source.now) (sum_row_formula row.now) points.now.row
+        points.now.col points.now.len }
+    requires narrow { NarrowWithin (S.samples source.now) (sum_row_formula row.now) points.now.row
+        points.now.col points.now.len }
     ensures { EachPlace (length out.old) (λ k. at out.new k
         ≡ formula_value (S.samples source.now) (sum_row_formula row.now) points.now.row
         (points.now.col +ℤ pos k)) }
 {
-    write_narrow_sum_row_quotients(source, row, points, out);
-    if let Some(center) = &row.center {
-        let line = borrow_narrow_sum_read_line(source, center, points);
-        let own = NarrowOperand::Line(line);
-        write_narrow_binary_results(BinaryOp::Add, out, own, NarrowOperand::Written);
-    }
+    complete_narrow_sum_row(source, row, points, false, out);
+}
+
+/// Joins the terms of a sum to the values of a formula, which the row has. Where each number that is computed fits in 16 bits, the row then
+/// has the values of the sum that begins with the formula.
+pub fn join_narrow_sum_row<S: NarrowSource>(
+    source: &S,
+    row: &NarrowSumRow,
+    points: &RowSpan,
+    out: &mut [i16],
+)
+    requires fits { length out.old ≡ points.now.len }
+    requires reads { RowReadsWithin (S.has source.now) row.now points.now.row points.now.col
+        points.now.len }
+    ensures { (f : FormulaView) → NarrowWithin (S.samples source.now) (joined_sum_formula f row.now)
+        points.now.row points.now.col points.now.len
+        → EachPlace (length out.old) (λ k. at out.old k
+        ≡ formula_value (S.samples source.now) f points.now.row (points.now.col +ℤ pos k))
+        → EachPlace (length out.old) (λ k. at out.new k
+        ≡ formula_value (S.samples source.now) (joined_sum_formula f row.now) points.now.row
+        (points.now.col +ℤ pos k)) }
+{
+    complete_narrow_sum_row(source, row, points, true, out);
 }

@@ -6,7 +6,7 @@ use Rattle.std.proofs.Math.Logic.{∥∥₁_elim}
 use Rattle.std.proofs.Props.{props}
 use Rattle.std.proofs.lemmas.List.{take_more, map-append}
 use Rattle.std.proofs.lemmas.Option.{none-some, same_Some}
-use Rattle.job.specs.Formula.{Formula, number, coordinate, read, unary, binary, ternary, literal, lookup, select, stencil}
+use Rattle.job.specs.Formula.{Formula}
 use Rattle.job.specs.Pipeline.{JobCase, function, Stage}
 use Rattle.job.specs.Reads.{EachRead, EachTaken, BodyReads, reads_in}
 use Rattle.job.specs.ReadViews.{same_reads-prop}
@@ -14,7 +14,9 @@ use Rattle.job.specs.Values.{Valuation, formula_value}
 use Rattle.job.specs.Views.{stage_view}
 use Rattle.job.specs.declared.stage.Stage.{Stage as KeptStage}
 use Rattle.tile_eval.specs.Cases.{function_value}
-use Rattle.value_ranges.specs.Narrow.{IsNarrow, IsNarrowFunction}
+use Rattle.column_phases.specs.Phases.{ArePhasesOf}
+use Rattle.column_phases.specs.PhasesOnce.{ArePhasesOf-prop}
+use Rattle.job.specs.declared.stage.Function.{Function}
 use Rattle.row_rings.specs.RingShapes.{IsFormulaBody, IsShapeOf, AreShapesOf}
 use Rattle.row_rings.specs.declared.ring_shapes.RingShape.{RingShape}
 
@@ -28,32 +30,18 @@ formula_read P f cases (Some g) r c is h =
     subst (λ xs. All (λ x. EachTaken P x r c) xs) (∥∥₁_elim is (same_reads-prop (reads_in g) (reads_in f)) (λ e. ap reads_in (same_Some g f e.1)))
     (h.1 g refl)
 
--- a formula is narrow at a point in one way
-IsNarrow-prop : (env : Valuation) (f : Formula) (r c : ℤ) → IsProp (IsNarrow env f r c)
-IsNarrow-prop env (number n) r c = hlevel props
-IsNarrow-prop env (coordinate x) r c = hlevel props
-IsNarrow-prop env (read g i j) r c = hlevel props
-IsNarrow-prop env (unary op a) r c = hlevel (IsNarrow-prop env a, props)
-IsNarrow-prop env (binary op a b) r c = hlevel (IsNarrow-prop env a, IsNarrow-prop env b, props)
-IsNarrow-prop env (ternary op a b d) r c = hlevel (IsNarrow-prop env a, IsNarrow-prop env b, IsNarrow-prop env d, props)
-IsNarrow-prop env (literal op a n) r c = hlevel (IsNarrow-prop env a, props)
-IsNarrow-prop env (lookup t a) r c = hlevel props
-IsNarrow-prop env (select a relation b x y) r c =
-    hlevel (IsNarrow-prop env a, IsNarrow-prop env b, IsNarrow-prop env x, IsNarrow-prop env y, props)
-IsNarrow-prop env (stencil g divisor kernel) r c = hlevel props
-
--- where the function is narrow, so is the formula
-pub formula_narrow : (env : Valuation) (f : Formula) (cases : List JobCase) (otherwise : Option Formula) (r c : ℤ)
-    → IsFormulaBody f (function cases otherwise) → IsNarrowFunction env cases otherwise r c → IsNarrow env f r c
-formula_narrow env f cases None r c is h = absurd (∥∥₁_elim is (λ x y. absurd x) (λ e. none-some f e.1))
-formula_narrow env f cases (Some g) r c is h =
-    ∥∥₁_elim is (IsNarrow-prop env f r c) (λ e. subst (λ (x : Formula). IsNarrow env x r c) (same_Some g f e.1) (h.other g refl))
-
 -- they have one value
 pub formula_everywhere : (env : Valuation) (f : Formula) (cases : List JobCase) (otherwise : Option Formula) (r c : ℤ)
     → IsFormulaBody f (function cases otherwise) → formula_value env f r c ≡ function_value env cases otherwise r c
 formula_everywhere env f cases otherwise r c is =
     ∥∥₁_elim is (hlevel props) (λ e i. function_value env (sym e.0 i) (sym e.1 i) r c)
+
+-- phases of a function are those of the same one
+pub phases_same : (phases : List Function) (ps us : List JobCase) (o w : Option Formula) → ∥ (ps ≡ us) × (o ≡ w) ∥₁
+    → ArePhasesOf phases us w → ArePhasesOf phases ps o
+phases_same phases ps us o w same are =
+    ∥∥₁_elim same (ArePhasesOf-prop phases ps o) (λ e. subst (λ (xs : List JobCase). ArePhasesOf phases xs o) (sym e.0)
+    (subst (λ (x : Option Formula). ArePhasesOf phases us x) (sym e.1) are))
 
 -- ---- the shapes of stages
 

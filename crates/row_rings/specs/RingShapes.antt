@@ -7,10 +7,11 @@ use Rattle.job.specs.Pipeline.{Body, plane, function, accumulator, Stage, Pipeli
 use Rattle.linear_rows.specs.RowFormulas.{linear_formula, IsRightLinear}
 use Rattle.narrow_pieces.specs.Pieces.{AreFunctionPieces}
 use Rattle.narrow_pieces.specs.declared.piece.NarrowPieces.{NarrowPieces}
-use Rattle.narrow_sums.specs.SumRows.{sum_row_formula}
+use Rattle.narrow_eval.specs.NarrowPrograms.{IsProgramOf}
+use Rattle.narrow_eval.specs.declared.narrow_case.NarrowFunction.{NarrowFunction}
 use Rattle.wide_divisions.specs.DivisionSteps.{step_formula, IsRightStep}
 use Rattle.row_rings.specs.declared.ring_shapes.RingShape.{RingShape}
-use Rattle.row_rings.specs.declared.ring_shapes.RingShape.TheVariants.{Linear, Sum, Pieces, Division, Phases, Other}
+use Rattle.row_rings.specs.declared.ring_shapes.RingShape.TheVariants.{Linear, Pieces, Division, Phases, Formulas, Other}
 use Rattle.row_rings.specs.NarrowRings.{is_linear_body}
 
 -- a function that is this formula everywhere
@@ -31,14 +32,28 @@ IsPhasedBody phases (plane n) = ⊥
 IsPhasedBody phases (function cases otherwise) = ArePhasesOf phases cases otherwise
 IsPhasedBody phases (accumulator fold bins value bin) = ⊥
 
+-- a function that has these programs
+abbrev pub IsProgrammedBody : NarrowFunction → Body → Type 0
+IsProgrammedBody program (plane n) = ⊥
+IsProgrammedBody program (function cases otherwise) = IsProgramOf program cases otherwise
+IsProgrammedBody program (accumulator fold bins value bin) = ⊥
+
+-- no function
+abbrev pub IsNoFunction : Body → Type 0
+IsNoFunction (plane n) = Unit {0}
+IsNoFunction (function cases otherwise) = ⊥
+IsNoFunction (accumulator fold bins value bin) = Unit {0}
+
 -- rows that are made so are those of the body. A body of another shape than that of a linear row is none
 abbrev pub IsShapeOf : RingShape → Body → Type 0
 IsShapeOf (Linear row) body = IsFormulaBody (linear_formula row) body × IsRightLinear row
-IsShapeOf (Sum row) body = IsFormulaBody (sum_row_formula row) body × (is_linear_body body ≡ false)
 IsShapeOf (Pieces pieces) body = ArePiecesOfBody pieces body × (is_linear_body body ≡ false)
-IsShapeOf (Division step) body = IsFormulaBody (step_formula step) body × IsRightStep step × (is_linear_body body ≡ false)
-IsShapeOf (Phases phases) body = IsPhasedBody phases.functions.items body × (is_linear_body body ≡ false)
-IsShapeOf Other body = is_linear_body body ≡ false
+IsShapeOf (Division step program) body =
+    IsFormulaBody (step_formula step) body × IsRightStep step × IsProgrammedBody program body × (is_linear_body body ≡ false)
+IsShapeOf (Phases phases program) body =
+    IsPhasedBody phases.functions.items body × IsProgrammedBody program body × (is_linear_body body ≡ false)
+IsShapeOf (Formulas program) body = IsProgrammedBody program body × (is_linear_body body ≡ false)
+IsShapeOf Other body = IsNoFunction body
 
 -- and so for stage g
 abbrev pub IsStageShape : Pipeline → ℕ → RingShape → Type 0

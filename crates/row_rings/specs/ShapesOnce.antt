@@ -6,12 +6,13 @@ use Rattle.job.specs.Formula.{Formula}
 use Rattle.job.specs.declared.stage.Function.{Function}
 use Rattle.job.specs.Pipeline.{Body, plane, function, accumulator, Stage}
 use Rattle.linear_rows.specs.LinearOnce.{IsRightLinear-prop}
+use Rattle.narrow_eval.specs.declared.narrow_case.NarrowFunction.{NarrowFunction}
 use Rattle.narrow_pieces.specs.PiecesOnce.{AreFunctionPieces-prop}
 use Rattle.narrow_pieces.specs.declared.piece.NarrowPieces.{NarrowPieces}
 use Rattle.wide_divisions.specs.StepsOnce.{IsRightStep-prop}
 use Rattle.row_rings.specs.declared.ring_shapes.RingShape.{RingShape}
-use Rattle.row_rings.specs.declared.ring_shapes.RingShape.TheVariants.{Linear, Sum, Pieces, Division, Phases, Other}
-use Rattle.row_rings.specs.RingShapes.{IsFormulaBody, ArePiecesOfBody, IsPhasedBody, IsShapeOf, AreShapesOf}
+use Rattle.row_rings.specs.declared.ring_shapes.RingShape.TheVariants.{Linear, Pieces, Division, Phases, Formulas, Other}
+use Rattle.row_rings.specs.RingShapes.{IsFormulaBody, ArePiecesOfBody, IsPhasedBody, IsProgrammedBody, IsNoFunction, IsShapeOf, AreShapesOf}
 
 IsFormulaBody-prop : (f : Formula) (body : Body) → IsProp (IsFormulaBody f body)
 IsFormulaBody-prop f (plane n) = hlevel props
@@ -28,13 +29,23 @@ IsPhasedBody-prop phases (plane n) = hlevel props
 IsPhasedBody-prop phases (function cases otherwise) = ArePhasesOf-prop phases cases otherwise
 IsPhasedBody-prop phases (accumulator fold bins value bin) = hlevel props
 
+IsProgrammedBody-prop : (program : NarrowFunction) (body : Body) → IsProp (IsProgrammedBody program body)
+IsProgrammedBody-prop program (plane n) = hlevel props
+IsProgrammedBody-prop program (function cases otherwise) = hlevel props
+IsProgrammedBody-prop program (accumulator fold bins value bin) = hlevel props
+
+IsNoFunction-prop : (body : Body) → IsProp (IsNoFunction body)
+IsNoFunction-prop (plane n) = hlevel props
+IsNoFunction-prop (function cases otherwise) = hlevel props
+IsNoFunction-prop (accumulator fold bins value bin) = hlevel props
+
 IsShapeOf-prop : (shape : RingShape) (body : Body) → IsProp (IsShapeOf shape body)
 IsShapeOf-prop (Linear row) body = hlevel (IsFormulaBody-prop, IsRightLinear-prop, props)
-IsShapeOf-prop (Sum row) body = hlevel (IsFormulaBody-prop, props)
 IsShapeOf-prop (Pieces pieces) body = hlevel (ArePiecesOfBody-prop, props)
-IsShapeOf-prop (Division step) body = hlevel (IsFormulaBody-prop, IsRightStep-prop, props)
-IsShapeOf-prop (Phases phases) body = hlevel (IsPhasedBody-prop, props)
-IsShapeOf-prop Other body = hlevel props
+IsShapeOf-prop (Division step program) body = hlevel (IsFormulaBody-prop, IsRightStep-prop, IsProgrammedBody-prop, props)
+IsShapeOf-prop (Phases phases program) body = hlevel (IsPhasedBody-prop, IsProgrammedBody-prop, props)
+IsShapeOf-prop (Formulas program) body = hlevel (IsProgrammedBody-prop, props)
+IsShapeOf-prop Other body = IsNoFunction-prop body
 
 pub AreShapesOf-prop : (shapes : List RingShape) (stages : List Stage) → IsProp (AreShapesOf shapes stages)
 AreShapesOf-prop [] [] = hlevel props

@@ -99,10 +99,10 @@ fn write_function_row_to_ring(
     ensures { IsFunctionRow known.now.rings.items function.now area.now (length out.old) out.new }
 {
     match shape {
-        RingShape::Division(step) => {
+        RingShape::Division(step, _) => {
             write_division_row_to_ring(known, function, step, area, out, temps)
         }
-        RingShape::Phases(phases) => {
+        RingShape::Phases(phases, _) => {
             write_wide_column_phases(known, function, phases, area, out, temps)
         }
         _ => write_formula_row_to_ring(known, function, area, out, temps),

@@ -28,10 +28,10 @@ use column_phases::write_narrow_column_phases;
 use domains::Area;
 use job::{Body, Function, Job};
 use linear_rows::write_linear_row;
-use narrow_eval::{NarrowSource, evaluate_narrow_formula, evaluate_narrow_function};
+use narrow_eval::evaluate_narrow_function;
 use narrow_kernels::convert_samples_to_narrow_row;
 use narrow_pieces::write_narrow_pieces;
-use narrow_sums::write_narrow_sum_row;
+use narrow_sums::NarrowSource;
 use netpbm::Picture;
 use row_plans::RowState;
 use tile_eval::RowSpan;
@@ -44,30 +44,6 @@ fn write_samples_to_narrow_ring(picture: &Picture, plane: usize, row: usize, out
         (λ k. at out.new k ≡ sample_at picture.now plane (pos row) (pos k)) }
 {
     convert_samples_to_narrow_row(&picture.samples(plane), row * out.len(), out);
-}
-
-// Writes a row of a function by its formulas. The contents of `temps` have no meaning.
-fn write_formula_row_to_narrow_ring<S: NarrowSource>(
-    source: &S,
-    function: &Function,
-    points: &RowSpan,
-    out: &mut [i16],
-    temps: &mut [i16],
-)
-    requires some { 0 < length out.old }
-    requires fits { length out.old ≡ points.now.len }
-    requires function { IsNarrowComputable (S.has source.now) (S.samples source.now) points.now.row
-        points.now.col (length out.old) (length temps.old) (map case_view function.now.cases.items)
-        (option_map formula_view function.now.otherwise) }
-    ensures { EachPlace (length out.old) (λ k. at out.new k
-        ≡ function_value (S.samples source.now) (map case_view function.now.cases.items)
-        (option_map formula_view function.now.otherwise) points.now.row
-        (points.now.col +ℤ pos k)) }
-{
-    match (function.cases(), function.otherwise()) {
-        ([], Some(formula)) => evaluate_narrow_formula(source, points, formula, out, temps),
-        _ => evaluate_narrow_function(source, function, points, out, temps),
-    }
 }
 
 // Writes a row of a function of this shape. The contents of `temps` have no meaning.
@@ -100,17 +76,17 @@ fn write_shaped_row_to_narrow_ring<S: NarrowSource>(
 {
     match shape {
         RingShape::Linear(linear) => write_linear_row(source, linear, points, out),
-        RingShape::Sum(sum) => write_narrow_sum_row(source, sum, points, out),
         RingShape::Pieces(pieces) => write_narrow_pieces(source, function, pieces, points, out),
-        RingShape::Phases(phases) => {
-            write_narrow_column_phases(source, function, phases, points, out, temps)
+        RingShape::Phases(phases, program) => {
+            write_narrow_column_phases(source, program, phases, points, out, temps)
         }
-        RingShape::Division(_) => {
-            write_formula_row_to_narrow_ring(source, function, points, out, temps)
+        RingShape::Division(_, program) => {
+            evaluate_narrow_function(source, program, points, out, temps)
         }
-        RingShape::Other => {
-            write_formula_row_to_narrow_ring(source, function, points, out, temps)
+        RingShape::Formulas(program) => {
+            evaluate_narrow_function(source, program, points, out, temps)
         }
+        RingShape::Other => {}
     }
 }
 

@@ -10,8 +10,8 @@ ghost use Rattle.row_rings.specs.TrueRings.{AreTrueRings};
 use crate::ring::RowRings;
 use domains::Index;
 use job::Job;
-use narrow_eval::NarrowSource;
 use narrow_kernels::gather_narrow_index_columns;
+use narrow_sums::NarrowSource;
 use tile_eval::RowSpan;
 
 /// Rings of 16 bits whose numbers are the values of a job.

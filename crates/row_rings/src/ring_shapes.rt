@@ -12,20 +12,21 @@ ghost use Rattle.row_rings.specs.RingShapes.{IsShapeOf, AreShapesOf};
 use column_phases::{ColumnPhases, find_column_phases};
 use job::{Body, Function, Job, Stage};
 use linear_rows::{LinearRow, find_linear_row};
+use narrow_eval::{NarrowFunction, choose_narrow_function};
 use narrow_pieces::{NarrowPieces, find_narrow_pieces};
-use narrow_sums::{NarrowSumRow, find_narrow_sum_row};
 use std::alloc::{AllocError, Global};
 use wide_divisions::{DivisionStep, find_division_step};
 
 /// How the rows of a stage are made: as those of a function that is written in one pass or a few, by phases, or by its formulas. Rows of
-/// 32 bits may be steps of a division; those of 16 bits have the other passes. Both may be made by phases or by formulas.
+/// 32 bits may be steps of a division; those of 16 bits have the other passes. Both may be made by phases or by formulas, of which rows of
+/// 16 bits have programs. `Other` is no function.
 #[derive(Drop)]
 pub(crate) enum RingShape<'a> {
     Linear(LinearRow<'a>),
-    Sum(NarrowSumRow<'a>),
     Pieces(NarrowPieces<'a>),
-    Division(DivisionStep<'a>),
-    Phases(ColumnPhases),
+    Division(DivisionStep<'a>, NarrowFunction),
+    Phases(ColumnPhases, NarrowFunction),
+    Formulas(NarrowFunction),
     Other,
 }
 
@@ -39,18 +40,16 @@ fn find_ring_shape_besides_linear<'a>(
     ensures { IfOk result (λ shape. IsShapeOf shape (function_body (map case_view function.now.cases.items)
         (option_map formula_view function.now.otherwise))) }
 {
-    if let Some(sum) = find_narrow_sum_row(alloc, function)? {
-        return Ok(RingShape::Sum(sum));
-    }
     if let Some(pieces) = find_narrow_pieces(function) {
         return Ok(RingShape::Pieces(pieces));
     }
+    let program = choose_narrow_function(alloc, function)?;
     if let Some(step) = find_division_step(function) {
-        return Ok(RingShape::Division(step));
+        return Ok(RingShape::Division(step, program));
     }
     match find_column_phases(alloc, function)? {
-        Some(phases) => Ok(RingShape::Phases(phases)),
-        None => Ok(RingShape::Other),
+        Some(phases) => Ok(RingShape::Phases(phases, program)),
+        None => Ok(RingShape::Formulas(program)),
     }
 }
 

@@ -2,10 +2,9 @@
 use Rattle.std.specs.Prelude.{ℕ, ℤ, pos, ◌≡◌, ◌≤ℤ◌, ◌+ℤ◌, ◌-ℤ◌, List, All}
 use Rattle.std.specs.Int.{w16, int_wrap}
 use Rattle.domains.specs.Arithmetic.{clamped}
-use Rattle.job.specs.Formula.{Formula}
 use Rattle.job.specs.Values.{Valuation}
 use Rattle.row_loops.specs.Rows.{EachPlace, at}
-use Rattle.value_ranges.specs.Narrow.{Fits16, IsNarrow}
+use Rattle.value_ranges.specs.Narrow.{Fits16}
 use Rattle.narrow_kernels.specs.declared.narrow_centers.NarrowCenter.{NarrowCenter}
 use Rattle.narrow_sums.specs.declared.terms.NarrowSumRead.{NarrowSumRead}
 use Rattle.narrow_sums.specs.declared.terms.NarrowSumBounds.{NarrowSumBounds}
@@ -35,20 +34,13 @@ IsNear center bounds part =
 abbrev pub AreNear : NarrowSumRead → NarrowSumBounds → List NarrowSumTerm → Type 0
 AreNear center bounds ts = (bounds.low ≤ℤ pos 0) × (pos 0 ≤ℤ bounds.high) × All (λ t. IsNear center bounds t.part) ts
 
--- where a formula is narrow, the differences fit before they are clamped
-abbrev pub IsPartFitting : Formula → NarrowSumPart → Type 0
-IsPartFitting f part = (env : Valuation) (r c : ℤ) → IsNarrow env f r c → Fits16 (gap env part r c)
-
-abbrev pub AreFitting : Formula → List NarrowSumTerm → Type 0
-AreFitting f ts = All (λ t. IsPartFitting f t.part) ts
-
 -- a line has the samples of a center at n points of row r from column c on, and its bounds
 pub record HasCenter (env : Valuation) (r c : ℤ) (n : ℕ) (own : NarrowSumRead) (bounds : NarrowSumBounds) (center : NarrowCenter) : Type 0 where
   pub line : EachPlace n (λ k. at center.line.now k ≡ sample_of env own r (c +ℤ pos k))
   pub low : center.low ≡ bounds.low
   pub high : center.high ≡ bounds.high
 
--- the differences fit along the points
+-- the differences fit along the points before they are clamped
 abbrev pub AreGapsFitting : Valuation → ℤ → ℤ → ℕ → List NarrowSumTerm → Type 0
 AreGapsFitting env r c n ts = EachPlace n (λ k. All (λ t. Fits16 (gap env t.part r (c +ℤ pos k))) ts)
 

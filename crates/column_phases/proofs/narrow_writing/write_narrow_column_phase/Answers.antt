@@ -2,10 +2,12 @@ use Rattle.std.proofs.Common.{arith, ℕ, ℤ, ◌≡◌, ◌<◌, ◌≤◌, �
 use Rattle.std.specs.Option.{option_map}
 use borrow.Rule.Slice.PartMut.{put_mid}
 use Rattle.job.specs.Views.{case_view, formula_view}
+use Rattle.narrow_eval.specs.NarrowPrograms.{program_case, program_formula}
 use Rattle.row_loops.specs.Rows.{at}
 use Rattle.tile_eval.specs.Cases.{function_value}
 use Rattle.tile_eval.proofs.Covering.{cut_len}
 use Rattle.column_phases.specs.inside.Rows.{places_from, row_start, row_place}
+use Rattle.column_phases.proofs.Merely.{narrow_computable_same, value_same}
 use Rattle.column_phases.proofs.RowLaws.{in_row}
 use Rattle.column_phases.proofs.RowValues.{narrow_ready, row_value, part_at}
 use Rattle.column_phases.proofs.narrow_writing.write_narrow_column_phase.Goals as goal
@@ -17,15 +19,19 @@ evaluate_narrow_function-requires-clause-function g c =
     let n = length c.args.out.now in
     let it = c.slice_column_phase in
     let enough : length all.functions.items ≤ n = omega (arith, c.requires.enough, c.requires.fits) in
-    let len : it.result.1.len ≡ places_from (length all.functions.items) n c.args.place =
-    it.ensures.len ∙ ap (λ (m : ℕ). places_from (length all.functions.items) m c.args.place) (sym c.requires.fits) in
-    let some = it.ensures.some in
-    let end = c.args.from + it.result.1.len in
+    let len : it.result.2.len ≡ places_from (length all.functions.items) n c.args.place =
+    it.ensures.part.len ∙ ap (λ (m : ℕ). places_from (length all.functions.items) m c.args.place) (sym c.requires.fits) in
+    let some = it.ensures.part.some in
+    let end = c.args.from + it.result.2.len in
     let cut = cut_len c.args.from end c.args.out.now (omega (arith, some)) (omega (arith, len, c.requires.few)) in
-    narrow_ready all.functions.items (map case_view f.cases.items) (option_map formula_view f.otherwise) c.requires.phases all.least all.most
-    c.args.points.now c.args.place it.result.0.now it.result.1 it.ensures n (sym c.requires.fits) enough c.requires.place
+    let phase = it.result.0.now in
+    let program = it.result.1.now in
+    narrow_computable_same (map program_case program.cases.items) (map case_view phase.cases.items) (option_map program_formula program.otherwise)
+    (option_map formula_view phase.otherwise) it.ensures.program _ _ _ _ _ _
+    (narrow_ready all.functions.items (map program_case f.cases.items) (option_map program_formula f.otherwise) c.requires.phases all.least all.most
+    c.args.points.now c.args.place it.result.0.now it.result.2 it.ensures.part n (sym c.requires.fits) enough c.requires.place
     (g.S.NarrowSource.has c.args.source.now) (g.S.NarrowSource.samples c.args.source.now) (length c.args.temps.now) c.requires.function _
-    (cut ∙ omega arith)
+    (cut ∙ omega arith))
 
 pub returns-clause-row : goal.returns-clause-row
 returns-clause-row g c = λ k h e.
@@ -36,9 +42,9 @@ returns-clause-row g c = λ k h e.
     let n = length c.args.out.now in
     let it = c.slice_column_phase in
     let enough : P ≤ n = omega (arith, c.requires.enough, c.requires.fits) in
-    let len : it.result.1.len ≡ places_from P n c.args.place = it.ensures.len ∙ ap (λ (m : ℕ). places_from P m c.args.place) (sym c.requires.fits) in
-    let some = it.ensures.some in
-    let end = c.args.from + it.result.1.len in
+    let len : it.result.2.len ≡ places_from P n c.args.place = it.ensures.part.len ∙ ap (λ (m : ℕ). places_from P m c.args.place) (sym c.requires.fits) in
+    let some = it.ensures.part.some in
+    let end = c.args.from + it.result.2.len in
     let out = c.evaluate_narrow_function.new.out in
     let inside : k / P < places_from P n c.args.place =
     subst (λ (x : ℕ). k / P < places_from P n x) e (in_row P all.least all.most n k h) in
@@ -51,8 +57,11 @@ returns-clause-row g c = λ k h e.
     ∙ part_at c.args.from end c.args.out.now out ordered within c.evaluate_narrow_function.auto.out (k / P) (omega (arith, inside, len))
     ∙ c.evaluate_narrow_function.ensures (k / P) (omega (arith, inside, len, cut))
     ∙ ap
-    (λ (z : ℤ). function_value (g.S.NarrowSource.samples c.args.source.now) (map case_view it.result.0.now.cases.items)
-    (option_map formula_view it.result.0.now.otherwise) z (it.result.1.col +ℤ pos (k / P))) it.ensures.row
-    ∙ row_value all.functions.items (map case_view f.cases.items) (option_map formula_view f.otherwise) c.requires.phases all.least all.most points
-    c.args.place it.result.0.now it.result.1 it.ensures n (sym c.requires.fits) enough c.requires.place (g.S.NarrowSource.samples c.args.source.now)
+    (λ (z : ℤ). function_value (g.S.NarrowSource.samples c.args.source.now) (map program_case it.result.1.now.cases.items)
+    (option_map program_formula it.result.1.now.otherwise) z (it.result.2.col +ℤ pos (k / P))) it.ensures.part.row
+    ∙ value_same (map program_case it.result.1.now.cases.items) (map case_view it.result.0.now.cases.items)
+    (option_map program_formula it.result.1.now.otherwise) (option_map formula_view it.result.0.now.otherwise) it.ensures.program
+    (g.S.NarrowSource.samples c.args.source.now) points.row (it.result.2.col +ℤ pos (k / P))
+    ∙ row_value all.functions.items (map program_case f.cases.items) (option_map program_formula f.otherwise) c.requires.phases all.least all.most points
+    c.args.place it.result.0.now it.result.2 it.ensures.part n (sym c.requires.fits) enough c.requires.place (g.S.NarrowSource.samples c.args.source.now)
     c.requires.function.tests c.requires.function.formulas k e points.row

@@ -1,6 +1,6 @@
 use Rattle.std.proofs.Common.{◌≡◌, ◌<◌, ◌%◌, ◌+ℤ◌, pos, length, map}
 use Rattle.std.specs.Option.{option_map}
-use Rattle.job.specs.Views.{case_view, formula_view}
+use Rattle.narrow_eval.specs.NarrowPrograms.{program_case, program_formula}
 use Rattle.row_loops.specs.Rows.{EachPlace, at}
 use Rattle.tile_eval.specs.Cases.{function_value}
 use Rattle.column_phases.specs.inside.Rows.{row_start, row_place}
@@ -11,5 +11,5 @@ invariant-loop-place g l = record {
   begun : l.end ≡ row_start (length l.phases.functions.items) (length l.out) l.place;
   made : EachPlace (length l.out) (λ k. k % length l.phases.functions.items < l.place
       → at l.out (row_place (length l.phases.functions.items) (length l.out) k)
-      ≡ function_value (g.S.NarrowSource.samples l.source) (map case_view l.function.cases.items) (option_map formula_view l.function.otherwise) l.points.row (l.points.col +ℤ pos k));
+      ≡ function_value (g.S.NarrowSource.samples l.source) (map program_case l.function.cases.items) (option_map program_formula l.function.otherwise) l.points.row (l.points.col +ℤ pos k));
 }

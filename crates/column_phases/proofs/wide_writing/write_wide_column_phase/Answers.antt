@@ -20,19 +20,19 @@ write_row_of_wide_column_phase-requires-clause-function g c =
     let area = c.args.area.now in
     let points = c.from_area_top-points in
     let phase = c.slice_column_phase.result.0.now in
-    let part = c.slice_column_phase.result.1 in
+    let part = c.slice_column_phase.result.2 in
     subst
     (λ (s : Ends). IsComputable (g.S.RowSource.has c.args.source.now) (record { rows = area.rows; cols = s }) (map case_view phase.cases.items)
     (option_map formula_view phase.otherwise)) (sym (same_Some _ _ c.in-Some.ensures))
     (wide_ready all.functions.items (map case_view f.cases.items) (option_map formula_view f.otherwise) c.requires.phases all.least all.most
-    points.result c.args.place phase part c.slice_column_phase.ensures (length c.args.out.now) (points.ensures.len ∙ sym c.requires.fits)
+    points.result c.args.place phase part c.slice_column_phase.ensures.part (length c.args.out.now) (points.ensures.len ∙ sym c.requires.fits)
     c.requires.enough c.requires.place (g.S.RowSource.has c.args.source.now) area c.requires.function points.ensures.col c.requires.fits)
 
 pub write_row_of_wide_column_phase-requires-clause-count : goal.write_row_of_wide_column_phase-requires-clause-count
 write_row_of_wide_column_phase-requires-clause-count g c =
-    let part = c.slice_column_phase.result.1 in
-    let some = c.slice_column_phase.ensures.some in
-    let len = c.slice_column_phase.ensures.len in
+    let part = c.slice_column_phase.result.2 in
+    let some = c.slice_column_phase.ensures.part.some in
+    let len = c.slice_column_phase.ensures.part.len in
     let count : c.from_area_top-points.result.len ≡ length c.args.out.now = c.from_area_top-points.ensures.len ∙ sym c.requires.fits in
     let within = ap (λ (n : ℕ). places_from (length c.args.phases.now.functions.items) n c.args.place) count in
     let end = c.args.from + part.len in
@@ -46,12 +46,12 @@ write_row_of_wide_column_phase-requires-clause-room g c =
     let f = c.args.function.now in
     let points = c.from_area_top-points in
     let phase = c.slice_column_phase.result.0.now in
-    let part = c.slice_column_phase.result.1 in
+    let part = c.slice_column_phase.result.2 in
     subst
     (λ (m : ℕ). HasFunctionRoom m (length c.args.temps.now) (map case_view phase.cases.items) (option_map formula_view phase.otherwise))
     (sym (ap len_of (same_Some _ _ c.in-Some.ensures) ∙ columns_len part.col part.len))
     (wide_room all.functions.items (map case_view f.cases.items) (option_map formula_view f.otherwise) c.requires.phases all.least all.most
-    points.result c.args.place phase part c.slice_column_phase.ensures (length c.args.out.now) (points.ensures.len ∙ sym c.requires.fits)
+    points.result c.args.place phase part c.slice_column_phase.ensures.part (length c.args.out.now) (points.ensures.len ∙ sym c.requires.fits)
     c.requires.enough c.requires.place (length c.args.temps.now) c.requires.room c.requires.function.tests c.requires.function.formulas)
 
 pub returns-in-Some-clause-row : goal.returns-in-Some-clause-row
@@ -65,9 +65,9 @@ returns-in-Some-clause-row g c = λ k h e.
     let n = length c.args.out.now in
     let it = c.slice_column_phase in
     let count = points.ensures.len ∙ sym c.requires.fits in
-    let len : it.result.1.len ≡ places_from P n c.args.place = it.ensures.len ∙ ap (λ (m : ℕ). places_from P m c.args.place) count in
-    let some = it.ensures.some in
-    let end = c.args.from + it.result.1.len in
+    let len : it.result.2.len ≡ places_from P n c.args.place = it.ensures.part.len ∙ ap (λ (m : ℕ). places_from P m c.args.place) count in
+    let some = it.ensures.part.some in
+    let end = c.args.from + it.result.2.len in
     let out = c.write_row_of_wide_column_phase.new.out in
     let inside : k / P < places_from P n c.args.place =
     subst (λ (x : ℕ). k / P < places_from P n x) e (in_row P all.least all.most n k h) in
@@ -83,7 +83,7 @@ returns-in-Some-clause-row g c = λ k h e.
     (λ (s : Ends). function_value (g.S.RowSource.samples c.args.source.now) (map case_view it.result.0.now.cases.items)
     (option_map formula_view it.result.0.now.otherwise) area.rows.lo (s.lo +ℤ pos (k / P))) (same_Some _ _ c.in-Some.ensures)
     ∙ row_value phases (map case_view f.cases.items) (option_map formula_view f.otherwise) c.requires.phases all.least all.most points.result
-    c.args.place it.result.0.now it.result.1 it.ensures n count c.requires.enough c.requires.place (g.S.RowSource.samples c.args.source.now)
+    c.args.place it.result.0.now it.result.2 it.ensures.part n count c.requires.enough c.requires.place (g.S.RowSource.samples c.args.source.now)
     c.requires.function.tests c.requires.function.formulas k e area.rows.lo
     ∙ ap
     (λ (z : ℤ). function_value (g.S.RowSource.samples c.args.source.now) (map case_view f.cases.items) (option_map formula_view f.otherwise)

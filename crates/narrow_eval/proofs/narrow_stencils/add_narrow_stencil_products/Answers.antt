@@ -5,9 +5,9 @@ use Rattle.std.proofs.lemmas.Int.{to_z-of_z}
 use Rattle.row_loops.specs.Rows.{at}
 use Rattle.std.proofs.Math.IntN.{+ℤ_idr}
 use Rattle.narrow_eval.specs.NarrowStencils.{line_total}
-use Rattle.narrow_eval.specs.NarrowSums.{HasAddends}
-use Rattle.narrow_eval.proofs.NarrowAddends.{gives_same}
-use Rattle.narrow_eval.proofs.NarrowSums.{product_more, part_at}
+use Rattle.narrow_sums.specs.NarrowSums.{HasAddends}
+use Rattle.narrow_sums.proofs.NarrowAddends.{gives_same}
+use Rattle.narrow_eval.proofs.NarrowStencils.{product_more, part_at}
 use Rattle.narrow_eval.proofs.narrow_stencils.add_narrow_stencil_products.Goals as goal
 
 pub loop-b-init : goal.loop-b-init

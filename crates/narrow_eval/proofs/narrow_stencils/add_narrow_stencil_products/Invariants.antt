@@ -1,6 +1,6 @@
 use Rattle.std.proofs.Common.{ℕ, ℤ, ◌+ℤ◌, length}
 use Rattle.narrow_eval.specs.NarrowStencils.{line_total}
-use Rattle.narrow_eval.specs.NarrowSums.{HasAddends, GivesSum}
+use Rattle.narrow_sums.specs.NarrowSums.{HasAddends, GivesSum}
 use Rattle.narrow_eval.proofs.narrow_stencils.add_narrow_stencil_products.Given as goal
 
 abbrev pub invariant-loop-b : goal.invariant-loop-b

@@ -3,7 +3,7 @@ use Rattle.std.proofs.lemmas.Int.{to_z-of_z}
 use Rattle.std.proofs.lemmas.List.{take_all, length-set}
 use Rattle.narrow_kernels.specs.declared.narrow_taps.NarrowTap.{NarrowTap}
 use Rattle.narrow_kernels.specs.NarrowCenters.{centered_tap_sum}
-use Rattle.narrow_eval.proofs.NarrowAddends.{more_tap_lines}
+use Rattle.narrow_sums.proofs.NarrowAddends.{more_tap_lines}
 use Rattle.narrow_sums.specs.declared.terms.NarrowSumRead.{NarrowSumRead}
 use Rattle.narrow_sums.specs.inside.TermValues.{sample_of}
 use Rattle.narrow_sums.specs.inside.TermOrders.{ordered_value}
@@ -19,14 +19,14 @@ loop-i-preserved g c =
     let long = c.loop-i-test.true in
     let space : c.loop-i.i < length c.loop-i.lines = omega (arith, eight, few, long) in
     let t = c.index-terms-order.result in
-    let fits : FitsSigned w16 t.factor = search rules in
-    let tap : NarrowTap = record { line = c.borrow_narrow_sum_read_line.result; factor = to_z w16 (of_z w16 t.factor) } in
+    let fits : FitsSigned w16 t.weight = search rules in
+    let tap : NarrowTap = record { line = c.borrow_narrow_sum_read_line.result; factor = to_z w16 (of_z w16 t.weight) } in
     record {
       space = length-set c.loop-i.lines c.loop-i.i tap ∙ eight;
       lines = more_tap_lines points.len c.loop-i.lines c.loop-i.i tap space c.loop-i.invariant.lines c.borrow_narrow_sum_read_line.ensures.count;
       values = λ own bounds center has k l.
           one_more_line env points.row points.col points.len own bounds center c.args.terms.now has c.loop-i.lines c.args.order.now c.loop-i.i
-          tap t k l space long (c.requires.numbers c.loop-i.i 0 long) c.index-terms-order.is (to_z-of_z w16 t.factor fits)
+          tap t k l space long (c.requires.numbers c.loop-i.i 0 long) c.index-terms-order.is (to_z-of_z w16 t.weight fits)
           (c.borrow_narrow_sum_read_line.ensures.values k l
           ∙ ap (λ (x : NarrowSumRead). sample_of env x points.row (points.col +ℤ pos k)) c.find_left_narrow_sum_read-left.ensures)
           (c.loop-i.invariant.values own bounds center has k l);

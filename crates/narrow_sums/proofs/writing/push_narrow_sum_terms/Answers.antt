@@ -1,8 +1,8 @@
 use Rattle.std.proofs.Common.{arith, ℕ, List, ◌≡◌, ◌+◌, ◌+ℤ◌, pos, length, take, ap, subst}
 use Rattle.std.specs.Int.{w16, int_wrap}
 use Rattle.std.proofs.lemmas.List.{take_all}
-use Rattle.narrow_eval.specs.NarrowSums.{HasAddends}
-use Rattle.narrow_eval.proofs.NarrowAddends.{gives_same}
+use Rattle.narrow_sums.specs.NarrowSums.{HasAddends}
+use Rattle.narrow_sums.proofs.NarrowAddends.{gives_same}
 use Rattle.narrow_sums.specs.inside.TermValues.{term_value}
 use Rattle.narrow_sums.specs.inside.TermOrders.{ordered_value}
 use Rattle.narrow_sums.proofs.TermOrders.{ordered_next}

@@ -1,5 +1,5 @@
 use Rattle.std.proofs.Common.{ℕ, ℤ, ◌+ℤ◌, pos, length, take}
-use Rattle.narrow_eval.specs.NarrowSums.{HasAddends, GivesSum}
+use Rattle.narrow_sums.specs.NarrowSums.{HasAddends, GivesSum}
 use Rattle.narrow_sums.specs.inside.TermOrders.{ordered_value}
 use Rattle.narrow_sums.proofs.writing.push_narrow_sum_terms.Given as goal
 

@@ -1,4 +1,4 @@
-use Rattle.std.proofs.Common.{arith, ℤ, ◌≡◌, ◌<◌, ◌+ℤ◌, pos, Some, length, map, sym, ap, ◌∙◌}
+use Rattle.std.proofs.Common.{arith, ℤ, ◌≡◌, ◌<◌, Some, length, map, sym, ap, ◌∙◌}
 use Rattle.std.specs.Option.{option_map}
 use Rattle.std.proofs.lemmas.Int.{ints}
 use Rattle.domains.proofs.Lengths.{len_is}

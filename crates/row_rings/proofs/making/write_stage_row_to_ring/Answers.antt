@@ -1,12 +1,10 @@
-use Rattle.std.proofs.Common.{rules, arith, ◌≡◌, ◌+ℤ◌, pos, FitsSigned, w32, map, subst, sym, ap, ◌∙◌}
+use Rattle.std.proofs.Common.{rules, arith, ◌≡◌, ◌+ℤ◌, pos, map, subst, sym, ap, ◌∙◌}
 use Rattle.std.specs.Option.{option_map}
 use Rattle.domains.specs.Span.{Ends}
 use Rattle.job.specs.Kept.{pipeline_in}
 use Rattle.job.specs.Views.{case_view, formula_view, body_view, stage_view}
 use Rattle.row_plans.specs.Rows.{next_row}
 use Rattle.row_rings.specs.RingRows.{sample_in, IsKeptPoint}
-use Rattle.row_rings.specs.RingShapes.{IsShapeOf}
-use Rattle.row_rings.specs.inside.Making.{row_area}
 use Rattle.tile_eval.specs.Cases.{function_value, IsComputable}
 use Rattle.row_rings.proofs.Values.{next_small, function_made, function_computable, plane_row, plane_made}
 use Rattle.row_rings.proofs.making.write_stage_row_to_ring.Goals as goal

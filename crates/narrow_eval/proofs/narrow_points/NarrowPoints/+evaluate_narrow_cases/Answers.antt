@@ -1,17 +1,17 @@
 use Rattle.std.proofs.Common.{rules, arith, ℕ, ◌≡◌, ◌≤◌, ◌<◌, ◌-◌, ◌+◌, ◌*◌, length, take, drop, map, subst, sym, ◌∙◌, ◌+ℤ◌, pos}
 use Rattle.std.specs.Option.{option_map}
-use Rattle.job.specs.declared.stage.JobCase.{JobCase as KeptCase}
-use Rattle.job.specs.declared.formula.Formula.{Formula as KeptFormula}
+use Rattle.narrow_eval.specs.declared.narrow_case.NarrowCase.{NarrowCase}
+use Rattle.narrow_eval.specs.declared.narrow_program.NarrowProgram.{NarrowProgram}
 use Rattle.job.specs.Reads.{EachRead}
-use Rattle.job.specs.Views.{case_view, formula_view}
+use Rattle.narrow_eval.specs.NarrowPrograms.{program_case, program_formula}
 use Rattle.tile_eval.specs.Cases.{function_value}
 use Rattle.tile_eval.specs.Reading.{HasRoom}
 use Rattle.tile_eval.specs.inside.Cases.{IsRoomy}
 use Rattle.narrow_eval.specs.NarrowCases.{IsNarrowCase}
 use Rattle.tile_eval.proofs.Gathering.{room_less}
-use Rattle.tile_eval.proofs.Covering.{cut_len, part_values, fewer_cases}
+use Rattle.tile_eval.proofs.Covering.{cut_len, part_values}
 use Rattle.value_ranges.specs.Narrow.{IsNarrow}
-use Rattle.narrow_eval.proofs.NarrowReady.{narrow_part, narrow_behind}
+use Rattle.narrow_eval.proofs.NarrowReady.{fewer_cases, narrow_part, narrow_behind}
 use Rattle.narrow_eval.proofs.narrow_points.NarrowPoints.+evaluate_narrow_cases.Goals as goal
 
 pub evaluate_narrow_cases_on_part-evaluate_narrow_cases-requires : goal.evaluate_narrow_cases_on_part-evaluate_narrow_cases-requires
@@ -30,8 +30,8 @@ evaluate_narrow_cases_on_part-evaluate_narrow_cases-requires g t c κs within =
 
 pub evaluate_narrow_cases_on_part-returns-then-from-to-clause-inside : goal.evaluate_narrow_cases_on_part-returns-then-from-to-clause-inside
 evaluate_narrow_cases_on_part-returns-then-from-to-clause-inside g t c = λ k l low high.
-    part_values (function_value (g.S.NarrowSource.samples c.args.self.now.source.now) (map case_view c.args.cases.now)
-    (option_map formula_view c.args.otherwise.now))
+    part_values (function_value (g.S.NarrowSource.samples c.args.self.now.source.now) (map program_case c.args.cases.now)
+    (option_map program_formula c.args.otherwise.now))
     c.args.self.now.points.row c.args.self.now.points.col
     c.slice_points-points.result.row c.slice_points-points.result.col c.args.from c.args.to k c.args.out.now c.evaluate_narrow_cases.new.out c.if-from-to.true
     c.requires.most c.evaluate_narrow_cases.auto.out
@@ -60,19 +60,17 @@ evaluate_narrow_cases-evaluate_narrow_cases_on_part-requires-in-Some g t c κs w
     (length c.args.out.now) (length c.args.temps.now) c.args.cases.now c.args.otherwise.now c.requires.ready in
     (below, (search rules, (out ∙ c.requires.fits, (most, (omega arith, rw out (rw temps ready))))))
 
-pub evaluate_narrow_cases-evaluate_narrow_formula_on_part-requires-clause-room : goal.evaluate_narrow_cases-evaluate_narrow_formula_on_part-requires-clause-room
-evaluate_narrow_cases-evaluate_narrow_formula_on_part-requires-clause-room g t c =
+pub evaluate_narrow_cases-run_narrow_program_on_part-requires-clause-room : goal.evaluate_narrow_cases-run_narrow_program_on_part-requires-clause-room
+evaluate_narrow_cases-run_narrow_program_on_part-requires-clause-room g t c =
     let out : length c.evaluate_narrow_cases_on_part-in-Some.new.out ≡ length c.args.out.now = c.evaluate_narrow_cases_on_part-in-Some.auto.out ∙ c.evaluate_narrow_cases_on_part.auto.out in
     let temps : length c.evaluate_narrow_cases_on_part-in-Some.new.temps ≡ length c.args.temps.now =
     c.evaluate_narrow_cases_on_part-in-Some.auto.temps ∙ c.evaluate_narrow_cases_on_part.auto.temps in
-    let roomy : IsRoomy (length c.args.out.now) (length c.args.temps.now) (case_view c.case-item.result) =
-    subst (λ (p : KeptCase). IsRoomy (length c.args.out.now) (length c.args.temps.now) (case_view p)) (sym c.case-item.is)
+    let roomy : IsRoomy (length c.args.out.now) (length c.args.temps.now) (program_case c.case-item.result) =
+    subst (λ (p : NarrowCase). IsRoomy (length c.args.out.now) (length c.args.temps.now) (program_case p)) (sym c.case-item.is)
     (c.requires.ready.cases 0 c.case-item.result c.in-len1-up.len_at_least).1 in
     let same : length c.args.out.now ≤ length c.args.out.now = omega arith in
     let room : length c.args.temps.now - length c.args.out.now ≤ length c.args.temps.now = omega arith in
-    rw out (rw temps (subst (λ (f : KeptFormula). HasRoom (formula_view f) (length c.args.out.now) (length c.args.temps.now))
-    (sym c.formula.ensures)
-    (room_less (formula_view c.case-item.result.formula) (length c.args.out.now) (length c.args.out.now) _ _ same room roomy.operands)))
+    rw out (rw temps ((room_less (program_formula c.case-item.result.program) (length c.args.out.now) (length c.args.out.now) _ _ same room roomy.operands)))
 
 pub evaluate_narrow_cases_where_earlier_fails-evaluate_narrow_cases_on_part-requires-in-Some : goal.evaluate_narrow_cases_where_earlier_fails-evaluate_narrow_cases_on_part-requires-in-Some
 evaluate_narrow_cases_where_earlier_fails-evaluate_narrow_cases_on_part-requires-in-Some g t c κs within =
@@ -87,42 +85,38 @@ evaluate_narrow_cases_where_earlier_fails-evaluate_narrow_cases_on_part-requires
     (length c.args.out.now) (length c.args.temps.now) c.args.cases.now c.args.otherwise.now c.requires.ready in
     (below, (search rules, (out ∙ c.requires.fits, (most, (omega arith, rw out (rw temps ready))))))
 
-pub evaluate_narrow_cases_where_earlier_fails-evaluate_narrow_formula_on_part-requires-clause-room : goal.evaluate_narrow_cases_where_earlier_fails-evaluate_narrow_formula_on_part-requires-clause-room
-evaluate_narrow_cases_where_earlier_fails-evaluate_narrow_formula_on_part-requires-clause-room g t c =
+pub evaluate_narrow_cases_where_earlier_fails-run_narrow_program_on_part-requires-clause-room : goal.evaluate_narrow_cases_where_earlier_fails-run_narrow_program_on_part-requires-clause-room
+evaluate_narrow_cases_where_earlier_fails-run_narrow_program_on_part-requires-clause-room g t c =
     let out : length c.evaluate_narrow_cases_on_part-in-Some.new.out ≡ length c.args.out.now = c.evaluate_narrow_cases_on_part-in-Some.auto.out ∙ c.evaluate_narrow_cases_on_part.auto.out in
     let temps : length c.evaluate_narrow_cases_on_part-in-Some.new.temps ≡ length c.args.temps.now =
     c.evaluate_narrow_cases_on_part-in-Some.auto.temps ∙ c.evaluate_narrow_cases_on_part.auto.temps in
-    let roomy : IsRoomy (length c.args.out.now) (length c.args.temps.now) (case_view c.case-item.result) =
-    subst (λ (p : KeptCase). IsRoomy (length c.args.out.now) (length c.args.temps.now) (case_view p)) (sym c.case-item.is)
+    let roomy : IsRoomy (length c.args.out.now) (length c.args.temps.now) (program_case c.case-item.result) =
+    subst (λ (p : NarrowCase). IsRoomy (length c.args.out.now) (length c.args.temps.now) (program_case p)) (sym c.case-item.is)
     (c.requires.ready.cases 0 c.case-item.result c.in-len1-up.len_at_least).1 in
     let same : length c.args.out.now ≤ length c.args.out.now = omega arith in
     let room : length c.args.temps.now - length c.args.out.now ≤ length c.args.temps.now = omega arith in
-    rw out (rw temps (subst (λ (f : KeptFormula). HasRoom (formula_view f) (length c.args.out.now) (length c.args.temps.now))
-    (sym c.formula.ensures)
-    (room_less (formula_view c.case-item.result.formula) (length c.args.out.now) (length c.args.out.now) _ _ same room roomy.operands)))
+    rw out (rw temps ((room_less (program_formula c.case-item.result.program) (length c.args.out.now) (length c.args.out.now) _ _ same room roomy.operands)))
 
-pub evaluate_narrow_cases_where_earlier_fails-evaluate_narrow_formula_on_part-requires-clause-reads : goal.evaluate_narrow_cases_where_earlier_fails-evaluate_narrow_formula_on_part-requires-clause-reads
-evaluate_narrow_cases_where_earlier_fails-evaluate_narrow_formula_on_part-requires-clause-reads g t c = λ k l low high.
+pub evaluate_narrow_cases_where_earlier_fails-run_narrow_program_on_part-requires-clause-reads : goal.evaluate_narrow_cases_where_earlier_fails-run_narrow_program_on_part-requires-clause-reads
+evaluate_narrow_cases_where_earlier_fails-run_narrow_program_on_part-requires-clause-reads g t c = λ k l low high.
     let out : length c.evaluate_narrow_cases_on_part-in-Some.new.out ≡ length c.args.out.now = c.evaluate_narrow_cases_on_part-in-Some.auto.out ∙ c.evaluate_narrow_cases_on_part.auto.out in
     let few : k < length c.args.out.now = subst (λ (n : ℕ). k < n) out l in
     let short : k < c.args.self.now.points.len = subst (λ (n : ℕ). k < n) c.requires.fits few in
-    let ready : IsNarrowCase (g.S.NarrowSource.has c.args.self.now.source.now) (g.S.NarrowSource.samples c.args.self.now.source.now) (case_view c.case-item.result) c.args.self.now.points.row
+    let ready : IsNarrowCase (g.S.NarrowSource.has c.args.self.now.source.now) (g.S.NarrowSource.samples c.args.self.now.source.now) (program_case c.case-item.result) c.args.self.now.points.row
     (c.args.self.now.points.col +ℤ pos k) =
-    subst (λ (p : KeptCase). IsNarrowCase (g.S.NarrowSource.has c.args.self.now.source.now) (g.S.NarrowSource.samples c.args.self.now.source.now) (case_view p) c.args.self.now.points.row
+    subst (λ (p : NarrowCase). IsNarrowCase (g.S.NarrowSource.has c.args.self.now.source.now) (g.S.NarrowSource.samples c.args.self.now.source.now) (program_case p) c.args.self.now.points.row
     (c.args.self.now.points.col +ℤ pos k)) (sym c.case-item.is)
     ((c.requires.ready.cases 0 c.case-item.result c.in-len1-up.len_at_least).0 k few) in
-    subst (λ (f : KeptFormula). EachRead (g.S.NarrowSource.has c.args.self.now.source.now) (formula_view f) c.args.self.now.points.row
-    (c.args.self.now.points.col +ℤ pos k)) (sym c.formula.ensures) (ready.reads (c.in-Some.ensures.inside k short low high))
+    (ready.reads (c.in-Some.ensures.inside k short low high))
 
-pub evaluate_narrow_cases_where_earlier_fails-evaluate_narrow_formula_on_part-requires-clause-narrow : goal.evaluate_narrow_cases_where_earlier_fails-evaluate_narrow_formula_on_part-requires-clause-narrow
-evaluate_narrow_cases_where_earlier_fails-evaluate_narrow_formula_on_part-requires-clause-narrow g t c = λ k l low high.
+pub evaluate_narrow_cases_where_earlier_fails-run_narrow_program_on_part-requires-clause-narrow : goal.evaluate_narrow_cases_where_earlier_fails-run_narrow_program_on_part-requires-clause-narrow
+evaluate_narrow_cases_where_earlier_fails-run_narrow_program_on_part-requires-clause-narrow g t c = λ k l low high.
     let out : length c.evaluate_narrow_cases_on_part-in-Some.new.out ≡ length c.args.out.now = c.evaluate_narrow_cases_on_part-in-Some.auto.out ∙ c.evaluate_narrow_cases_on_part.auto.out in
     let few : k < length c.args.out.now = subst (λ (n : ℕ). k < n) out l in
     let short : k < c.args.self.now.points.len = subst (λ (n : ℕ). k < n) c.requires.fits few in
-    let ready : IsNarrowCase (g.S.NarrowSource.has c.args.self.now.source.now) (g.S.NarrowSource.samples c.args.self.now.source.now) (case_view c.case-item.result) c.args.self.now.points.row
+    let ready : IsNarrowCase (g.S.NarrowSource.has c.args.self.now.source.now) (g.S.NarrowSource.samples c.args.self.now.source.now) (program_case c.case-item.result) c.args.self.now.points.row
     (c.args.self.now.points.col +ℤ pos k) =
-    subst (λ (p : KeptCase). IsNarrowCase (g.S.NarrowSource.has c.args.self.now.source.now) (g.S.NarrowSource.samples c.args.self.now.source.now) (case_view p) c.args.self.now.points.row
+    subst (λ (p : NarrowCase). IsNarrowCase (g.S.NarrowSource.has c.args.self.now.source.now) (g.S.NarrowSource.samples c.args.self.now.source.now) (program_case p) c.args.self.now.points.row
     (c.args.self.now.points.col +ℤ pos k)) (sym c.case-item.is)
     ((c.requires.ready.cases 0 c.case-item.result c.in-len1-up.len_at_least).0 k few) in
-    subst (λ (f : KeptFormula). IsNarrow (g.S.NarrowSource.samples c.args.self.now.source.now) (formula_view f) c.args.self.now.points.row
-    (c.args.self.now.points.col +ℤ pos k)) (sym c.formula.ensures) (ready.narrow (c.in-Some.ensures.inside k short low high))
+    (ready.narrow (c.in-Some.ensures.inside k short low high))

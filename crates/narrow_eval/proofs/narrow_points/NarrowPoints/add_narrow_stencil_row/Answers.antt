@@ -4,8 +4,8 @@ use Rattle.std.specs.Prelude.{slice_index_or}
 use Rattle.job.specs.Values.{factors}
 use Rattle.tile_eval.proofs.Gathering.{found_factors}
 use Rattle.narrow_eval.specs.NarrowStencils.{rows_below, line_total}
-use Rattle.narrow_eval.proofs.NarrowAddends.{gives_same}
-use Rattle.narrow_eval.proofs.NarrowSums.{row_more}
+use Rattle.narrow_sums.proofs.NarrowAddends.{gives_same}
+use Rattle.narrow_eval.proofs.NarrowStencils.{row_more}
 use Rattle.narrow_eval.proofs.narrow_points.NarrowPoints.add_narrow_stencil_row.Goals as goal
 
 pub returns-clause-sum : goal.returns-clause-sum

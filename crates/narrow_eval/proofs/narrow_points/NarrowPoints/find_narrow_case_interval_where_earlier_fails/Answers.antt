@@ -8,10 +8,10 @@ use Rattle.narrow_eval.proofs.narrow_points.NarrowPoints.find_narrow_case_interv
 
 pub find_row_mask-passed-requires : goal.find_row_mask-passed-requires
 find_row_mask-passed-requires g c =
-    subst (λ (ts : List KeptTest). All (λ t. IsTest (test_view t)) ts) (sym c.tests.ensures)
+    subst (λ (ts : List KeptTest). All (λ t. IsTest (test_view t)) ts) (sym c.deref.ensures.value)
     (All-from_map IsTest test_view c.args.case.now.tests.items c.requires.tests)
 
 pub find_row_mask-requires : goal.find_row_mask-requires
 find_row_mask-requires g c =
-    subst (λ (ts : List KeptTest). All (λ t. IsTest (test_view t)) ts) (sym c.tests-then-second-to.ensures)
+    subst (λ (ts : List KeptTest). All (λ t. IsTest (test_view t)) ts) (sym c.deref-then-second-to.ensures.value)
     (All-from_map IsTest test_view c.args.before.now.tests.items c.requires.first)

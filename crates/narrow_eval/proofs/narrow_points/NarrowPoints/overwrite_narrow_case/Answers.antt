@@ -3,7 +3,8 @@ use Rattle.std.specs.Prelude.{Option, Some, if◌then◌else◌}
 use Rattle.domains.specs.Area.{HoldsPoint}
 use Rattle.domains.specs.declared.area.Area.{Area}
 use Rattle.job.specs.Values.{all_passed, formula_value}
-use Rattle.job.specs.Views.{test_view, formula_view, case_view}
+use Rattle.job.specs.Views.{test_view}
+use Rattle.narrow_eval.specs.NarrowPrograms.{program_formula, program_case}
 use Rattle.row_loops.specs.Rows.{at}
 use Rattle.tile_eval.specs.Cases.{InBox}
 use Rattle.narrow_eval.specs.NarrowCases.{IsNarrowCase}
@@ -36,7 +37,7 @@ overwrite_narrow_case_in_box-requires-clause-ready g c = λ k h.
     subst (λ (n : ℕ). k < n) (cut_len c.in-Some-find_narrow_case_interval.from c.in-Some-find_narrow_case_interval.to c.args.out.now some.0 within) h in
     let l : c.in-Some-find_narrow_case_interval.from + k < length c.args.out.now = omega arith in
     let sum : c.in-Some-find_narrow_case_interval.from + k ≡ c.in-Some-find_narrow_case_interval.from + k = omega arith in
-    to_after (IsNarrowCase (g.S.NarrowSource.has c.args.self.now.source.now) (g.S.NarrowSource.samples c.args.self.now.source.now) (case_view c.args.case.now)) c.args.self.now.points.row
+    to_after (IsNarrowCase (g.S.NarrowSource.has c.args.self.now.source.now) (g.S.NarrowSource.samples c.args.self.now.source.now) (program_case c.args.case.now)) c.args.self.now.points.row
     c.args.self.now.points.col
     c.slice_points-points.result.row c.slice_points-points.result.col c.in-Some-find_narrow_case_interval.from k (c.in-Some-find_narrow_case_interval.from + k) c.slice_points-points.ensures.row
     c.slice_points-points.ensures.col sum
@@ -49,7 +50,7 @@ overwrite_narrow_case_in_box-requires-clause-roomy g c =
     let cut = cut_len c.in-Some-find_narrow_case_interval.from c.in-Some-find_narrow_case_interval.to c.args.out.now some.0 within in
     let le : length (take (c.in-Some-find_narrow_case_interval.to - c.in-Some-find_narrow_case_interval.from) (drop c.in-Some-find_narrow_case_interval.from c.args.out.now))
     ≤ length c.args.out.now = omega arith in
-    roomy_less (length c.args.out.now) _ (length c.args.temps.now) (case_view c.args.case.now) le c.requires.case.1
+    roomy_less (length c.args.out.now) _ (length c.args.temps.now) (program_case c.args.case.now) le c.requires.case.1
 
 pub returns-in-Some-find_narrow_case_interval : goal.returns-in-Some-find_narrow_case_interval
 returns-in-Some-find_narrow_case_interval g c = λ k h.
@@ -66,7 +67,7 @@ returns-in-Some-find_narrow_case_interval g c = λ k h.
     let l : k - c.in-Some-find_narrow_case_interval.from
     < length (take (c.in-Some-find_narrow_case_interval.to - c.in-Some-find_narrow_case_interval.from) (drop c.in-Some-find_narrow_case_interval.from c.args.out.now)) = rw cut short in
     from_after (λ r x. at c.overwrite_narrow_case_in_box.new.out (k - c.in-Some-find_narrow_case_interval.from) ≡ if all_passed (map test_view c.args.case.now.tests.items) r x
-    then formula_value (g.S.NarrowSource.samples c.args.self.now.source.now) (formula_view c.args.case.now.formula) r x else at
+    then formula_value (g.S.NarrowSource.samples c.args.self.now.source.now) (program_formula c.args.case.now.program) r x else at
     c.args.out.now k)
     c.args.self.now.points.row c.args.self.now.points.col c.slice_points-points.result.row c.slice_points-points.result.col c.in-Some-find_narrow_case_interval.from (k -
     c.in-Some-find_narrow_case_interval.from) k
@@ -74,7 +75,7 @@ returns-in-Some-find_narrow_case_interval g c = λ k h.
     (c.overwrite_narrow_case_in_box.ensures (k - c.in-Some-find_narrow_case_interval.from) l
     ∙ ap (λ (z : ℤ). if all_passed (map test_view c.args.case.now.tests.items) c.slice_points-points.result.row
     (c.slice_points-points.result.col +ℤ pos (k - c.in-Some-find_narrow_case_interval.from))
-    then formula_value (g.S.NarrowSource.samples c.args.self.now.source.now) (formula_view c.args.case.now.formula) c.slice_points-points.result.row
+    then formula_value (g.S.NarrowSource.samples c.args.self.now.source.now) (program_formula c.args.case.now.program) c.slice_points-points.result.row
     (c.slice_points-points.result.col +ℤ pos (k - c.in-Some-find_narrow_case_interval.from)) else z)
     (cut_at c.in-Some-find_narrow_case_interval.from c.in-Some-find_narrow_case_interval.to k c.args.out.now low high within)))
     (λ out passed.

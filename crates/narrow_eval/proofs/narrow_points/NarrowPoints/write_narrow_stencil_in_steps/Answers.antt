@@ -4,7 +4,8 @@ use Rattle.std.proofs.lemmas.Int.{ints, to_z-of_z}
 use Rattle.domains.specs.Arithmetic.{wrapped, floor_div}
 use Rattle.job.specs.Values.{weighted_sum}
 use Rattle.value_ranges.specs.Narrow.{Fits16}
-use Rattle.narrow_eval.proofs.NarrowSums.{value_in_steps, value_without_steps, stepped_quotient_fits, wrapped_value}
+use Rattle.narrow_sums.proofs.NarrowFormulas.{stepped_quotient_fits}
+use Rattle.narrow_eval.proofs.NarrowStencils.{value_in_steps, value_without_steps, wrapped_value}
 use Rattle.narrow_eval.proofs.narrow_points.NarrowPoints.write_narrow_stencil_in_steps.Goals as goal
 
 pub write_narrow_binary_results-requires-clause-fits : goal.write_narrow_binary_results-requires-clause-fits

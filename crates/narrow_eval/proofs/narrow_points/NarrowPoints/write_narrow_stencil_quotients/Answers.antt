@@ -1,8 +1,8 @@
 use Rattle.std.proofs.Common.{arith, ℕ, ◌≡◌, ◌<◌, ◌+ℤ◌, pos, add-one, length, ap, sym, subst, refl, rules, w16, FitsSigned}
 use Rattle.std.proofs.lemmas.Int.{to_z-of_z}
 use Rattle.narrow_eval.specs.NarrowStencils.{rows_below}
-use Rattle.narrow_eval.specs.NarrowSums.{HasAddends, GivesSum}
-use Rattle.narrow_eval.proofs.NarrowAddends.{no_addends, gives_nothing}
+use Rattle.narrow_sums.specs.NarrowSums.{HasAddends, GivesSum}
+use Rattle.narrow_sums.proofs.NarrowAddends.{no_addends, gives_nothing}
 use Rattle.narrow_eval.proofs.narrow_points.NarrowPoints.write_narrow_stencil_quotients.Goals as goal
 
 pub loop-a-init : goal.loop-a-init

@@ -1,6 +1,6 @@
 use Rattle.std.proofs.Common.{◌+ℤ◌, pos, length}
 use Rattle.narrow_eval.specs.NarrowStencils.{rows_below}
-use Rattle.narrow_eval.specs.NarrowSums.{HasAddends, GivesSum}
+use Rattle.narrow_sums.specs.NarrowSums.{HasAddends, GivesSum}
 use Rattle.narrow_eval.proofs.narrow_points.NarrowPoints.write_narrow_stencil_quotients.Given as goal
 
 abbrev pub invariant-loop-a : goal.invariant-loop-a

@@ -1,0 +1,2 @@
+-- Definitions that only clauses of inner functions and proofs cite.
+pub mod Sizes
