@@ -12,9 +12,9 @@ use Rattle.operators.specs.declared.operator.LiteralOp.TheVariants.{Div, Rem, Sh
 use Rattle.operators.proofs.Fitting.{quotient_fits}
 use Rattle.job.specs.Formula.{Formula, number, coordinate, read, unary, binary, ternary, literal, lookup, select, stencil}
 use Rattle.job.specs.Values.{Valuation, formula_value}
-use Rattle.linear_rows.specs.LinearRows.{is_joined, is_great_division}
+use Rattle.linear_rows.specs.inside.Divisions.{is_division}
 use Rattle.linear_rows.specs.declared.linear_make.LinearShift.{LinearShift}
-use Rattle.linear_rows.specs.inside.LinearSums.{shifted}
+use Rattle.linear_rows.specs.inside.LinearSums.{shifted, is_joined}
 
 abbrev cut : ℤ → ℤ
 cut z = clamped z (negsuc 32767) (pos 32767)
@@ -71,14 +71,14 @@ joined_fits env r c (stencil g divisor kernel) h = absurd (true≢false (sym h))
 pub joined_wrapped : (env : Valuation) (r c : ℤ) (f : Formula) → is_joined f ≡ true → wrapped (formula_value env f r c) ≡ formula_value env f r c
 joined_wrapped env r c f h = int_wrap_fits w32 (formula_value env f r c) (joined_fits env r c f h)
 
-quotient_of_great : (op : LiteralOp) (n : ℕ) (s : ℤ) → is_great_division op n ≡ true → FitsSigned w32 s → FitsSigned w32 (literal_value op s n)
-quotient_of_great Div n s h fits = let some : 1 ≤ n = grind (arith, nat_tests) in quotient_fits s n some fits
-quotient_of_great Shr n s h fits = quotient_fits s (2 ^ n) (pow_pos n) fits
-quotient_of_great Rem n s h fits = absurd (true≢false (sym h))
-quotient_of_great Shl n s h fits = absurd (true≢false (sym h))
+quotient_within : (op : LiteralOp) (n : ℕ) (s : ℤ) → is_division op n ≡ true → FitsSigned w32 s → FitsSigned w32 (literal_value op s n)
+quotient_within Div n s h fits = let some : 1 ≤ n = grind (arith, nat_tests) in quotient_fits s n some fits
+quotient_within Shr n s h fits = quotient_fits s (2 ^ n) (pow_pos n) fits
+quotient_within Rem n s h fits = absurd (true≢false (sym h))
+quotient_within Shl n s h fits = absurd (true≢false (sym h))
 
-pub quotient_bounded : (env : Valuation) (r c : ℤ) (f : Formula) (op : LiteralOp) (n : ℕ) → is_great_division op n ≡ true → is_joined f ≡ true
+pub quotient_bounded : (env : Valuation) (r c : ℤ) (f : Formula) (op : LiteralOp) (n : ℕ) → is_division op n ≡ true → is_joined f ≡ true
     → clamped (literal_value op (formula_value env f r c) n) (negsuc 2147483647) (pos 2147483647) ≡ literal_value op (formula_value env f r c) n
 quotient_bounded env r c f op n great joined =
     clamped_freely (literal_value op (formula_value env f r c) n)
-    (quotient_of_great op n (formula_value env f r c) great (joined_fits env r c f joined))
+    (quotient_within op n (formula_value env f r c) great (joined_fits env r c f joined))

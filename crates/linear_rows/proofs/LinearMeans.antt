@@ -15,7 +15,7 @@ use Rattle.tile_eval.specs.inside.Stencil.{IsUnder}
 use Rattle.tile_eval.proofs.Sums.{under_shifted}
 use Rattle.tile_eval.proofs.Gathering.{reads_along}
 use Rattle.narrow_kernels.specs.NarrowMeans.{column_sum, mean_of_nine}
-use Rattle.linear_rows.specs.LinearRows.{is_row_of_ones, is_kernel_of_ones}
+use Rattle.linear_rows.specs.RowFormulas.{is_row_of_ones, is_kernel_of_ones}
 
 abbrev ones : List ℤ
 ones = pos 1 ∷ pos 1 ∷ pos 1 ∷ []

@@ -1,4 +1,3 @@
-pub mod LinearRows
 pub mod RowFormulas
 pub mod LinearOnce
 pub mod inside

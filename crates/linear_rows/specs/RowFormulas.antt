@@ -1,11 +1,20 @@
 -- The formulas of linear rows.
-use Rattle.std.specs.Prelude.{◌≡◌, true}
+use Rattle.std.specs.Prelude.{◌≡◌, Bool, true, false, ◌&&◌, ℤ, pos, List, [], ◌∷◌}
+use Rattle.std.specs.Ordering.{int_eq}
 use Rattle.job.specs.Formula.{Formula, stencil}
 use Rattle.job.specs.Views.{formula_view}
 use Rattle.linear_rows.specs.declared.linear_means.LinearMean.{LinearMean}
 use Rattle.linear_rows.specs.declared.linear_rows.LinearRow.{LinearRow}
 use Rattle.linear_rows.specs.declared.linear_rows.LinearRow.TheVariants.{Quotient, Mean}
-use Rattle.linear_rows.specs.LinearRows.{is_kernel_of_ones}
+
+-- a kernel of three rows of three factors, each of which is 1
+abbrev pub is_row_of_ones : List ℤ → Bool
+is_row_of_ones (x ∷ y ∷ z ∷ []) = int_eq x (pos 1) && int_eq y (pos 1) && int_eq z (pos 1)
+is_row_of_ones xs = false
+
+abbrev pub is_kernel_of_ones : List (List ℤ) → Bool
+is_kernel_of_ones (x ∷ y ∷ z ∷ []) = is_row_of_ones x && is_row_of_ones y && is_row_of_ones z
+is_kernel_of_ones rows = false
 
 abbrev pub mean_formula : LinearMean → Formula
 mean_formula mean = stencil mean.stage 9 mean.kernel.now

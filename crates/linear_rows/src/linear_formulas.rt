@@ -1,14 +1,14 @@
 #![tactic(auto)]
-//! Which functions are linear rows: the sum in a formula, and what is made of it.
+//! The sum in a formula, and what is made of it.
 
-ghost use Rattle.std.specs.Prelude.{◌≡◌, ◌≤ℤ◌, ◌*ℤ◌, true, false, pos, negsuc, IfSome, IfNone};
+ghost use Rattle.std.specs.Prelude.{◌≡◌, ◌≤ℤ◌, ◌*ℤ◌, true, pos, negsuc, IfSome};
 ghost use Rattle.job.specs.Values.{Valuation, formula_value};
 ghost use Rattle.job.specs.Views.{formula_view};
-ghost use Rattle.linear_rows.specs.LinearRows.{is_linear_bound, bound_value, is_factor, is_linear_operator, is_joined, is_linear_sum, is_great_division, is_linear};
 ghost use Rattle.job.specs.Formula.{literal as quotient};
 ghost use Rattle.job.specs.Reads.{reads_in};
-ghost use Rattle.linear_rows.specs.inside.LinearSums.{made, IsMadeOf};
-ghost use Rattle.std.specs.Prelude.{ℤ, [], ◌&&◌};
+ghost use Rattle.linear_rows.specs.inside.Divisions.{is_division};
+ghost use Rattle.linear_rows.specs.inside.LinearSums.{made, is_joined, is_linear_operator, IsMadeOf};
+ghost use Rattle.std.specs.Prelude.{ℤ, []};
 ghost use Rattle.domains.specs.Arithmetic.{clamped};
 ghost use Rattle.std.specs.Int.{int_min, int_max};
 
@@ -19,12 +19,9 @@ use operators::{BinaryOp, LiteralOp, TernaryOp, UnaryOp};
 
 /// A number of the text, or one with the other sign.
 pub(crate) fn find_linear_bound(formula: &Formula) -> Option<i32>
-    ensures some { IfSome result (λ it. it ≡ bound_value (formula_view formula.now)) }
     ensures value { IfSome result (λ it. (env : Valuation) (r c : ℤ)
         → formula_value env (formula_view formula.now) r c ≡ it) }
     ensures reads { IfSome result (λ it. reads_in (formula_view formula.now) ≡ []) }
-    ensures is { IfSome result (λ it. is_linear_bound (formula_view formula.now) ≡ true) }
-    ensures none { IfNone result (is_linear_bound (formula_view formula.now) ≡ false) }
 {
     match formula {
         Formula::Number(number) => Some(*number),
@@ -40,9 +37,7 @@ pub(crate) fn find_linear_bound(formula: &Formula) -> Option<i32>
 #[tactic(auto, using(std::proofs::lemmas::Int::ints))]
 pub(crate) fn multiply_linear_factor(factor: i16, number: i32) -> Option<i16>
     ensures some { IfSome result (λ it. it ≡ factor *ℤ number) }
-    ensures is { IfSome result (λ it. is_factor (factor *ℤ number) ≡ true) }
     ensures least { IfSome result (λ it. negsuc 32766 ≤ℤ it) }
-    ensures none { IfNone result (is_factor (factor *ℤ number) ≡ false) }
 {
     let product = i64::from(factor) * i64::from(number);
     if -32767 <= product && product <= 32767 {
@@ -72,51 +67,13 @@ fn is_joined_linear_sum(formula: &Formula) -> bool
     }
 }
 
-// Whether a factor times a number times a formula is a sum of products.
-#[cycle(is_linear_sum)]
-fn is_linear_product(factor: i16, number: i32, formula: &Formula) -> bool
-    ensures { result ≡ is_factor (factor *ℤ number) && is_linear_sum (factor *ℤ number) (formula_view formula.now) }
-{
-    match multiply_linear_factor(factor, number) {
-        Some(product) => is_linear_sum(product, formula),
-        None => false,
-    }
-}
-
-// Whether a factor times a formula is a sum of products of numbers and reads.
-#[cycle(is_linear_sum)]
-fn is_linear_sum(factor: i16, formula: &Formula) -> bool
-    requires { negsuc 32766 ≤ℤ factor }
-    ensures { result ≡ is_linear_sum factor (formula_view formula.now) }
-{
-    match formula {
-        Formula::Number(_) => true,
-        Formula::Read(_, _, col) => col.mul() == 1 && col.div() == 1,
-        Formula::Unary(UnaryOp::Neg, of) => is_linear_sum(-factor, of),
-        Formula::Binary(BinaryOp::Add, a, b) => {
-            is_linear_sum(factor, a) && is_linear_sum(factor, b)
-        }
-        Formula::Binary(BinaryOp::Sub, a, b) => {
-            is_linear_sum(factor, a) && is_linear_sum(-factor, b)
-        }
-        Formula::Binary(BinaryOp::Mul, a, b) => {
-            match (find_linear_bound(a), find_linear_bound(b)) {
-                (Some(number), _) => is_linear_product(factor, number, b),
-                (None, Some(number)) => is_linear_product(factor, number, a),
-                (None, None) => false,
-            }
-        }
-        _ => false,
-    }
-}
-
-// Whether an operator divides by more than 128, within its limits.
-fn is_great_linear_division(op: LiteralOp, literal: u32) -> bool
-    ensures { result ≡ is_great_division op literal }
+// Whether an operator divides, within its limits.
+fn is_linear_division(op: LiteralOp, literal: u32) -> bool
+    ensures { result ≡ is_division op literal }
 {
     match op {
-        LiteralOp::Div => 128 < literal && literal < 65536,
-        LiteralOp::Shr => 7 < literal && literal < 32,
+        LiteralOp::Div => 0 < literal && literal < 65536,
+        LiteralOp::Shr => literal < 32,
         LiteralOp::Rem | LiteralOp::Shl => false,
     }
 }
@@ -124,7 +81,7 @@ fn is_great_linear_division(op: LiteralOp, literal: u32) -> bool
 impl LinearMake {
     // The quotient alone.
     fn new(op: LiteralOp, literal: u32) -> LinearMake
-        requires { is_great_division op literal ≡ true }
+        requires { is_division op literal ≡ true }
         ensures op { result.op ≡ op }
         ensures literal { result.literal ≡ literal }
         ensures low { result.low ≡ negsuc 2147483647 }
@@ -173,12 +130,9 @@ fn match_linear_quotient(
 ) -> Option<(&Formula, LinearMake)>
     ensures made { IfSome result (λ it. IsMadeOf (quotient op (formula_view of.now) literal) (formula_view it.0.now) it.1) }
     ensures reads { IfSome result (λ it. reads_in (formula_view it.0.now) ≡ reads_in (formula_view of.now)) }
-    ensures sum { IfSome result (λ it. is_linear_sum (pos 1) (formula_view it.0.now) ≡ true) }
     ensures joined { IfSome result (λ it. is_joined (formula_view it.0.now) ≡ true) }
-    ensures is { IfSome result (λ it. is_linear (quotient op (formula_view of.now) literal) ≡ true) }
-    ensures none { IfNone result (is_linear (quotient op (formula_view of.now) literal) ≡ false) }
 {
-    if is_great_linear_division(op, literal) && is_joined_linear_sum(of) && is_linear_sum(1, of) {
+    if is_linear_division(op, literal) && is_joined_linear_sum(of) {
         Some((of, LinearMake::new(op, literal)))
     } else {
         None
@@ -195,10 +149,7 @@ fn match_linear_minimum(of: &Formula, number: i32) -> Option<(&Formula, LinearMa
         → made it.1 (formula_value env (formula_view it.0.now) r c)
         ≡ int_min number (formula_value env (formula_view of.now) r c)) }
     ensures reads { IfSome result (λ it. reads_in (formula_view it.0.now) ≡ reads_in (formula_view of.now)) }
-    ensures sum { IfSome result (λ it. is_linear_sum (pos 1) (formula_view it.0.now) ≡ true) }
     ensures joined { IfSome result (λ it. is_joined (formula_view it.0.now) ≡ true) }
-    ensures is { IfSome result (λ it. is_linear (formula_view of.now) ≡ true) }
-    ensures none { IfNone result (is_linear (formula_view of.now) ≡ false) }
 {
     let (sum, make) = match_linear_formula(of)?;
     Some((sum, make.at_most(number)))
@@ -214,10 +165,7 @@ fn match_linear_maximum(of: &Formula, number: i32) -> Option<(&Formula, LinearMa
         → made it.1 (formula_value env (formula_view it.0.now) r c)
         ≡ int_max number (formula_value env (formula_view of.now) r c)) }
     ensures reads { IfSome result (λ it. reads_in (formula_view it.0.now) ≡ reads_in (formula_view of.now)) }
-    ensures sum { IfSome result (λ it. is_linear_sum (pos 1) (formula_view it.0.now) ≡ true) }
     ensures joined { IfSome result (λ it. is_joined (formula_view it.0.now) ≡ true) }
-    ensures is { IfSome result (λ it. is_linear (formula_view of.now) ≡ true) }
-    ensures none { IfNone result (is_linear (formula_view of.now) ≡ false) }
 {
     let (sum, make) = match_linear_formula(of)?;
     Some((sum, make.at_least(number)))
@@ -230,24 +178,18 @@ fn match_linear_clamp(of: &Formula, low: i32, high: i32) -> Option<(&Formula, Li
         → made it.1 (formula_value env (formula_view it.0.now) r c)
         ≡ clamped (formula_value env (formula_view of.now) r c) low high) }
     ensures reads { IfSome result (λ it. reads_in (formula_view it.0.now) ≡ reads_in (formula_view of.now)) }
-    ensures sum { IfSome result (λ it. is_linear_sum (pos 1) (formula_view it.0.now) ≡ true) }
     ensures joined { IfSome result (λ it. is_joined (formula_view it.0.now) ≡ true) }
-    ensures is { IfSome result (λ it. is_linear (formula_view of.now) ≡ true) }
-    ensures none { IfNone result (is_linear (formula_view of.now) ≡ false) }
 {
     let (sum, make) = match_linear_maximum(of, low)?;
     Some((sum, make.at_most(high)))
 }
 
-/// The sum in a formula, and what is made of it, if the formula is a quotient by more than 128 that numbers bound.
+/// What a formula divides, and what is made of it, if the formula is a quotient that numbers bound.
 #[cycle(match_linear_formula)]
 pub(crate) fn match_linear_formula(formula: &Formula) -> Option<(&Formula, LinearMake)>
     ensures made { IfSome result (λ it. IsMadeOf (formula_view formula.now) (formula_view it.0.now) it.1) }
     ensures reads { IfSome result (λ it. reads_in (formula_view it.0.now) ≡ reads_in (formula_view formula.now)) }
-    ensures sum { IfSome result (λ it. is_linear_sum (pos 1) (formula_view it.0.now) ≡ true) }
     ensures joined { IfSome result (λ it. is_joined (formula_view it.0.now) ≡ true) }
-    ensures is { IfSome result (λ it. is_linear (formula_view formula.now) ≡ true) }
-    ensures none { IfNone result (is_linear (formula_view formula.now) ≡ false) }
 {
     match formula {
         Formula::Literal(op, of, literal) => match_linear_quotient(*op, of, *literal),

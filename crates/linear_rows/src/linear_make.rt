@@ -2,7 +2,7 @@
 //! What is made of a sum.
 
 ghost use Rattle.std.specs.Prelude.{◌≡◌, ◌<◌, true};
-ghost use Rattle.linear_rows.specs.LinearRows.{is_great_division};
+ghost use Rattle.linear_rows.specs.inside.Divisions.{is_division};
 
 use operators::LiteralOp;
 
@@ -13,7 +13,7 @@ pub(crate) struct LinearMake {
     pub(crate) literal: u32,
     pub(crate) low: i32,
     pub(crate) high: i32,
-    ghost great: { is_great_division op literal ≡ true },
+    ghost divides: { is_division op literal ≡ true },
 }
 
 /// How a number of 32 bits is made one of 16 bits: it is shifted to the right, and then clamped.

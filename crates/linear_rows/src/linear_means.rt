@@ -1,13 +1,12 @@
 #![tactic(auto)]
 //! Means of nine adjacent values, which are linear rows.
 
-ghost use Rattle.std.specs.Prelude.{◌≡◌, ◌+ℤ◌, pos, length, true, false, IfSome, IfNone};
+ghost use Rattle.std.specs.Prelude.{◌≡◌, ◌+ℤ◌, pos, length, IfSome};
 ghost use Rattle.job.specs.Formula.{stencil};
 ghost use Rattle.job.specs.Reads.{EachRead};
 ghost use Rattle.job.specs.Values.{formula_value};
 ghost use Rattle.row_loops.specs.Rows.{EachPlace, at};
-ghost use Rattle.linear_rows.specs.LinearRows.{is_row_of_ones, is_kernel_of_ones, is_linear_mean};
-ghost use Rattle.linear_rows.specs.RowFormulas.{mean_formula, IsRightMean};
+ghost use Rattle.linear_rows.specs.RowFormulas.{is_row_of_ones, is_kernel_of_ones, mean_formula, IsRightMean};
 
 use job::{Kernel, KernelFactors};
 use narrow_eval::borrow_narrow_stencil_line;
@@ -54,8 +53,6 @@ pub(crate) fn match_linear_mean(
 ) -> Option<LinearMean<'_>>
     ensures some { IfSome result (λ it. stencil stage divisor kernel.now ≡ mean_formula it) }
     ensures right { IfSome result IsRightMean }
-    ensures is { IfSome result (λ it. is_linear_mean divisor kernel.now ≡ true) }
-    ensures none { IfNone result (is_linear_mean divisor kernel.now ≡ false) }
 {
     if divisor == 9 && is_linear_kernel_of_ones(kernel.as_slice()) {
         Some(LinearMean { stage, kernel })

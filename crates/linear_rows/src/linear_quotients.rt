@@ -1,7 +1,7 @@
 #![tactic(auto)]
 //! Quotients of sums of products: found once, and written part by part.
 
-ghost use Rattle.std.specs.Prelude.{◌≡◌, ◌≤◌, ◌<◌, ◌+ℤ◌, ℤ, pos, true, false, length, IsTrue, IfOk, IfSome, IfNone};
+ghost use Rattle.std.specs.Prelude.{◌≡◌, ◌≤◌, ◌<◌, ◌+ℤ◌, ℤ, pos, length, IsTrue, IfOk, IfSome};
 ghost use Rattle.domains.specs.Arithmetic.{wrapped};
 ghost use Rattle.job.specs.Reads.{EachRead};
 ghost use Rattle.job.specs.Values.{formula_value};
@@ -9,14 +9,13 @@ ghost use Rattle.job.specs.Views.{formula_view};
 ghost use Rattle.narrow_sums.specs.NarrowFormulas.{FitsWithin};
 ghost use Rattle.row_loops.specs.Rows.{EachPlace, at};
 ghost use Rattle.operators.specs.declared.operator.LiteralOp.TheVariants.{Shr};
-ghost use Rattle.linear_rows.specs.LinearRows.{is_linear};
 ghost use Rattle.linear_rows.specs.inside.LinearSums.{made, shifted, sum_value, AreTapsRead};
 
 use crate::linear_formulas::match_linear_formula;
 use crate::linear_lines::{LinearPair, write_shifted_linear_numbers, write_shifted_linear_term};
 use crate::linear_make::{LinearMake, LinearShift};
 use crate::linear_quotient::LinearQuotient;
-use crate::linear_sums::{borrow_linear_line, write_linear_sums};
+use crate::linear_sums::{LinearSumFault, borrow_linear_line, write_linear_sums};
 use crate::linear_taps::LinearSum;
 use job::Formula;
 use narrow_sums::NarrowSource;
@@ -27,21 +26,25 @@ use std::alloc::{AllocError, Global};
 // How many points are computed at once, so that their sums stay near the processor.
 const PART: usize = 512;
 
-/// The quotient that a formula is, if it is one.
+/// The quotient that a formula is, if it is one of a sum.
+///
+/// # Errors
+///
+/// Fails only where memory is refused.
 pub(crate) fn find_linear_quotient<'a>(
     alloc: Global,
     formula: &'a Formula,
 ) -> Result<Option<LinearQuotient<'a>>, AllocError>
-    ensures some { IfOk result (λ found. IfSome found (λ it. it.formula.now ≡ formula.now)) }
-    ensures is { IfOk result (λ found. IfSome found (λ it. is_linear (formula_view formula.now) ≡ true)) }
-    ensures none { IfOk result (λ found. IfNone found (is_linear (formula_view formula.now) ≡ false)) }
+    ensures { IfOk result (λ found. IfSome found (λ it. it.formula.now ≡ formula.now)) }
 {
     let Some((of, make)) = match_linear_formula(formula) else {
         return Ok(None);
     };
-    let mut sum = LinearSum::new(alloc);
-    sum.add_linear_formula(1, of)?;
-    Ok(Some(LinearQuotient { formula, sum, make }))
+    match LinearSum::from_formula(alloc, of) {
+        Ok(sum) => Ok(Some(LinearQuotient { formula, sum, make })),
+        Err(LinearSumFault::NoSum) => Ok(None),
+        Err(LinearSumFault::Memory) => Err(AllocError),
+    }
 }
 
 impl LinearMake {

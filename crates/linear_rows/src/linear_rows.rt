@@ -1,17 +1,15 @@
 #![tactic(auto)]
 //! Linear rows: found once, and written along rows of points.
 
-ghost use Rattle.std.specs.Prelude.{◌≡◌, ◌+ℤ◌, pos, true, false, [], Some, map, length, IfOk, IfSome, IfNone};
+ghost use Rattle.std.specs.Prelude.{◌≡◌, ◌+ℤ◌, pos, [], Some, map, length, IfOk, IfSome};
 ghost use Rattle.std.specs.Option.{option_map};
 ghost use Rattle.job.specs.Reads.{EachRead};
 ghost use Rattle.job.specs.Values.{formula_value};
 ghost use Rattle.job.specs.Views.{case_view, formula_view};
 ghost use Rattle.narrow_sums.specs.NarrowFormulas.{FitsWithin};
 ghost use Rattle.row_loops.specs.Rows.{EachPlace, at};
-ghost use Rattle.linear_rows.specs.LinearRows.{is_linear_formula, is_linear_function};
 ghost use Rattle.linear_rows.specs.RowFormulas.{linear_formula, IsRightLinear};
 
-use crate::linear_formulas::match_linear_formula;
 use crate::linear_means::{LinearMean, match_linear_mean, write_linear_mean};
 use crate::linear_quotient::LinearQuotient;
 use crate::linear_quotients::{find_linear_quotient, write_linear_quotient};
@@ -23,37 +21,10 @@ use std::alloc::{AllocError, Global};
 /// A linear row.
 #[derive(Drop)]
 pub enum LinearRow<'a> {
-    /// A sum of products of numbers and reads that is divided by more than 128, and numbers that bound the quotient.
+    /// A sum of products of numbers and reads that is divided, and numbers that bound the quotient.
     Quotient(LinearQuotient<'a>),
     /// The mean of nine adjacent values.
     Mean(LinearMean<'a>),
-}
-
-// Whether a formula is a linear row.
-fn is_linear_row_formula(formula: &Formula) -> bool
-    ensures { result ≡ is_linear_formula (formula_view formula.now) }
-{
-    match formula {
-        Formula::Stencil(stage, divisor, kernel) => {
-            match_linear_mean(*stage, *divisor, kernel).is_some()
-        }
-        _ => match_linear_formula(formula).is_some(),
-    }
-}
-
-/// Whether a function is a linear row: everywhere a quotient of a sum of products of numbers and reads by more than 128, which numbers
-/// bound; or a mean of nine adjacent values.
-pub fn is_linear_function(function: &Function) -> bool
-    ensures { result ≡ is_linear_function (map case_view function.now.cases.items)
-        (option_map formula_view function.now.otherwise) }
-{
-    if !function.cases().is_empty() {
-        return false;
-    }
-    match function.otherwise() {
-        Some(formula) => is_linear_row_formula(formula),
-        None => false,
-    }
 }
 
 // The linear row that a formula is.
@@ -64,26 +35,21 @@ fn find_linear_row_of_formula<'a>(
     ensures some { IfOk result (λ found. IfSome found
         (λ it. formula_view formula.now ≡ linear_formula it)) }
     ensures right { IfOk result (λ found. IfSome found IsRightLinear) }
-    ensures is { IfOk result (λ found. IfSome found
-        (λ it. is_linear_formula (formula_view formula.now) ≡ true)) }
-    ensures none { IfOk result (λ found. IfNone found
-        (is_linear_formula (formula_view formula.now) ≡ false)) }
 {
-    match formula {
-        Formula::Stencil(stage, divisor, kernel) => Ok(
-            match match_linear_mean(*stage, *divisor, kernel) {
-                Some(mean) => Some(LinearRow::Mean(mean)),
-                None => None,
-            },
-        ),
-        _ => Ok(match find_linear_quotient(alloc, formula)? {
-            Some(quotient) => Some(LinearRow::Quotient(quotient)),
-            None => None,
-        }),
+    if let Formula::Stencil(stage, divisor, kernel) = formula {
+        return match match_linear_mean(*stage, *divisor, kernel) {
+            Some(mean) => Ok(Some(LinearRow::Mean(mean))),
+            None => Ok(None),
+        };
+    }
+    match find_linear_quotient(alloc, formula)? {
+        Some(quotient) => Ok(Some(LinearRow::Quotient(quotient))),
+        None => Ok(None),
     }
 }
 
-/// The linear row that a function is, if it is one.
+/// The linear row that a function is, if it is one: everywhere a quotient of a sum of products of numbers and reads, which numbers may bound; or a
+/// mean of nine adjacent values.
 ///
 /// # Errors
 ///
@@ -97,12 +63,6 @@ pub fn find_linear_row<'a>(
     ensures some { IfOk result (λ found. IfSome found
         (λ it. option_map formula_view function.now.otherwise ≡ Some (linear_formula it))) }
     ensures right { IfOk result (λ found. IfSome found IsRightLinear) }
-    ensures is { IfOk result (λ found. IfSome found
-        (λ it. is_linear_function (map case_view function.now.cases.items)
-        (option_map formula_view function.now.otherwise) ≡ true)) }
-    ensures none { IfOk result (λ found. IfNone found
-        (is_linear_function (map case_view function.now.cases.items)
-        (option_map formula_view function.now.otherwise) ≡ false)) }
 {
     if !function.cases().is_empty() {
         return Ok(None);

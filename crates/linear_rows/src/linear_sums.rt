@@ -1,26 +1,27 @@
 #![tactic(auto)]
 //! Sums of products of numbers and reads, gathered from formulas once, and added up along rows of points.
 
-ghost use Rattle.std.specs.Prelude.{◌≡◌, ◌<◌, ◌≤◌, ◌+ℤ◌, ◌*ℤ◌, ◌≤ℤ◌, ℤ, pos, negsuc, true, [], ◌&&◌, ◌++◌, length, map, take, All, IfOk};
+ghost use Rattle.std.specs.Prelude.{◌≡◌, ◌<◌, ◌≤◌, ◌+ℤ◌, ◌*ℤ◌, ◌≤ℤ◌, ℤ, pos, negsuc, [], ◌∷◌, ◌++◌, length, map, take, All, IfOk};
 ghost use Rattle.domains.specs.Arithmetic.{wrapped};
-ghost use Rattle.job.specs.Reads.{reads_in};
+ghost use Rattle.domains.specs.Index.{index_at};
+ghost use Rattle.job.specs.Reads.{point, reads_in};
 ghost use Rattle.job.specs.Values.{Valuation, formula_value};
 ghost use Rattle.job.specs.Views.{formula_view};
 ghost use Rattle.row_loops.specs.Rows.{EachPlace, at};
-ghost use Rattle.linear_rows.specs.LinearRows.{is_factor, is_linear_sum};
 ghost use Rattle.linear_rows.specs.inside.LinearSums.{line_at, tap_value, taps_value, sum_value, IsTapRead, AreTapsRead, tap_read};
 ghost use Rattle.linear_rows.specs.inside.LinearTaps.{IsShiftingTap};
 
 use crate::linear_formulas::{find_linear_bound, multiply_linear_factor};
 use crate::linear_lines::{LinearLine, LinearPair, add_linear_term};
 use crate::linear_taps::{LinearSum, LinearTap};
+use domains::Index;
 use domains::arithmetic::{wrapping_add, wrapping_mul};
 use job::Formula;
 use narrow_sums::NarrowSource;
 use operators::{BinaryOp, UnaryOp};
 use row_kernels::RowSpan;
 use row_loops::fill_row;
-use std::alloc::{AllocError, Global};
+use std::alloc::Global;
 
 /// The samples that a tap reads along the points, with its factor.
 #[inline]
@@ -113,15 +114,70 @@ fn add_linear_taps<S: NarrowSource>(
     }
 }
 
+/// Why a formula is not gathered.
+#[derive(Clone, Copy)]
+pub(crate) enum LinearSumFault {
+    /// It is no sum of products of numbers and reads.
+    NoSum,
+    Memory,
+}
+
 impl<'a> LinearSum<'a> {
-    /// A sum of nothing.
-    pub(crate) fn new(alloc: Global) -> LinearSum<'a>
+    // A sum of nothing.
+    fn new(alloc: Global) -> LinearSum<'a>
         ensures number { result.number ≡ pos 0 }
         ensures taps { result.taps.items ≡ [] }
     {
         LinearSum {
             number: 0,
             taps: Vec::new(alloc),
+        }
+    }
+
+    /// The sum that a formula is, modulo 2^32.
+    ///
+    /// # Errors
+    ///
+    /// Fails where the formula is no sum of products of numbers and reads whose factors fit in 16 bits, and where memory is refused.
+    pub(crate) fn from_formula(
+        alloc: Global,
+        formula: &'a Formula,
+    ) -> Result<LinearSum<'a>, LinearSumFault>
+        ensures values { IfOk result (λ sum. (env : Valuation) (r c : ℤ)
+            → wrapped (sum_value env sum r c) ≡ wrapped (formula_value env (formula_view formula.now) r c)) }
+        ensures reads { IfOk result (λ sum. map tap_read sum.taps.items ≡ reads_in (formula_view formula.now)) }
+    {
+        let mut sum = LinearSum::new(alloc);
+        sum.add_linear_formula(1, formula)?;
+        Ok(sum)
+    }
+
+    // Adds a factor times a read, if the index of its column only adds.
+    fn add_linear_read(
+        &mut self,
+        factor: i16,
+        stage: usize,
+        row: &'a Index,
+        col: &'a Index,
+    ) -> Result<(), LinearSumFault>
+        ensures values { IfOk result (λ _. (env : Valuation) (r c : ℤ)
+            → wrapped (sum_value env self.new r c)
+            ≡ wrapped (sum_value env self.old r c +ℤ factor *ℤ env stage (index_at row.now r) (index_at col.now c))) }
+        ensures reads { IfOk result (λ _. map tap_read self.new.taps.items
+            ≡ map tap_read self.old.taps.items ++ point stage row.now col.now ∷ []) }
+    {
+        if col.mul() != 1 || col.div() != 1 {
+            return Err(LinearSumFault::NoSum);
+        }
+        let tap = LinearTap {
+            factor,
+            stage,
+            row,
+            col,
+        };
+        match self.taps.push(tap) {
+            Ok(()) => Ok(()),
+            Err(_) => Err(LinearSumFault::Memory),
         }
     }
 
@@ -132,34 +188,31 @@ impl<'a> LinearSum<'a> {
         factor: i16,
         number: i32,
         formula: &'a Formula,
-    ) -> Result<(), AllocError>
-        requires { (is_factor (factor *ℤ number) && is_linear_sum (factor *ℤ number) (formula_view formula.now)) ≡ true }
+    ) -> Result<(), LinearSumFault>
         ensures values { IfOk result (λ _. (env : Valuation) (r c : ℤ)
             → wrapped (sum_value env self.new r c)
             ≡ wrapped (sum_value env self.old r c +ℤ factor *ℤ number *ℤ formula_value env (formula_view formula.now) r c)) }
         ensures reads { IfOk result (λ _. map tap_read self.new.taps.items
             ≡ map tap_read self.old.taps.items ++ reads_in (formula_view formula.now)) }
     {
-        let Some(product) = multiply_linear_factor(factor, number) else {
-            return Ok(());
-        };
-        self.add_linear_formula(product, formula)?;
-        Ok(())
+        match multiply_linear_factor(factor, number) {
+            Some(product) => self.add_linear_formula(product, formula),
+            None => Err(LinearSumFault::NoSum),
+        }
     }
 
-    /// Adds a factor times a formula that is a sum, modulo 2^32.
+    /// Adds a factor times a formula, modulo 2^32.
     ///
     /// # Errors
     ///
-    /// Fails only where memory is refused.
+    /// Fails where the formula is no sum of products of numbers and reads whose factors fit in 16 bits, and where memory is refused.
     #[cycle(add_linear_formula)]
     pub(crate) fn add_linear_formula(
         &mut self,
         factor: i16,
         formula: &'a Formula,
-    ) -> Result<(), AllocError>
-        requires least { negsuc 32766 ≤ℤ factor }
-        requires sum { is_linear_sum factor (formula_view formula.now) ≡ true }
+    ) -> Result<(), LinearSumFault>
+        requires { negsuc 32766 ≤ℤ factor }
         ensures values { IfOk result (λ _. (env : Valuation) (r c : ℤ)
             → wrapped (sum_value env self.new r c)
             ≡ wrapped (sum_value env self.old r c +ℤ factor *ℤ formula_value env (formula_view formula.now) r c)) }
@@ -171,15 +224,7 @@ impl<'a> LinearSum<'a> {
                 let more = wrapping_mul(i32::from(factor), *number);
                 self.number = wrapping_add(self.number, more);
             }
-            Formula::Read(stage, row, col) => {
-                let stage = *stage;
-                self.taps.push(LinearTap {
-                    factor,
-                    stage,
-                    row,
-                    col,
-                })?;
-            }
+            Formula::Read(stage, row, col) => self.add_linear_read(factor, *stage, row, col)?,
             Formula::Unary(UnaryOp::Neg, of) => self.add_linear_formula(-factor, of)?,
             Formula::Binary(BinaryOp::Add, a, b) => {
                 self.add_linear_formula(factor, a)?;
@@ -193,10 +238,10 @@ impl<'a> LinearSum<'a> {
                 match (find_linear_bound(a), find_linear_bound(b)) {
                     (Some(number), _) => self.add_linear_product(factor, number, b)?,
                     (None, Some(number)) => self.add_linear_product(factor, number, a)?,
-                    (None, None) => {}
+                    (None, None) => return Err(LinearSumFault::NoSum),
                 }
             }
-            _ => {}
+            _ => return Err(LinearSumFault::NoSum),
         }
         Ok(())
     }

@@ -20,14 +20,14 @@ use Rattle.row_loops.specs.Rows.{EachPlace, at}
 use Rattle.row_plans.specs.Rows.{next_row}
 use Rattle.row_plans.specs.declared.row_state.RowState.{RowState}
 use Rattle.narrow_eval.specs.NarrowCases.{IsNarrowComputable}
-use Rattle.linear_rows.specs.LinearRows.{is_linear_function}
 use Rattle.tile_eval.specs.Reading.{HasFunctionRoom}
 use Rattle.value_ranges.specs.Narrow.{Fits16}
 use Rattle.value_ranges.specs.Ranges.{IsNarrowBody}
 use Rattle.tile_eval.specs.Cases.{function_value, IsComputable}
 use Rattle.tile_eval.proofs.Rasters.{nth_held}
 use Rattle.row_rings.specs.RingRows.{sample_in, IsKeptPoint}
-use Rattle.row_rings.specs.NarrowRings.{IsFittingStage, IsNarrowlyMade, is_linear_body}
+use Rattle.row_rings.specs.NarrowRings.{IsFittingStage, is_linear_shape, IsNarrowlyMade}
+use Rattle.row_rings.specs.declared.ring_shapes.RingShape.{RingShape}
 use Rattle.row_rings.specs.TrueRings.{AreTrueRings, HasBodyRoom, HasStageRoom}
 use Rattle.row_rings.specs.inside.Making.{row_area, AreFittingValues, IsFittingRow, IsPictureRow, IsMakeable, IsValueRow}
 use Rattle.row_rings.specs.declared.ring.RowRing.{RowRing}
@@ -161,9 +161,9 @@ module _ (job : Pipeline) (h : IsJob job) (rings : List (RowRing ℤ)) (g : ℕ)
         (fits can.stage can.there can.valued (next_row state) _ (row_in k inside))
 
     pub narrow_computable : (cases : List JobCase) (otherwise : Option Formula) → s.body ≡ function cases otherwise
-        → IsNarrowlyMade job g → is_linear_function cases otherwise ≡ false → (room : ℕ) → HasStageRoom job g (len_of state.area.cols) room → (n : ℕ) → n ≡ len_of state.area.cols
+        → (shape : RingShape) → IsNarrowlyMade job g shape → is_linear_shape shape ≡ false → (room : ℕ) → HasStageRoom job g (len_of state.area.cols) room → (n : ℕ) → n ≡ len_of state.area.cols
         → IsNarrowComputable (IsKeptPoint rings) (value job) (next_row state) state.area.cols.lo n room cases otherwise
-    narrow_computable cases otherwise is narrow plain room has n long = record {
+    narrow_computable cases otherwise is shape narrow plain room has n long = record {
       tests = subst (IsBody job.picture can.stage.domain) body own.body;
       formulas = subst (λ (b : Body). All IsFormula (formulas_of b)) body own.formulas;
       domain = can.stage.domain;
@@ -172,7 +172,7 @@ module _ (job : Pipeline) (h : IsJob job) (rings : List (RowRing ℤ)) (g : ℕ)
       reads = narrow_reads cases otherwise is n long;
       narrow = λ k l.
           subst (λ (b : Body). IsNarrowBody (value job) b (next_row state) (state.area.cols.lo +ℤ pos k)) is
-          (narrow s there (subst IsFunction (sym is) tt) (ap is_linear_body is ∙ plain) (next_row state) _
+          (narrow s there (subst IsFunction (sym is) tt) plain (next_row state) _
           (subst (λ (t : Stage). HoldsPoint t.domain (next_row state) (state.area.cols.lo +ℤ pos k))
           (same_Some can.stage s (sym can.there ∙ there)) (inside k l)));
       capacity =

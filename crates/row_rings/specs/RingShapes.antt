@@ -1,5 +1,5 @@
 -- How the rows of stages are made.
-use Rattle.std.specs.Prelude.{ℕ, ◌≡◌, false, Some, List, [], ◌∷◌, slice_get}
+use Rattle.std.specs.Prelude.{ℕ, ◌≡◌, Some, List, [], ◌∷◌, slice_get}
 use Rattle.column_phases.specs.Phases.{ArePhasesOf}
 use Rattle.job.specs.Formula.{Formula}
 use Rattle.job.specs.declared.stage.Function.{Function}
@@ -12,7 +12,6 @@ use Rattle.narrow_eval.specs.declared.narrow_case.NarrowFunction.{NarrowFunction
 use Rattle.wide_divisions.specs.DivisionSteps.{step_formula, IsRightStep}
 use Rattle.row_rings.specs.declared.ring_shapes.RingShape.{RingShape}
 use Rattle.row_rings.specs.declared.ring_shapes.RingShape.TheVariants.{Linear, Pieces, Division, Phases, Formulas, Other}
-use Rattle.row_rings.specs.NarrowRings.{is_linear_body}
 
 -- a function that is this formula everywhere
 abbrev pub IsFormulaBody : Formula → Body → Type 0
@@ -44,15 +43,14 @@ IsNoFunction (plane n) = Unit {0}
 IsNoFunction (function cases otherwise) = ⊥
 IsNoFunction (accumulator fold bins value bin) = Unit {0}
 
--- rows that are made so are those of the body. A body of another shape than that of a linear row is none
+-- rows that are made so are those of the body
 abbrev pub IsShapeOf : RingShape → Body → Type 0
 IsShapeOf (Linear row) body = IsFormulaBody (linear_formula row) body × IsRightLinear row
-IsShapeOf (Pieces pieces) body = ArePiecesOfBody pieces body × (is_linear_body body ≡ false)
+IsShapeOf (Pieces pieces) body = ArePiecesOfBody pieces body
 IsShapeOf (Division step program) body =
-    IsFormulaBody (step_formula step) body × IsRightStep step × IsProgrammedBody program body × (is_linear_body body ≡ false)
-IsShapeOf (Phases phases program) body =
-    IsPhasedBody phases.functions.items body × IsProgrammedBody program body × (is_linear_body body ≡ false)
-IsShapeOf (Formulas program) body = IsProgrammedBody program body × (is_linear_body body ≡ false)
+    IsFormulaBody (step_formula step) body × IsRightStep step × IsProgrammedBody program body
+IsShapeOf (Phases phases program) body = IsPhasedBody phases.functions.items body × IsProgrammedBody program body
+IsShapeOf (Formulas program) body = IsProgrammedBody program body
 IsShapeOf Other body = IsNoFunction body
 
 -- and so for stage g

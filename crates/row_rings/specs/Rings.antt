@@ -2,7 +2,7 @@
 use Rattle.std.specs.Prelude.{ℕ, List, if◌then◌else◌}
 use Rattle.row_plans.specs.declared.row_state.RowState.{RowState}
 use Rattle.row_rings.specs.declared.job_rings.JobRings.{JobRings}
-pub use Rattle.row_rings.specs.NarrowRings.{IsFittingStage, IsNarrowlyMade, AreNarrowlyMade}
+pub use Rattle.row_rings.specs.NarrowRings.{IsFittingStage, is_linear_shape, IsNarrowlyMade, AreNarrowlyMade}
 pub use Rattle.row_rings.specs.RingForms.{IsWhole, IsWholeWhereKept, IsFittingWhereKept, IsServed, IsRightForm, AreRightForms, AreFewForms}
 pub use Rattle.row_rings.specs.RingRows.{row_at, ring_row, number_at, number_in, sample_in, IsKeptIn, IsKeptPoint, ring_states}
 pub use Rattle.row_rings.specs.TrueRings.{AreTrueRings, ArePlacedRings, HasBodyRoom, HasStageRoom, HasOwnRoom, AreRoomy}

@@ -41,10 +41,10 @@ IsNoFunction-prop (accumulator fold bins value bin) = hlevel props
 
 IsShapeOf-prop : (shape : RingShape) (body : Body) → IsProp (IsShapeOf shape body)
 IsShapeOf-prop (Linear row) body = hlevel (IsFormulaBody-prop, IsRightLinear-prop, props)
-IsShapeOf-prop (Pieces pieces) body = hlevel (ArePiecesOfBody-prop, props)
+IsShapeOf-prop (Pieces pieces) body = ArePiecesOfBody-prop pieces body
 IsShapeOf-prop (Division step program) body = hlevel (IsFormulaBody-prop, IsRightStep-prop, IsProgrammedBody-prop, props)
 IsShapeOf-prop (Phases phases program) body = hlevel (IsPhasedBody-prop, IsProgrammedBody-prop, props)
-IsShapeOf-prop (Formulas program) body = hlevel (IsProgrammedBody-prop, props)
+IsShapeOf-prop (Formulas program) body = IsProgrammedBody-prop program body
 IsShapeOf-prop Other body = IsNoFunction-prop body
 
 pub AreShapesOf-prop : (shapes : List RingShape) (stages : List Stage) → IsProp (AreShapesOf shapes stages)

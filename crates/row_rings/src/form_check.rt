@@ -1,17 +1,18 @@
 #![tactic(auto)]
 //! Checks of the forms in which rows are kept: whether each stage finds all that it reads in the form in which it is computed.
 
-ghost use Rattle.std.specs.Prelude.{ℕ, ◌≡◌, ◌<◌, true, false, length, All, slice_index_or, if◌then◌else◌};
+ghost use Rattle.std.specs.Prelude.{ℕ, ◌≡◌, ◌<◌, true, false, length, All, Some, slice_get, slice_index_or, if◌then◌else◌};
 ghost use Rattle.job.specs.Kept.{pipeline_in};
 ghost use Rattle.job.specs.Reads.{stage_read};
 ghost use Rattle.job.specs.ReadViews.{read_view};
 ghost use Rattle.row_rings.specs.NarrowRings.{IsFittingStage, IsNarrowlyMade, AreNarrowlyMade};
+ghost use Rattle.row_rings.specs.declared.ring_shapes.RingShape.{RingShape as ShapeView};
 ghost use Rattle.row_rings.specs.RingForms.{AreRightForms, AreFewForms, IsRightForm, IsWhole, IsWholeWhereKept, IsServed, IsFittingWhereKept};
 ghost use Rattle.value_ranges.specs.Ranges.{AreRanges};
 
 use crate::ring_forms::{RingForms, is_computed_narrow_ring};
+use crate::ring_shapes::RingShape;
 use job::{Body, Job, Read};
-use linear_rows::is_linear_function;
 use row_plans::RowState;
 use value_ranges::{ValueRange, is_narrow_stage, is_narrow_value_range};
 
@@ -110,19 +111,40 @@ fn is_fitting_narrow_ring_where_kept(
     }
 }
 
-// Whether a stage is computed in 16 bits, if it is a function.
-fn is_narrowly_made_ring(job: &Job, ranges: &[ValueRange], stage: usize) -> bool
+// Whether a stage of this shape is computed in 16 bits, if it is a function.
+fn is_narrowly_made_ring_of_shape(
+    job: &Job,
+    ranges: &[ValueRange],
+    shape: &RingShape<'_>,
+    stage: usize,
+) -> bool
     requires { AreRanges (pipeline_in job.now) ranges.now }
-    ensures { result ≡ true → IsNarrowlyMade (pipeline_in job.now) stage }
+    ensures { result ≡ true → IsNarrowlyMade (pipeline_in job.now) stage shape.now }
 {
     let Some(found) = job.stage(stage) else {
         return false;
     };
     match found.body() {
         Body::Plane(_) => true,
-        Body::Function(function) => is_linear_function(function)
-            || is_narrow_stage(job, ranges, stage),
+        Body::Function(_) => shape.is_linear_ring_shape() || is_narrow_stage(job, ranges, stage),
         Body::Accumulator(_) => false,
+    }
+}
+
+// Whether a stage is computed in 16 bits, if it is a function.
+fn is_narrowly_made_ring(
+    job: &Job,
+    ranges: &[ValueRange],
+    shapes: &[RingShape<'_>],
+    stage: usize,
+) -> bool
+    requires { AreRanges (pipeline_in job.now) ranges.now }
+    ensures { result ≡ true → (shape : ShapeView) → slice_get shapes.now stage ≡ Some shape
+        → IsNarrowlyMade (pipeline_in job.now) stage shape }
+{
+    match shapes.get(stage) {
+        Some(shape) => is_narrowly_made_ring_of_shape(job, ranges, shape, stage),
+        None => false,
     }
 }
 
@@ -130,6 +152,7 @@ fn is_narrowly_made_ring(job: &Job, ranges: &[ValueRange], stage: usize) -> bool
 fn is_computed_ring_form_right(
     job: &Job,
     ranges: &[ValueRange],
+    shapes: &[RingShape<'_>],
     states: &[RowState],
     forms: &RingForms,
     stage: usize,
@@ -139,11 +162,12 @@ fn is_computed_ring_form_right(
         (if slice_index_or forms.now.computed_narrow.items stage false then forms.now.narrow.items
         else forms.now.wide.items) states.now stage }
     ensures narrow { result ≡ true → slice_index_or forms.now.computed_narrow.items stage false ≡ true
-        → IsNarrowlyMade (pipeline_in job.now) stage }
+        → (shape : ShapeView) → slice_get shapes.now stage ≡ Some shape
+        → IsNarrowlyMade (pipeline_in job.now) stage shape }
 {
     if is_computed_narrow_ring(&forms.computed_narrow, stage) {
         is_served_ring_form(job, &forms.narrow, states, stage)
-            && is_narrowly_made_ring(job, ranges, stage)
+            && is_narrowly_made_ring(job, ranges, shapes, stage)
     } else {
         is_served_ring_form(job, &forms.wide, states, stage)
     }
@@ -153,6 +177,7 @@ fn is_computed_ring_form_right(
 fn is_ring_form_right(
     job: &Job,
     ranges: &[ValueRange],
+    shapes: &[RingShape<'_>],
     states: &[RowState],
     forms: &RingForms,
     stage: usize,
@@ -161,18 +186,20 @@ fn is_ring_form_right(
     ensures right { result ≡ true → IsRightForm (pipeline_in job.now) states.now forms.now.wide.items
         forms.now.narrow.items forms.now.computed_narrow.items stage }
     ensures narrow { result ≡ true → slice_index_or forms.now.computed_narrow.items stage false ≡ true
-        → IsNarrowlyMade (pipeline_in job.now) stage }
+        → (shape : ShapeView) → slice_get shapes.now stage ≡ Some shape
+        → IsNarrowlyMade (pipeline_in job.now) stage shape }
 {
     is_whole_ring_form_where_kept(&forms.wide, states, stage)
         && is_whole_ring_form_where_kept(&forms.narrow, states, stage)
         && is_fitting_narrow_ring_where_kept(job, ranges, &forms.narrow, stage)
-        && is_computed_ring_form_right(job, ranges, states, forms, stage)
+        && is_computed_ring_form_right(job, ranges, shapes, states, forms, stage)
 }
 
 /// Whether the forms that are chosen for all stages are right, and outputs are kept in theirs.
 pub(crate) fn are_ring_forms_right(
     job: &Job,
     ranges: &[ValueRange],
+    shapes: &[RingShape<'_>],
     states: &[RowState],
     forms: &RingForms,
     outputs: &[usize],
@@ -181,7 +208,7 @@ pub(crate) fn are_ring_forms_right(
     ensures right { result ≡ true → AreRightForms (pipeline_in job.now) states.now forms.now.wide.items
         forms.now.narrow.items forms.now.computed_narrow.items }
     ensures narrow { result ≡ true → AreNarrowlyMade (pipeline_in job.now) states.now
-        forms.now.computed_narrow.items }
+        shapes.now forms.now.computed_narrow.items }
     ensures outputs { result ≡ true → All (IsWhole
         (if forms.now.narrow_outputs then forms.now.narrow.items else forms.now.wide.items) states.now)
         outputs.now }
@@ -191,7 +218,7 @@ pub(crate) fn are_ring_forms_right(
         return false;
     }
     for stage in 0..states.len() {
-        if !is_ring_form_right(job, ranges, states, forms, stage) {
+        if !is_ring_form_right(job, ranges, shapes, states, forms, stage) {
             return false;
         }
     }

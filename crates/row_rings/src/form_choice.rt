@@ -5,28 +5,18 @@ ghost use Rattle.job.specs.Kept.{pipeline_in};
 ghost use Rattle.value_ranges.specs.Ranges.{AreRanges};
 
 use crate::ring_forms::RingForms;
-use job::{Body, Function, Job, Stage};
-use linear_rows::is_linear_function;
+use crate::ring_shapes::RingShape;
+use job::{Body, Job, Stage};
 use row_plans::RowState;
 use std::alloc::{AllocError, Global};
-use value_ranges::{ValueRange, is_narrow_stage, is_narrow_value_range};
+use value_ranges::{ValueRange, is_narrow_stage};
 
-// Whether the values of a stage fit in 16 bits.
-fn has_narrow_ring_range(ranges: &[ValueRange], stage: usize) -> bool {
-    match ranges.get(stage) {
-        Some(range) => is_narrow_value_range(range),
+// Whether the rows of a stage are made as linear ones.
+fn is_linear_narrow_ring(shapes: &[RingShape<'_>], stage: usize) -> bool {
+    match shapes.get(stage) {
+        Some(shape) => shape.is_linear_ring_shape(),
         None => false,
     }
-}
-
-// Whether a function is a linear row whose values fit in 16 bits, and so do those that it reads.
-fn is_linear_narrow_ring(function: &Function, ranges: &[ValueRange], stage: usize) -> bool {
-    is_linear_function(function)
-        && has_narrow_ring_range(ranges, stage)
-        && function
-            .reads()
-            .iter()
-            .all(|read| has_narrow_ring_range(ranges, read.stage()))
 }
 
 // Whether a stage is a plane of the picture.
@@ -103,14 +93,19 @@ impl RingFormFlags {
     }
 
     // Chooses the form of each function.
-    fn choose_ring_forms_of_functions(&mut self, job: &Job, ranges: &[ValueRange])
+    fn choose_ring_forms_of_functions(
+        &mut self,
+        job: &Job,
+        ranges: &[ValueRange],
+        shapes: &[RingShape<'_>],
+    )
         requires { AreRanges (pipeline_in job.now) ranges.now }
     {
         for (stage, found) in job.stages().iter().enumerate() {
             match found.body() {
                 Body::Plane(_) | Body::Accumulator(_) => {}
-                Body::Function(function) => {
-                    let narrow = is_linear_narrow_ring(function, ranges, stage)
+                Body::Function(_) => {
+                    let narrow = is_linear_narrow_ring(shapes, stage)
                         || is_narrow_stage(job, ranges, stage);
                     self.compute_stage_in_ring_form(stage, found, narrow);
                 }
@@ -163,6 +158,7 @@ pub(crate) fn choose_ring_forms(
     alloc: Global,
     job: &Job,
     ranges: &[ValueRange],
+    shapes: &[RingShape<'_>],
     states: &[RowState],
     outputs: &[usize],
     summed: &[usize],
@@ -170,7 +166,7 @@ pub(crate) fn choose_ring_forms(
     requires { AreRanges (pipeline_in job.now) ranges.now }
 {
     let mut flags = RingFormFlags::new(alloc, states.len())?;
-    flags.choose_ring_forms_of_functions(job, ranges);
+    flags.choose_ring_forms_of_functions(job, ranges, shapes);
     let narrow_outputs = flags.has_narrow_ring_outputs_only(outputs);
     for output in outputs {
         flags.request_ring_form(*output, narrow_outputs);

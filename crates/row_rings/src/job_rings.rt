@@ -22,6 +22,7 @@ use job::Job;
 use row_plans::RowState;
 use std::alloc::{AllocError, Global};
 use std::mem;
+use value_ranges::find_value_ranges;
 
 /// The rings of all stages of a job, with room for the numbers that are needed to make a row. What they have is true. A stage whose
 /// formulas allow it is computed in 16 bits. Its rows are kept in the forms in which they are read.
@@ -43,7 +44,7 @@ pub struct JobRings<'a> {
     narrow_temps: Vec<i16>,
     ghost forms: { AreRightForms (pipeline_in job.now) states.items (ring_states wide.rings.items)
         (ring_states narrow.rings.items) computed_narrow.items } by { Prim.hlevel props },
-    ghost made: { ∥ AreNarrowlyMade (pipeline_in job.now) states.items computed_narrow.items ∥₁ },
+    ghost made: { ∥ AreNarrowlyMade (pipeline_in job.now) states.items shapes.items computed_narrow.items ∥₁ },
     ghost shaped: { AreShapesOf shapes.items (pipeline_in job.now).stages } by { AreShapesOf-prop shapes.items (pipeline_in job.now).stages },
     ghost right: { AreTrueRings (pipeline_in job.now) wide.rings.items } by { Prim.hlevel props },
     ghost right_narrow: { AreTrueRings (pipeline_in job.now) narrow.rings.items } by { Prim.hlevel props },
@@ -100,13 +101,14 @@ impl<'a> JobRings<'a> {
         ensures states { IfOk result (λ rings. states_in rings ≡ states.now) }
         ensures outputs { IfOk result (λ rings. All (IsOutputForm rings) outputs.now) }
     {
-        let forms = find_ring_forms(alloc, job, states, outputs, summed)?;
+        let ranges = find_value_ranges(alloc, job)?;
+        let shapes = list_ring_shapes(alloc, job, &ranges)?;
+        let forms = find_ring_forms(alloc, job, &ranges, &shapes, states, outputs, summed)?;
         let room = find_greatest_ring_room(job, &forms.computed_narrow, false)?;
         let narrow_room = find_greatest_ring_room(job, &forms.computed_narrow, true)?;
         let states = states.to_vec(alloc)?;
         let wide = allocate_rings(alloc, 0, &forms.wide)?;
         let narrow = allocate_rings(alloc, 0, &forms.narrow)?;
-        let shapes = list_ring_shapes(alloc, job)?;
         Ok(JobRings {
             alloc,
             job,

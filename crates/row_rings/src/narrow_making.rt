@@ -13,12 +13,11 @@ ghost use Rattle.job.specs.Views.{case_view, formula_view};
 ghost use Rattle.row_loops.specs.Rows.{EachPlace, at};
 ghost use Rattle.row_plans.specs.Rows.{next_row};
 ghost use Rattle.row_rings.specs.RingRows.{IsKeptPoint};
-ghost use Rattle.row_rings.specs.NarrowRings.{IsFittingStage, IsNarrowlyMade};
+ghost use Rattle.row_rings.specs.NarrowRings.{IsFittingStage, is_linear_shape, IsNarrowlyMade};
 ghost use Rattle.row_rings.specs.RingShapes.{IsShapeOf, IsStageShape};
 ghost use Rattle.row_rings.specs.TrueRings.{AreTrueRings, HasStageRoom};
 ghost use Rattle.row_rings.specs.inside.Making.{AreFittingValues, IsFittingRow, IsMakeable, IsPictureRow, IsValueRow, HasOneRowMore};
 ghost use Rattle.narrow_eval.specs.NarrowCases.{IsNarrowComputable};
-ghost use Rattle.linear_rows.specs.LinearRows.{is_linear_function};
 ghost use Rattle.tile_eval.specs.Cases.{function_value};
 
 use crate::narrow_ring_source::NarrowRingSource;
@@ -64,8 +63,7 @@ fn write_shaped_row_to_narrow_ring<S: NarrowSource>(
         (option_map formula_view function.now.otherwise)) points.now.row (points.now.col +ℤ pos k)) }
     requires values { AreFittingValues (S.samples source.now) (map case_view function.now.cases.items)
         (option_map formula_view function.now.otherwise) points.now.row points.now.col (length out.old) }
-    requires function { is_linear_function (map case_view function.now.cases.items)
-        (option_map formula_view function.now.otherwise) ≡ false
+    requires function { is_linear_shape shape.now ≡ false
         → IsNarrowComputable (S.has source.now) (S.samples source.now) points.now.row
         points.now.col (length out.old) (length temps.old) (map case_view function.now.cases.items)
         (option_map formula_view function.now.otherwise) }
@@ -117,8 +115,7 @@ fn write_function_row_to_narrow_ring(
         area.now.cols.lo (length out.old) }
     requires shape { IsShapeOf shape.now (function_body (map case_view function.now.cases.items)
         (option_map formula_view function.now.otherwise)) }
-    requires function { is_linear_function (map case_view function.now.cases.items)
-        (option_map formula_view function.now.otherwise) ≡ false
+    requires function { is_linear_shape shape.now ≡ false
         → IsNarrowComputable (IsKeptPoint known.now.rings.items)
         (value (pipeline_in job.now)) (area.now.rows.lo +ℤ pos row) area.now.cols.lo (length out.old)
         (length temps.old) (map case_view function.now.cases.items)
@@ -146,7 +143,7 @@ fn write_stage_row_to_narrow_ring(
     requires can { IsMakeable (pipeline_in job.now) known.now.rings.items stage state.now }
     requires right { AreTrueRings (pipeline_in job.now) known.now.rings.items }
     requires fits { IsFittingStage (pipeline_in job.now) stage }
-    requires narrow { IsNarrowlyMade (pipeline_in job.now) stage }
+    requires narrow { IsNarrowlyMade (pipeline_in job.now) stage shape.now }
     requires shape { IsStageShape (pipeline_in job.now) stage shape.now }
     requires count { length out.old ≡ len_of state.now.area.cols }
     requires room { HasStageRoom (pipeline_in job.now) stage (len_of state.now.area.cols)
@@ -189,7 +186,7 @@ impl RowRing<i16> {
         requires some { 0 < self.old.state.kept }
         requires right { AreTrueRings (pipeline_in job.now) known.now.rings.items }
         requires fits { IsFittingStage (pipeline_in job.now) stage }
-        requires narrow { IsNarrowlyMade (pipeline_in job.now) stage }
+        requires narrow { IsNarrowlyMade (pipeline_in job.now) stage shape.now }
         requires shape { IsStageShape (pipeline_in job.now) stage shape.now }
         requires room { HasStageRoom (pipeline_in job.now) stage (len_of self.old.state.area.cols)
             (length temps.old) }

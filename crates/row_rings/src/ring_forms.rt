@@ -5,13 +5,15 @@ ghost use Rattle.std.specs.Prelude.{◌≡◌, false, [], All, IfOk, slice_index
 ghost use Rattle.job.specs.Kept.{pipeline_in};
 ghost use Rattle.row_rings.specs.NarrowRings.{AreNarrowlyMade};
 ghost use Rattle.row_rings.specs.RingForms.{AreRightForms, AreFewForms, IsWhole};
+ghost use Rattle.value_ranges.specs.Ranges.{AreRanges};
 
 use crate::form_check::are_ring_forms_right;
 use crate::form_choice::choose_ring_forms;
+use crate::ring_shapes::RingShape;
 use job::Job;
 use row_plans::RowState;
 use std::alloc::{AllocError, Global};
-use value_ranges::find_value_ranges;
+use value_ranges::ValueRange;
 
 /// In which form the rows of each stage are kept, and in which they are computed.
 #[derive(Drop)]
@@ -73,22 +75,24 @@ fn list_wide_ring_forms(alloc: Global, states: &[RowState]) -> Result<RingForms,
 pub(crate) fn find_ring_forms(
     alloc: Global,
     job: &Job,
+    ranges: &[ValueRange],
+    shapes: &[RingShape<'_>],
     states: &[RowState],
     outputs: &[usize],
     summed: &[usize],
 ) -> Result<RingForms, AllocError>
+    requires { AreRanges (pipeline_in job.now) ranges.now }
     ensures right { IfOk result (λ forms. AreRightForms (pipeline_in job.now) states.now forms.wide.items
         forms.narrow.items forms.computed_narrow.items) }
     ensures narrow { IfOk result (λ forms. AreNarrowlyMade (pipeline_in job.now) states.now
-        forms.computed_narrow.items) }
+        shapes.now forms.computed_narrow.items) }
     ensures few { IfOk result (λ forms. AreFewForms states.now forms.wide.items forms.narrow.items) }
     ensures outputs { IfOk result (λ forms. All (IsWhole
         (if forms.narrow_outputs then forms.narrow.items else forms.wide.items) states.now)
         outputs.now) }
 {
-    let ranges = find_value_ranges(alloc, job)?;
-    let forms = choose_ring_forms(alloc, job, &ranges, states, outputs, summed)?;
-    if are_ring_forms_right(job, &ranges, states, &forms, outputs) {
+    let forms = choose_ring_forms(alloc, job, ranges, shapes, states, outputs, summed)?;
+    if are_ring_forms_right(job, ranges, shapes, states, &forms, outputs) {
         return Ok(forms);
     }
     list_wide_ring_forms(alloc, states)

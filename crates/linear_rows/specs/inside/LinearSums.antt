@@ -1,9 +1,11 @@
 -- The values of sums of products, and of what is made of them.
-use Rattle.std.specs.Prelude.{ℕ, ℤ, pos, ◌≡◌, ◌^◌, ◌+ℤ◌, ◌*ℤ◌, List, [], ◌∷◌, All}
+use Rattle.std.specs.Prelude.{ℕ, ℤ, pos, ◌≡◌, ◌^◌, ◌+ℤ◌, ◌*ℤ◌, Bool, true, false, List, [], ◌∷◌, All}
 use Rattle.domains.specs.Arithmetic.{wrapped, clamped, floor_div}
 use Rattle.domains.specs.Index.{index_at}
 use Rattle.operators.specs.Values.{literal_value}
-use Rattle.job.specs.Formula.{Formula}
+use Rattle.operators.specs.declared.operator.BinaryOp.{BinaryOp}
+use Rattle.operators.specs.declared.operator.BinaryOp.TheVariants.{Add, Sub, Mul, Min, Max}
+use Rattle.job.specs.Formula.{Formula, binary}
 use Rattle.job.specs.Reads.{Read, point}
 use Rattle.job.specs.Values.{Valuation, formula_value}
 use Rattle.row_loops.specs.Rows.{at}
@@ -27,6 +29,18 @@ abbrev pub IsMadeOf : Formula → Formula → LinearMake → Type 0
 IsMadeOf f sum m = (env : Valuation) (r c : ℤ) → made m (formula_value env sum r c) ≡ formula_value env f r c
 
 -- ---- sums
+
+-- what an operator of sums joins: its value is wrapped at 32 bits
+abbrev pub is_linear_operator : BinaryOp → Bool
+is_linear_operator Add = true
+is_linear_operator Sub = true
+is_linear_operator Mul = true
+is_linear_operator Min = false
+is_linear_operator Max = false
+
+abbrev pub is_joined : Formula → Bool
+is_joined (binary op a b) = is_linear_operator op
+is_joined f = false
 
 -- a factor times the number at a place of a line
 abbrev pub line_at : LinearLine → ℕ → ℤ

@@ -1,4 +1,4 @@
-use Rattle.std.proofs.Common.{arith, ◌+ℤ◌, pos, map, sym, ◌∙◌, subst}
+use Rattle.std.proofs.Common.{arith, ◌+ℤ◌, pos, map, sym, ap, ◌∙◌, subst}
 use Rattle.std.specs.Option.{option_map}
 use Rattle.job.specs.Pipeline.{function}
 use Rattle.job.specs.Views.{case_view, formula_view}
@@ -6,6 +6,7 @@ use Rattle.linear_rows.specs.RowFormulas.{linear_formula}
 use Rattle.narrow_eval.specs.NarrowPrograms.{program_case, program_formula}
 use Rattle.column_phases.proofs.Merely.{narrow_computable_same, value_same}
 use Rattle.value_ranges.specs.Narrow.{Fits16}
+use Rattle.row_rings.specs.NarrowRings.{is_linear_shape}
 use Rattle.row_rings.specs.RingShapes.{IsShapeOf}
 use Rattle.row_rings.specs.declared.ring_shapes.RingShape.{RingShape}
 use Rattle.row_rings.proofs.Shapes.{formula_read, formula_everywhere, phases_same}
@@ -52,14 +53,11 @@ pub write_narrow_pieces-requires-clause-pieces : goal.write_narrow_pieces-requir
 write_narrow_pieces-requires-clause-pieces g c =
     let f = c.args.function.now in
     (subst (λ (shape : RingShape). IsShapeOf shape (function (map case_view f.cases.items) (option_map formula_view f.otherwise)))
-    c.in-Pieces.is c.requires.shape).0
+    c.in-Pieces.is c.requires.shape)
 
 pub write_narrow_pieces-requires-clause-narrow : goal.write_narrow_pieces-requires-clause-narrow
 write_narrow_pieces-requires-clause-narrow g c =
-    let f = c.args.function.now in
-    let is = subst (λ (shape : RingShape). IsShapeOf shape (function (map case_view f.cases.items) (option_map formula_view f.otherwise)))
-    c.in-Pieces.is c.requires.shape in
-    (c.requires.function is.1).narrow
+    (c.requires.function (ap is_linear_shape c.in-Pieces.is)).narrow
 
 -- ---- phases
 
@@ -70,7 +68,7 @@ write_narrow_column_phases-requires-clause-function g c =
     c.in-Phases.is c.requires.shape in
     narrow_computable_same (map program_case c.in-Phases.program.cases.items) (map case_view f.cases.items)
     (option_map program_formula c.in-Phases.program.otherwise) (option_map formula_view f.otherwise) is.1 _ _ _ _ _ _
-    (c.requires.function is.2)
+    (c.requires.function (ap is_linear_shape c.in-Phases.is))
 
 pub write_narrow_column_phases-requires-clause-phases : goal.write_narrow_column_phases-requires-clause-phases
 write_narrow_column_phases-requires-clause-phases g c =
@@ -99,7 +97,7 @@ evaluate_narrow_function-requires-clause-function g c =
     c.in-Division.is c.requires.shape in
     narrow_computable_same (map program_case c.in-Division.program.cases.items) (map case_view f.cases.items)
     (option_map program_formula c.in-Division.program.otherwise) (option_map formula_view f.otherwise) is.2 _ _ _ _ _ _
-    (c.requires.function is.3)
+    (c.requires.function (ap is_linear_shape c.in-Division.is))
 
 pub returns-in-Division : goal.returns-in-Division
 returns-in-Division g c = λ k h.
@@ -117,8 +115,8 @@ evaluate_narrow_function-requires-in-Formulas-clause-function g c =
     let is = subst (λ (shape : RingShape). IsShapeOf shape (function (map case_view f.cases.items) (option_map formula_view f.otherwise)))
     c.in-Formulas.is c.requires.shape in
     narrow_computable_same (map program_case c.in-Formulas.program.cases.items) (map case_view f.cases.items)
-    (option_map program_formula c.in-Formulas.program.otherwise) (option_map formula_view f.otherwise) is.0 _ _ _ _ _ _
-    (c.requires.function is.1)
+    (option_map program_formula c.in-Formulas.program.otherwise) (option_map formula_view f.otherwise) is _ _ _ _ _ _
+    (c.requires.function (ap is_linear_shape c.in-Formulas.is))
 
 pub returns-in-Formulas : goal.returns-in-Formulas
 returns-in-Formulas g c = λ k h.
@@ -127,7 +125,7 @@ returns-in-Formulas g c = λ k h.
     c.in-Formulas.is c.requires.shape in
     c.evaluate_narrow_function-in-Formulas.ensures k h
     ∙ value_same (map program_case c.in-Formulas.program.cases.items) (map case_view f.cases.items)
-    (option_map program_formula c.in-Formulas.program.otherwise) (option_map formula_view f.otherwise) is.0 (g.S.NarrowSource.samples c.args.source.now) c.args.points.now.row
+    (option_map program_formula c.in-Formulas.program.otherwise) (option_map formula_view f.otherwise) is (g.S.NarrowSource.samples c.args.source.now) c.args.points.now.row
     (c.args.points.now.col +ℤ pos k)
 
 pub returns-in-Other : goal.returns-in-Other

@@ -32,7 +32,7 @@ write_function_row_to_narrow_ring-requires-clause-function c =
     let f = c.in-Function.function in
     narrow_computable (pipeline_in c.args.job.now) c.args.job.now.well c.args.known.now.rings.items c.args.stage c.args.state.now
     c.requires.can (stage_view c.in-Some.found.now) (sym c.in-Some.ensures) (map case_view f.cases.items)
-    (option_map formula_view f.otherwise) (ap body_view (sym c.body.ensures ∙ c.in-Function.is)) c.requires.narrow plain _ c.requires.room _
+    (option_map formula_view f.otherwise) (ap body_view (sym c.body.ensures ∙ c.in-Function.is)) c.args.shape.now c.requires.narrow plain _ c.requires.room _
     c.requires.count
 
 pub write_function_row_to_narrow_ring-requires-clause-shape : goal.write_function_row_to_narrow_ring-requires-clause-shape

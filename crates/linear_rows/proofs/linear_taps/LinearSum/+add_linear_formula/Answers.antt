@@ -9,10 +9,8 @@ use Rattle.operators.specs.declared.operator.UnaryOp.{UnaryOp}
 use Rattle.operators.specs.declared.operator.UnaryOp.TheVariants.{Neg}
 use Rattle.operators.specs.declared.operator.BinaryOp.{BinaryOp}
 use Rattle.operators.specs.declared.operator.BinaryOp.TheVariants.{Add, Sub, Mul}
-use Rattle.domains.specs.Index.{index_at}
-use Rattle.linear_rows.specs.declared.linear_taps.LinearTap.{LinearTap}
 use Rattle.linear_rows.specs.inside.LinearSums.{taps_value, sum_value}
-use Rattle.linear_rows.proofs.LinearValues.{negated_factor, number_more, read_more, negation_more, sum_more, difference_more, left_product_more, right_product_more}
+use Rattle.linear_rows.proofs.LinearValues.{negated_factor, number_more, negation_more, sum_more, difference_more, left_product_more, right_product_more}
 use Rattle.linear_rows.proofs.linear_taps.LinearSum.+add_linear_formula.Goals as goal
 
 pub add_linear_formula-returns-in-Number-clause-values :
@@ -33,17 +31,6 @@ add_linear_formula-returns-in-Number-clause-values t c = λ env r k.
     ∙ ap (λ (z : ℤ). wrapped (own.number +ℤ z)) (mul_is ∙ ap (λ (z : ℤ). wrapped (z *ℤ c.in-Number.number)) from_is))
     ∙ ap (λ (f : Formula). wrapped (sum_value env own r k +ℤ c.args.factor *ℤ formula_value env (formula_view f) r k)) (sym c.in-Number.is)
 
-pub add_linear_formula-returns-in_ok-push-in-Read-clause-values :
-    goal.add_linear_formula-returns-in_ok-push-in-Read-clause-values
-add_linear_formula-returns-in_ok-push-in-Read-clause-values t c = λ env r k.
-    let own = c.args.self.now in
-    let f = c.args.factor in
-    let factor : FitsSigned w16 c.args.factor = search rules in
-    let v : ℤ = env c.in-Read.stage (index_at c.in-Read.row r) (index_at c.in-Read.col k) in
-    ap (λ (ts : List LinearTap). wrapped (own.number +ℤ taps_value env ts r k)) c.in_ok-push-in-Read.ensures.items
-    ∙ read_more env r k own.number f v own.taps.items _ (ap (λ (z : ℤ). z *ℤ v) (to_z-of_z w16 f factor))
-    ∙ ap (λ (x : Formula). wrapped (sum_value env own r k +ℤ f *ℤ formula_value env (formula_view x) r k)) (sym c.in-Read.is)
-
 pub add_linear_formula-returns-in_ok-add_linear_formula-in-Unary-Neg-default-clause-values :
     goal.add_linear_formula-returns-in_ok-add_linear_formula-in-Unary-Neg-default-clause-values
 add_linear_formula-returns-in_ok-add_linear_formula-in-Unary-Neg-default-clause-values t c = λ env r k.
@@ -55,7 +42,7 @@ add_linear_formula-returns-in_ok-add_linear_formula-in-Unary-Neg-default-clause-
     let told : c.args.formula.now ≡ Unary Neg c.in-Unary-Neg-default.of =
     c.in-Unary-Neg-default.is ∙ ap (λ (o : UnaryOp). Unary o c.in-Unary-Neg-default.of) kind in
     c.in_ok-add_linear_formula-in-Unary-Neg-default.ensures.values env r k
-    ∙ (λ i. wrapped (s +ℤ negated_factor f factor c.requires.least i *ℤ worth (c.deref.ensures i)))
+    ∙ (λ i. wrapped (s +ℤ negated_factor f factor c.requires i *ℤ worth (c.deref.ensures i)))
     ∙ negation_more s f (worth c.in-Unary-Neg-default.of.value)
     ∙ ap (λ (x : Formula). wrapped (s +ℤ f *ℤ worth x)) (sym told)
 
@@ -92,7 +79,7 @@ add_linear_formula-returns-in_ok-add_linear_formula-in-Binary-Sub-default-defaul
     (c.in_ok-add_linear_formula-in-Binary-Sub-default-default.ensures.values env r k
     ∙ (λ i. wrapped (s +ℤ to_z-of_z w16 f factor i *ℤ worth (c.deref-in-Binary-Sub-default-default.ensures i))))
     (c.in_ok-add_linear_formula-in-Binary-Sub-default-default-2.ensures.values env r k
-    ∙ (λ i. wrapped (sum_value env c.add_linear_formula-in-Binary-Sub-default-default.new.self r k +ℤ negated_factor f factor c.requires.least i *ℤ worth (c.deref-in-Binary-Sub-default-default-2.ensures i))))
+    ∙ (λ i. wrapped (sum_value env c.add_linear_formula-in-Binary-Sub-default-default.new.self r k +ℤ negated_factor f factor c.requires i *ℤ worth (c.deref-in-Binary-Sub-default-default-2.ensures i))))
     ∙ ap (λ (x : Formula). wrapped (s +ℤ f *ℤ worth x)) (sym told)
 
 pub add_linear_formula-returns-in_ok-add_linear_product-in-Some-default-clause-values :

@@ -85,9 +85,10 @@ make_next_row_of_narrow_ring-requires-clause-narrow c =
     let job = pipeline_in self.job.now in
     let g = c.args.stage in
     let can = c.requires.can in
+    let found = ap (λ (xs : List RingShape). slice_get xs g) (sym c.deref.ensures.value) ∙ c.borrow_ring_shape-shape.ensures in
     λ s at is plain r col inside.
     least_body (value job) s.body r col
-    (∥∥₁_map self.made (λ all. all g (state_within job (states_in self) g can) c.requires.form s at is plain r col inside))
+    (∥∥₁_map self.made (λ all. all g (state_within job (states_in self) g can) c.requires.form _ found s at is plain r col inside))
 
 pub borrow_ring_shape-shape-requires : goal.borrow_ring_shape-shape-requires
 borrow_ring_shape-shape-requires c =
