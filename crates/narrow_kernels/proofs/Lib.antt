@@ -1,10 +1,7 @@
 pub mod NarrowReciprocals
-pub mod NarrowQuotients
 pub mod NarrowWraps
 pub mod NarrowSums
-pub mod NarrowColumns
 pub mod NarrowMasks
 pub mod NarrowAffine
-pub mod NarrowClamps
 pub mod NarrowCenters
 pub mod NarrowMeans

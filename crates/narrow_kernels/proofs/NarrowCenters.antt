@@ -1,7 +1,7 @@
 -- Sums of clamped differences from a center, as they are computed.
-use Rattle.std.proofs.Common.{arith, ℕ, suc, ◌+◌, ◌*◌, ℤ, pos, neg_ℤ, ◌≡◌, negsuc, ◌≤◌, ◌<◌, ◌-◌, ◌≤ℤ◌, ◌+ℤ◌, ◌-ℤ◌, ◌*ℤ◌, List, [], ◌∷◌, ◌++◌, get_or, length, take, drop, w16, FitsSigned, ap, sym, refl, ◌∙◌}
+use Rattle.std.proofs.Common.{arith, ℕ, suc, ◌+◌, ◌*◌, ℤ, pos, neg_ℤ, ◌≡◌, negsuc, ◌≤◌, ◌<◌, ◌≤ℤ◌, ◌+ℤ◌, ◌-ℤ◌, ◌*ℤ◌, List, [], ◌∷◌, ◌++◌, get_or, length, take, w16, FitsSigned, ap, sym, refl, ◌∙◌}
 use Rattle.std.specs.Prelude.{slice_index_or}
-use Rattle.std.proofs.Math.IntN.{+ℤ_assoc, +ℤ_idr, *ℤ_comm, *ℤ-negsuc, zero-*ℤ}
+use Rattle.std.proofs.Math.IntN.{+ℤ_assoc, *ℤ_comm, *ℤ-negsuc, zero-*ℤ}
 use borrow.Author.Differences.{sum_is_lem}
 use Rattle.std.specs.Int.{int_wrap}
 use Rattle.std.proofs.lemmas.Int.{ints, clamps, int_wrap-add_left, int_wrap-mul_left}
@@ -10,9 +10,9 @@ use Rattle.row_loops.specs.Rows.{at}
 use Rattle.narrow_kernels.specs.declared.narrow_taps.NarrowTap.{NarrowTap}
 use Rattle.narrow_kernels.specs.declared.narrow_centers.NarrowCenter.{NarrowCenter}
 use Rattle.narrow_kernels.specs.NarrowCenters.{centered_tap_at, centered_tap_sum}
-use Rattle.std.proofs.lemmas.List.{take_more}
+use Rattle.std.proofs.lemmas.List.{take_more, get_or_default}
 use Rattle.narrow_kernels.proofs.NarrowWraps.{wrapped_left}
-use Rattle.narrow_kernels.proofs.NarrowSums.{sum_of_one, sum_of_two, sum_of_three, sum_of_four, sum_with_four}
+use Rattle.narrow_kernels.proofs.NarrowSums.{sum_of_four, same_sum}
 use Rattle.narrow_kernels.specs.NarrowNearTaps.{near_tap_at, near_tap_sum, near_line_at, factor_sum}
 
 -- ---- numbers between bounds that are saturated at 16 bits
@@ -72,7 +72,7 @@ same_own own f c rest e =
     ∙ int_wrap-add_left w16 (neg_ℤ f *ℤ c) rest
 
 -- with the center times their factors, taken away
-pub centered_taps_are : (center : NarrowCenter) (taps : List NarrowTap) (k : ℕ) (own s : ℤ) → own ≡ int_wrap w16 (neg_ℤ (factor_sum taps))
+centered_taps_are : (center : NarrowCenter) (taps : List NarrowTap) (k : ℕ) (own s : ℤ) → own ≡ int_wrap w16 (neg_ℤ (factor_sum taps))
     → int_wrap w16 (s +ℤ (own *ℤ at center.line.now k +ℤ near_tap_sum center taps k)) ≡ int_wrap w16 (s +ℤ centered_tap_sum center taps k)
 centered_taps_are center taps k own s e =
     ap (int_wrap w16) (moved s (own *ℤ at center.line.now k) (near_tap_sum center taps k))
@@ -83,48 +83,12 @@ centered_taps_are center taps k own s e =
     moved : (s a b : ℤ) → s +ℤ (a +ℤ b) ≡ a +ℤ (s +ℤ b)
     moved s a b = omega (arith, ints)
 
--- ---- sums of few taps
-
-pub near_taps_of_none : (center : NarrowCenter) (taps : List NarrowTap) (k : ℕ) (x : ℤ) → length taps < 1 → x ≡ x +ℤ near_tap_sum center taps k
-near_taps_of_none center [] k x h = sym (+ℤ_idr x)
-near_taps_of_none center (tap ∷ taps) k x h = absurd (omega arith)
-
-pub near_taps_of_one : (center : NarrowCenter) (taps : List NarrowTap) (k : ℕ) (d : NarrowTap) → 1 ≤ length taps → length taps < 2
-    → near_tap_sum center taps k ≡ near_tap_at center (slice_index_or taps 0 d) k
-near_taps_of_one center taps k d =
-    sum_of_one (λ (tap : NarrowTap). near_tap_at center tap k) (λ taps. near_tap_sum center taps k) refl (λ x xs. refl) taps d
-
-pub near_taps_of_two : (center : NarrowCenter) (taps : List NarrowTap) (k : ℕ) (d : NarrowTap) → 2 ≤ length taps → length taps < 3
-    → near_tap_sum center taps k ≡ near_tap_at center (slice_index_or taps 0 d) k +ℤ near_tap_at center (slice_index_or taps 1 d) k
-near_taps_of_two center taps k d =
-    sum_of_two (λ (tap : NarrowTap). near_tap_at center tap k) (λ taps. near_tap_sum center taps k) refl (λ x xs. refl) taps d
-
-pub near_taps_of_three : (center : NarrowCenter) (taps : List NarrowTap) (k : ℕ) (d : NarrowTap) → 3 ≤ length taps → length taps < 4
-    → near_tap_sum center taps k ≡ near_tap_at center (slice_index_or taps 0 d) k
-    +ℤ (near_tap_at center (slice_index_or taps 1 d) k +ℤ near_tap_at center (slice_index_or taps 2 d) k)
-near_taps_of_three center taps k d =
-    sum_of_three (λ (tap : NarrowTap). near_tap_at center tap k) (λ taps. near_tap_sum center taps k) refl (λ x xs. refl) taps d
-
-pub near_taps_of_four : (center : NarrowCenter) (taps : List NarrowTap) (k : ℕ) (d : NarrowTap) → 4 ≤ length taps → length taps ≤ 4
-    → near_tap_sum center taps k ≡ near_tap_at center (slice_index_or taps 0 d) k
-    +ℤ (near_tap_at center (slice_index_or taps 1 d) k
-    +ℤ (near_tap_at center (slice_index_or taps 2 d) k +ℤ near_tap_at center (slice_index_or taps 3 d) k))
-near_taps_of_four center taps k d some few =
-    sum_of_four (λ (tap : NarrowTap). near_tap_at center tap k) (λ taps. near_tap_sum center taps k) refl (λ x xs. refl) taps d some
-    (omega (arith, few))
-
--- the first four, and the others
-pub near_taps_from_four : (center : NarrowCenter) (taps : List NarrowTap) (k : ℕ) (d : NarrowTap) (own s : ℤ) → 4 ≤ length taps
-    → s +ℤ ((own +ℤ (near_tap_at center (slice_index_or taps 0 d) k
-    +ℤ (near_tap_at center (slice_index_or taps 1 d) k
-    +ℤ (near_tap_at center (slice_index_or taps 2 d) k +ℤ near_tap_at center (slice_index_or taps 3 d) k))))
-    +ℤ near_tap_sum center (take (length taps - 4) (drop 4 taps)) k)
-    ≡ s +ℤ (own +ℤ near_tap_sum center taps k)
-near_taps_from_four center taps k d own s some =
-    ap (λ (z : ℤ). s +ℤ z)
-    (+ℤ_assoc own _ _
-    ∙ ap (λ (z : ℤ). own +ℤ z)
-    (sym (sum_with_four (λ (tap : NarrowTap). near_tap_at center tap k) (λ taps. near_tap_sum center taps k) refl (λ x xs. refl) taps d some)))
+-- and what a row has before
+pub centered_row_is : (center : NarrowCenter) (taps : List NarrowTap) (k : ℕ) (own s x : ℤ) → x ≡ int_wrap w16 s
+    → own ≡ int_wrap w16 (neg_ℤ (factor_sum taps))
+    → int_wrap w16 ((x +ℤ own *ℤ at center.line.now k) +ℤ near_tap_sum center taps k) ≡ int_wrap w16 (s +ℤ centered_tap_sum center taps k)
+centered_row_is center taps k own s x h e =
+    ap (int_wrap w16) (+ℤ_assoc x _ _) ∙ wrapped_left x s _ h ∙ centered_taps_are center taps k own s e
 
 -- ---- taps of one factor
 
@@ -159,7 +123,14 @@ quad_of_taps center taps k d some few one two three =
     let line : ℕ → ℤ = λ n. near_line_at center (slice_index_or taps n d).line.now k in
     four_times (slice_index_or taps 0 d).factor (line 0) (line 1) (line 2) (line 3)
     ∙ (λ i. (slice_index_or taps 0 d).factor *ℤ line 0 +ℤ (one i *ℤ line 1 +ℤ (two i *ℤ line 2 +ℤ three i *ℤ line 3)))
-    ∙ sym (sum_of_four (λ (tap : NarrowTap). near_tap_at center tap k) (λ taps. near_tap_sum center taps k) refl (λ x xs. refl) taps d some few)
+    ∙ sym (sum_of_four near taps _ _ _ _ some few (there 0 (omega arith)) (there 1 (omega arith)) (there 2 (omega arith)) (there 3 (omega arith)))
+    ∙ same_sum near (λ taps. near_tap_sum center taps k) refl (λ x xs. refl) taps
+  where
+    near : NarrowTap → ℤ
+    near tap = near_tap_at center tap k
+
+    there : (n : ℕ) → n < length taps → slice_index_or taps n d ≡ get_or taps n (slice_index_or taps n d)
+    there n l = get_or_default taps n d (slice_index_or taps n d) l
 
 -- ---- the factors, one after another
 

@@ -1,5 +1,5 @@
 use Rattle.std.proofs.Common.{arith, ℕ, ◌≡◌, ◌+◌, ◌-◌, ◌*◌, ◌/◌, ◌%◌, ◌^◌, add-one, ◌<◌, ◌≤◌, suc, ap, sym, ◌∙◌, le_trans, le_of_eq}
-use Rattle.narrow_kernels.specs.NarrowReciprocals.{IsNarrowReciprocal}
+use Rattle.narrow_kernels.specs.NarrowReciprocals.{IsNarrowReciprocal, IsNarrowShift}
 use Rattle.std.proofs.Math.Nat.{mul_assoc, mul_comm, mul_right_comm, mul-add, suc-mul, mul-le-mul_right, mul-le-mul_left}
 use Rattle.std.proofs.Math.Nat.{mul-lt-mul_of_pos_right, le-div_iff_mul-le, div-lt_iff_lt-mul, le_antisymm}
 use Rattle.std.proofs.Math.Nat.{lt_of_mul-lt-mul_right, div-add-mod', div-mul-le_self, mod-lt, pow-le-pow_right, mod-eq_of_lt, div-div-eq-div-mul}
@@ -47,15 +47,15 @@ module _ (d k f : ℕ) (above : k < d) (below : d ≤ 2 * k) (few : k < 32768) (
       by_product n d f (d - 65536 * k % d) (65536 * k) positive (omega arith) over (omega arith)
 
 -- a power of two below 2 ^ 15
-lt_of_pow : (b : ℕ) → 2 ^ b < 32768 → b < 15
+pub lt_of_pow : (b : ℕ) → 2 ^ b < 65536 → b < 16
 lt_of_pow b h =
-    let more : 15 ≤ b → 32768 ≤ 2 ^ b = λ l. pow-le-pow_right {n = 2} (omega arith) {i = 15} {j = b} l in
+    let more : 16 ≤ b → 65536 ≤ 2 ^ b = λ l. pow-le-pow_right {n = 2} (omega arith) {i = 16} {j = b} l in
     grind (arith, more)
 
 -- as it is computed, from the bits of the number below the divisor
 module _ (d b : ℕ) (some : 2 ≤ d) (most : d ≤ 32768) (low : 2 ^ b ≤ d - 1) (high : d - 1 < 2 * 2 ^ b) where
   pub shift_fits : b < 16
-  shift_fits = omega (arith, lt_of_pow b (omega arith))
+  shift_fits = lt_of_pow b (omega arith)
 
   short : 65536 * 2 ^ b < 4294967296
   short = omega arith
@@ -67,3 +67,9 @@ module _ (d b : ℕ) (some : 2 ≤ d) (most : d ≤ 32768) (low : 2 ^ b ≤ d - 
   computed_divides n h =
       div-div-eq-div-mul (n * (65536 * 2 ^ b % 4294967296 / d + 1)) 65536 (2 ^ b)
       ∙ factor_divides d (2 ^ b) _ (omega arith) (omega arith) (omega arith) factor_is n h
+
+-- ---- a shift
+
+-- a quotient by a power of two
+pub power_shifts : (d b : ℕ) → d ≡ 2 ^ b → IsNarrowShift d b
+power_shifts d b e n h = ap (λ (m : ℕ). n / m) (sym e)

@@ -1,5 +1,6 @@
 pub mod NarrowOperands
 pub mod NarrowTaps
+pub mod NarrowTerms
 pub mod NarrowDifferences
 pub mod NarrowSources
 pub mod NarrowReciprocals

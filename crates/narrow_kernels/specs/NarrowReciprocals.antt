@@ -5,6 +5,10 @@ use Rattle.std.specs.Prelude.{ℕ, ◌*◌, ◌/◌, ◌^◌, ◌<◌, ◌≡◌
 abbrev pub IsNarrowReciprocal : (divisor factor shift : ℕ) → Type 0
 IsNarrowReciprocal divisor factor shift = (n : ℕ) → n < 2 ^ 15 → n * factor / 65536 / 2 ^ shift ≡ n / divisor
 
+-- for each n below 2 ^ 15 the quotient by a power of two is that by the divisor
+abbrev pub IsNarrowShift : (divisor bits : ℕ) → Type 0
+IsNarrowShift divisor bits = (n : ℕ) → n < 2 ^ 15 → n / 2 ^ bits ≡ n / divisor
+
 -- how far a number lies from 0, and one below 0 from -1
 abbrev pub narrow_complement : ℤ → ℕ
 narrow_complement (pos n) = n

@@ -1,11 +1,11 @@
-//! Loops over rows of numbers of 16 bits: each place becomes what an operator makes of the numbers there, where that fits.
+//! Rows of numbers of 16 bits: each place becomes what a tree of operators makes of the numbers there, where that fits.
 //!
-//! Words: narrow row, narrow row in place, narrow number, narrow sample, narrow pair, narrow reciprocal, narrow complement, narrow
-//! operand, narrow unary, narrow binary, narrow ternary, narrow literal op, narrow quotient, narrow tap, narrow line, narrow term,
-//! narrow triple, narrow least, narrow greatest, narrow median, narrow difference, narrow clamped difference, narrow absolute, narrow
-//! selection, narrow index column, narrow place, narrow column, narrow affine, narrow extreme, narrow offset, prepend narrow addition,
-//! prepend narrow multiplication, prepend narrow right shift, narrow means, narrow column sums,
-//! narrow block, narrow ninth, narrow ninths, narrow rests, narrow mean.
+//! Words: narrow row, narrow number, narrow sample, narrow tree, narrow pair, narrow reciprocal, narrow complement,
+//! narrow operand, narrow unary, narrow binary, narrow ternary, narrow literal op, narrow quotient, narrow right shift,
+//! narrow tap, narrow line, narrow term, narrow least, narrow greatest, narrow median, narrow difference,
+//! narrow clamped difference, narrow absolute, narrow selection, narrow index column, narrow place, narrow column, narrow affine,
+//! narrow extreme, narrow offset, prepend narrow addition, prepend narrow multiplication, prepend narrow right shift, narrow means,
+//! narrow column sums, narrow block, narrow ninth, narrow ninths, narrow rests, narrow mean.
 #![tactic(auto)]
 
 mod narrow_affine;
@@ -17,19 +17,18 @@ mod narrow_conversions;
 mod narrow_differences;
 mod narrow_divided_sums;
 mod narrow_gathering;
-mod narrow_loops;
 mod narrow_maps;
 mod narrow_masks;
 mod narrow_means;
 mod narrow_operand;
 mod narrow_operators;
 mod narrow_pairs;
-mod narrow_parts;
-mod narrow_reciprocal;
+mod narrow_quotients;
 mod narrow_selection;
 mod narrow_sums;
 mod narrow_taps;
 mod narrow_terms;
+mod narrow_trees;
 mod narrow_triples;
 
 pub use narrow_affine_extremes::{
@@ -46,7 +45,6 @@ pub use narrow_differences::{
 };
 pub use narrow_divided_sums::{add_and_divide_narrow_tap_sums, write_divided_narrow_tap_sums};
 pub use narrow_gathering::gather_narrow_index_columns;
-pub use narrow_loops::fill_narrow_row;
 pub use narrow_masks::copy_narrow_row_where_mask_holds;
 pub use narrow_means::write_narrow_means_of_nine;
 pub use narrow_operand::NarrowOperand;
@@ -59,6 +57,7 @@ pub use narrow_sums::write_narrow_literal_op_results_of_sums;
 pub use narrow_taps::{
     NarrowTap, add_narrow_tap_sums, wrap_factor_to_narrow_number, write_narrow_tap_sums,
 };
+pub use narrow_trees::fill_narrow_row;
 pub use narrow_triples::{
     write_narrow_greatest_of_three_lines, write_narrow_least_of_three_lines,
     write_narrow_medians_of_three_lines,

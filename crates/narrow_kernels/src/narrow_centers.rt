@@ -9,11 +9,14 @@ ghost use Rattle.narrow_kernels.specs.NarrowCenters.{centered_tap_sum, IsCenter}
 ghost use Rattle.narrow_kernels.specs.NarrowNearTaps.{near_tap_at, near_tap_sum, factor_sum, near_quad_at, HasNearQuad};
 ghost use Rattle.row_loops.specs.Rows.{EachPlace, at};
 
-use crate::narrow_taps::NarrowTap;
+use crate::narrow_maps::SameNarrowNumber;
+use crate::narrow_taps::{NarrowProducts, NarrowTap};
 use crate::narrow_terms::{
-    NarrowTerm, NarrowTermPair, add_narrow_term, add_wrapping_narrow_numbers,
-    multiply_wrapping_narrow_numbers, subtract_wrapping_narrow_numbers,
+    NarrowItem, NarrowTerm, NarrowTermForm, NarrowTermPair, add_wrapping_narrow_numbers,
+    map_narrow_term, map_narrow_terms, multiply_wrapping_narrow_numbers,
+    subtract_wrapping_narrow_numbers,
 };
+use crate::narrow_trees::NarrowWritten;
 
 /// A line, and the bounds of how far numbers of other lines count as lying from its own.
 #[derive(Clone, Copy, Debug)]
@@ -51,20 +54,17 @@ fn find_nearest_narrow_number(number: i16, center: i16, low: i16, high: i16) -> 
         .min(add_saturating_narrow_numbers(center, high))
 }
 
-/// A tap whose line counts as lying no further from a center than its bounds.
-#[derive(Clone, Copy)]
-struct NarrowNearTap<'a>(NarrowCenter<'a>, NarrowTap<'a>);
+// A tap's line counts as lying no further from the center than its bounds.
+impl<'a, 'b> NarrowTermForm<NarrowTap<'b>> for NarrowCenter<'a> {
+    ghost has = { λ c tap k. (k < length c.line.now) × (k < length tap.line.now) × (c.low ≤ℤ pos 0) × (pos 0 ≤ℤ c.high) };
 
-impl<'a> NarrowTerm for NarrowNearTap<'a> {
-    ghost has = { λ t k. (k < length t.0.line.now) × (k < length t.1.line.now) × (t.0.low ≤ℤ pos 0) × (pos 0 ≤ℤ t.0.high) };
-
-    ghost exact = { λ t k. near_tap_at t.0 t.1 k };
+    ghost exact = { λ c tap k. near_tap_at c tap k };
 
     #[inline]
-    fn compute_narrow_term_at_place(&self, k: usize) -> i16 {
-        let NarrowCenter { line, low, high } = self.0;
-        let near = find_nearest_narrow_number(self.1.line[k], line[k], low, high);
-        multiply_wrapping_narrow_numbers(self.1.factor, near)
+    fn compute_narrow_term_of_item(&self, tap: &NarrowTap<'b>, k: usize) -> i16 {
+        let NarrowCenter { line, low, high } = *self;
+        let near = find_nearest_narrow_number(tap.line[k], line[k], low, high);
+        multiply_wrapping_narrow_numbers(tap.factor, near)
     }
 }
 
@@ -82,10 +82,10 @@ pub(crate) struct NarrowNearQuad<'a> {
 impl<'a> NarrowTerm for NarrowNearQuad<'a> {
     ghost has = { λ q k. HasNearQuad q k };
 
-    ghost exact = { λ q k. near_quad_at q k };
+    ghost exact = { λ q _ k. near_quad_at q k };
 
     #[inline]
-    fn compute_narrow_term_at_place(&self, k: usize) -> i16 {
+    fn compute_narrow_term_at_place(&self, _own: i16, k: usize) -> i16 {
         let NarrowCenter { line, low, high } = self.center;
         let own = line[k];
         let front = add_wrapping_narrow_numbers(
@@ -156,64 +156,6 @@ fn negate_sum_of_narrow_tap_factors(taps: &[NarrowTap<'_>]) -> i16
     sum
 }
 
-// Adds a term and up to four taps that are near a center.
-fn add_near_narrow_taps_to_term<T: NarrowTerm>(
-    out: &mut [i16],
-    term: T,
-    center: NarrowCenter<'_>,
-    taps: &[NarrowTap<'_>],
-)
-    requires term { EachPlace (length out.old) (T.has term) }
-    requires count { length taps.now ≤ 4 }
-    requires center { IsCenter (length out.old) center }
-    requires taps { HaveTapLines (length out.old) taps.now }
-    ensures { EachPlace (length out.old) (λ k. (s : ℤ) → at out.old k ≡ int_wrap w16 s
-        → at out.new k ≡ int_wrap w16 (s +ℤ (T.exact term k +ℤ near_tap_sum center.entry taps.now k))) }
-{
-    match taps {
-        [] => add_narrow_term(out, term),
-        [a] => add_narrow_term(out, NarrowTermPair(term, NarrowNearTap(center, *a))),
-        [a, b] => {
-            let back = NarrowTermPair(NarrowNearTap(center, *a), NarrowNearTap(center, *b));
-            add_narrow_term(out, NarrowTermPair(term, back));
-        }
-        [a, b, c] => {
-            let back = NarrowTermPair(NarrowNearTap(center, *b), NarrowNearTap(center, *c));
-            let all = NarrowTermPair(NarrowNearTap(center, *a), back);
-            add_narrow_term(out, NarrowTermPair(term, all));
-        }
-        [a, b, c, d, ..] => {
-            let back = NarrowTermPair(NarrowNearTap(center, *c), NarrowNearTap(center, *d));
-            let rest = NarrowTermPair(NarrowNearTap(center, *b), back);
-            let all = NarrowTermPair(NarrowNearTap(center, *a), rest);
-            add_narrow_term(out, NarrowTermPair(term, all));
-        }
-    }
-}
-
-// Adds the sums of the clamped differences of up to eight taps from a center. Each number is multiplied on its own.
-fn add_each_centered_narrow_tap(out: &mut [i16], center: NarrowCenter<'_>, taps: &[NarrowTap<'_>])
-    requires count { length taps.now ≤ 8 }
-    requires center { IsCenter (length out.old) center }
-    requires taps { HaveTapLines (length out.old) taps.now }
-    ensures { EachPlace (length out.old) (λ k. (s : ℤ) → at out.old k ≡ int_wrap w16 s
-        → at out.new k ≡ int_wrap w16 (s +ℤ centered_tap_sum center.entry taps.now k)) }
-{
-    let own = NarrowTap {
-        line: center.line,
-        factor: negate_sum_of_narrow_tap_factors(taps),
-    };
-    match taps {
-        [a, b, c, d, more @ ..] => {
-            let back = NarrowTermPair(NarrowNearTap(center, *c), NarrowNearTap(center, *d));
-            let rest = NarrowTermPair(NarrowNearTap(center, *b), back);
-            let all = NarrowTermPair(NarrowNearTap(center, *a), rest);
-            add_near_narrow_taps_to_term(out, NarrowTermPair(own, all), center, more);
-        }
-        _ => add_near_narrow_taps_to_term(out, own, center, taps),
-    }
-}
-
 /// Adds the sums of the clamped differences of up to eight taps from a center, wrapped at 16 bits. If there are eight, and the first
 /// four have one factor and the last four too, each four are added before they are multiplied.
 pub fn add_centered_narrow_tap_sums(
@@ -227,12 +169,16 @@ pub fn add_centered_narrow_tap_sums(
     ensures { EachPlace (length out.old) (λ k. (s : ℤ) → at out.old k ≡ int_wrap w16 s
         → at out.new k ≡ int_wrap w16 (s +ℤ centered_tap_sum center.entry taps.now k)) }
 {
-    let Some((front, back)) = match_eight_near_narrow_taps(center, taps) else {
-        return add_each_centered_narrow_tap(out, center, taps);
-    };
     let own = NarrowTap {
         line: center.line,
         factor: negate_sum_of_narrow_tap_factors(taps),
     };
-    add_narrow_term(out, NarrowTermPair(own, NarrowTermPair(front, back)));
+    let start = NarrowTermPair(NarrowWritten, NarrowItem(NarrowProducts, own));
+    match match_eight_near_narrow_taps(center, taps) {
+        Some((front, back)) => {
+            let all = NarrowTermPair(start, NarrowTermPair(front, back));
+            map_narrow_term(out, all, SameNarrowNumber);
+        }
+        None => map_narrow_terms(out, start, center, taps, SameNarrowNumber),
+    }
 }

@@ -89,65 +89,35 @@ impl<'a> NarrowSamples for SpacedPairs<'a> {
     }
 }
 
-// Adjacent bytes. (A constant distance allows vector code.)
+// Bytes at steps of one length. (A length that is known here allows vector code.)
 #[derive(Clone, Copy)]
-struct AdjacentNarrowBytes<'a>(SpacedBytes<'a>);
+struct StepsOfNarrowBytes<'a, const STEP: usize>(SpacedBytes<'a>);
 
-impl<'a> NarrowSamples for AdjacentNarrowBytes<'a> {
-    ghost has = { λ s k. k < s.0.count × s.0.step ≡ 1 };
+impl<'a, const STEP: usize> NarrowSamples for StepsOfNarrowBytes<'a, STEP> {
+    ghost has = { λ s k. k < s.0.count × s.0.step ≡ STEP };
 
     ghost sample = { λ s k. slice_index s.0.bytes.now (k * s.0.step) };
 
     #[inline]
     fn load_narrow_sample(&self, k: usize) -> i16 {
-        i16::from(self.0.bytes[k])
+        i16::from(self.0.bytes[k * STEP])
     }
 }
 
-// Every third byte: one colour of three.
+// Pairs of bytes at steps of one length.
 #[derive(Clone, Copy)]
-struct EveryThirdNarrowByte<'a>(SpacedBytes<'a>);
+struct StepsOfNarrowBytePairs<'a, const STEP: usize>(SpacedPairs<'a>);
 
-impl<'a> NarrowSamples for EveryThirdNarrowByte<'a> {
-    ghost has = { λ s k. k < s.0.count × s.0.step ≡ 3 };
-
-    ghost sample = { λ s k. slice_index s.0.bytes.now (k * s.0.step) };
-
-    #[inline]
-    fn load_narrow_sample(&self, k: usize) -> i16 {
-        i16::from(self.0.bytes[k * 3])
-    }
-}
-
-// Adjacent pairs of bytes.
-#[derive(Clone, Copy)]
-struct AdjacentNarrowBytePairs<'a>(SpacedPairs<'a>);
-
-impl<'a> NarrowSamples for AdjacentNarrowBytePairs<'a> {
-    ghost has = { λ s k. k < s.0.count × s.0.step ≡ 2 };
+impl<'a, const STEP: usize> NarrowSamples for StepsOfNarrowBytePairs<'a, STEP> {
+    ghost has = { λ s k. k < s.0.count × s.0.step ≡ STEP };
 
     ghost sample = { λ s k. 256 * slice_index s.0.bytes.now (k * s.0.step)
         + slice_index s.0.bytes.now (k * s.0.step + 1) };
 
     #[inline]
     fn load_narrow_sample(&self, k: usize) -> i16 {
-        (256 * u16::from(self.0.bytes[k * 2]) + u16::from(self.0.bytes[k * 2 + 1])) as i16
-    }
-}
-
-// Every third pair of bytes: one colour of three.
-#[derive(Clone, Copy)]
-struct EveryThirdNarrowBytePair<'a>(SpacedPairs<'a>);
-
-impl<'a> NarrowSamples for EveryThirdNarrowBytePair<'a> {
-    ghost has = { λ s k. k < s.0.count × s.0.step ≡ 6 };
-
-    ghost sample = { λ s k. 256 * slice_index s.0.bytes.now (k * s.0.step)
-        + slice_index s.0.bytes.now (k * s.0.step + 1) };
-
-    #[inline]
-    fn load_narrow_sample(&self, k: usize) -> i16 {
-        (256 * u16::from(self.0.bytes[k * 6]) + u16::from(self.0.bytes[k * 6 + 1])) as i16
+        let place = k * STEP;
+        (256 * u16::from(self.0.bytes[place]) + u16::from(self.0.bytes[place + 1])) as i16
     }
 }
 
@@ -163,38 +133,6 @@ fn copy_samples_to_narrow_row<V: NarrowSamples>(samples: V, place: usize, out: &
     }
 }
 
-fn convert_bytes_to_narrow_row(spaced: &SpacedBytes<'_>, place: usize, out: &mut [i16])
-    requires there { place + length out.old ≤ spaced.now.count }
-    requires small { EachPlace (length out.old)
-        (λ k. slice_index spaced.now.bytes.now ((place + k) * spaced.now.step) ≤ 32767) }
-    ensures { EachPlace (length out.old) (λ k. at out.new k
-        ≡ pos (slice_index spaced.now.bytes.now ((place + k) * spaced.now.step))) }
-{
-    prove!(spaced.count <= usize::MAX);
-    match spaced.step {
-        1 => copy_samples_to_narrow_row(AdjacentNarrowBytes(*spaced), place, out),
-        3 => copy_samples_to_narrow_row(EveryThirdNarrowByte(*spaced), place, out),
-        _ => copy_samples_to_narrow_row(*spaced, place, out),
-    }
-}
-
-fn convert_byte_pairs_to_narrow_row(spaced: &SpacedPairs<'_>, place: usize, out: &mut [i16])
-    requires there { place + length out.old ≤ spaced.now.count }
-    requires small { EachPlace (length out.old)
-        (λ k. 256 * slice_index spaced.now.bytes.now ((place + k) * spaced.now.step)
-        + slice_index spaced.now.bytes.now ((place + k) * spaced.now.step + 1) ≤ 32767) }
-    ensures { EachPlace (length out.old) (λ k. at out.new k
-        ≡ pos (256 * slice_index spaced.now.bytes.now ((place + k) * spaced.now.step)
-        + slice_index spaced.now.bytes.now ((place + k) * spaced.now.step + 1))) }
-{
-    prove!(spaced.count <= usize::MAX);
-    match spaced.step {
-        2 => copy_samples_to_narrow_row(AdjacentNarrowBytePairs(*spaced), place, out),
-        6 => copy_samples_to_narrow_row(EveryThirdNarrowBytePair(*spaced), place, out),
-        _ => copy_samples_to_narrow_row(*spaced, place, out),
-    }
-}
-
 /// Writes the samples from a place on, which are at most 32,767.
 pub fn convert_samples_to_narrow_row(samples: &PlaneSamples<'_>, place: usize, out: &mut [i16])
     requires there { place + length out.old ≤ count_in samples.now }
@@ -205,7 +143,21 @@ pub fn convert_samples_to_narrow_row(samples: &PlaneSamples<'_>, place: usize, o
 {
     match samples {
         PlaneSamples::Words(words) => copy_samples_to_narrow_row(*words, place, out),
-        PlaneSamples::Bytes(spaced) => convert_bytes_to_narrow_row(spaced, place, out),
-        PlaneSamples::Pairs(spaced) => convert_byte_pairs_to_narrow_row(spaced, place, out),
+        PlaneSamples::Bytes(spaced) => {
+            prove!(spaced.count <= usize::MAX);
+            match spaced.step {
+                1 => copy_samples_to_narrow_row(StepsOfNarrowBytes::<1>(*spaced), place, out),
+                3 => copy_samples_to_narrow_row(StepsOfNarrowBytes::<3>(*spaced), place, out),
+                _ => copy_samples_to_narrow_row(*spaced, place, out),
+            }
+        }
+        PlaneSamples::Pairs(spaced) => {
+            prove!(spaced.count <= usize::MAX);
+            match spaced.step {
+                2 => copy_samples_to_narrow_row(StepsOfNarrowBytePairs::<2>(*spaced), place, out),
+                6 => copy_samples_to_narrow_row(StepsOfNarrowBytePairs::<6>(*spaced), place, out),
+                _ => copy_samples_to_narrow_row(*spaced, place, out),
+            }
+        }
     }
 }

@@ -1,16 +1,17 @@
 #![tactic(auto)]
 //! Sums of clamped differences of lines of numbers of 16 bits, wrapped at 16 bits, several of them in one pass.
 
-ghost use Rattle.std.specs.Prelude.{◌≡◌, ◌<◌, ◌+ℤ◌, ℤ, length};
+ghost use Rattle.std.specs.Prelude.{◌≡◌, ◌<◌, ◌≤◌, ◌+ℤ◌, ℤ, length};
 ghost use Rattle.std.specs.Int.{w16, int_wrap};
 ghost use Rattle.narrow_kernels.specs.NarrowDifferences.{narrow_difference_at, narrow_difference_sum, HaveDifferenceLines};
 ghost use Rattle.row_loops.specs.Rows.{EachPlace, at};
 
-use crate::narrow_loops::fill_narrow_row;
+use crate::narrow_maps::SameNarrowNumber;
 use crate::narrow_terms::{
-    NarrowTerm, NarrowTermPair, add_narrow_term, multiply_wrapping_narrow_numbers,
-    subtract_wrapping_narrow_numbers, write_narrow_term,
+    NarrowNothing, NarrowTerm, NarrowTermForm, map_few_narrow_terms,
+    multiply_wrapping_narrow_numbers, subtract_wrapping_narrow_numbers,
 };
+use crate::narrow_trees::NarrowWritten;
 
 /// The difference of the numbers of two lines, clamped to at least `low` and then to at most `high`, times a factor.
 #[derive(Clone, Copy, Debug)]
@@ -22,16 +23,41 @@ pub struct NarrowClampedDifference<'a> {
     pub high: i16,
 }
 
-impl<'a> NarrowTerm for NarrowClampedDifference<'a> {
-    ghost has = { λ d k. (k < length d.left.now) × (k < length d.right.now) };
+/// The clamped differences, times their factors.
+#[derive(Clone, Copy)]
+struct NarrowClampedProducts;
 
-    ghost exact = { λ d k. narrow_difference_at d k };
+impl<'a> NarrowTermForm<NarrowClampedDifference<'a>> for NarrowClampedProducts {
+    ghost has = { λ _ d k. (k < length d.left.now) × (k < length d.right.now) };
+
+    ghost exact = { λ _ d k. narrow_difference_at d k };
 
     #[inline]
-    fn compute_narrow_term_at_place(&self, k: usize) -> i16 {
-        let gap = subtract_wrapping_narrow_numbers(self.left[k], self.right[k]);
-        multiply_wrapping_narrow_numbers(self.factor, gap.max(self.low).min(self.high))
+    fn compute_narrow_term_of_item(&self, of: &NarrowClampedDifference<'a>, k: usize) -> i16 {
+        let gap = subtract_wrapping_narrow_numbers(of.left[k], of.right[k]);
+        multiply_wrapping_narrow_numbers(of.factor, gap.max(of.low).min(of.high))
     }
+}
+
+// Adds up to four clamped differences to a term, wrapped at 16 bits, in one pass.
+fn add_few_narrow_differences<S: NarrowTerm>(
+    out: &mut [i16],
+    start: S,
+    differences: &[NarrowClampedDifference<'_>],
+)
+    requires few { length differences.now ≤ 4 }
+    requires start { EachPlace (length out.old) (S.has start) }
+    requires lines { HaveDifferenceLines (length out.old) differences.now }
+    ensures { EachPlace (length out.old) (λ k. at out.new k ≡ int_wrap w16
+        (S.exact start (at out.old k) k +ℤ narrow_difference_sum differences.now k)) }
+{
+    map_few_narrow_terms(
+        out,
+        start,
+        NarrowClampedProducts,
+        differences,
+        SameNarrowNumber,
+    );
 }
 
 /// Writes the sums of clamped differences, wrapped at 16 bits.
@@ -40,17 +66,9 @@ pub fn write_narrow_difference_sums(out: &mut [i16], differences: &[NarrowClampe
     ensures { EachPlace (length out.old)
         (λ k. at out.new k ≡ int_wrap w16 (narrow_difference_sum differences.now k)) }
 {
-    match differences {
-        [] => fill_narrow_row(out, 0),
-        [a] => write_narrow_term(out, *a),
-        [a, b] => write_narrow_term(out, NarrowTermPair(*a, *b)),
-        [a, b, c] => write_narrow_term(out, NarrowTermPair(*a, NarrowTermPair(*b, *c))),
-        [a, b, c, d, more @ ..] => {
-            let back = NarrowTermPair(*c, *d);
-            write_narrow_term(out, NarrowTermPair(*a, NarrowTermPair(*b, back)));
-            add_narrow_difference_sums(out, more);
-        }
-    }
+    let (front, back) = differences.split_at(differences.len().min(4));
+    add_few_narrow_differences(out, NarrowNothing, front);
+    add_narrow_difference_sums(out, back);
 }
 
 /// Adds the sums of clamped differences, wrapped at 16 bits.
@@ -59,15 +77,10 @@ pub fn add_narrow_difference_sums(out: &mut [i16], differences: &[NarrowClampedD
     ensures { EachPlace (length out.old) (λ k. (s : ℤ) → at out.old k ≡ int_wrap w16 s
         → at out.new k ≡ int_wrap w16 (s +ℤ narrow_difference_sum differences.now k)) }
 {
-    match differences {
-        [] => {}
-        [a] => add_narrow_term(out, *a),
-        [a, b] => add_narrow_term(out, NarrowTermPair(*a, *b)),
-        [a, b, c] => add_narrow_term(out, NarrowTermPair(*a, NarrowTermPair(*b, *c))),
-        [a, b, c, d, more @ ..] => {
-            let back = NarrowTermPair(*c, *d);
-            add_narrow_term(out, NarrowTermPair(*a, NarrowTermPair(*b, back)));
-            add_narrow_difference_sums(out, more);
-        }
+    if differences.is_empty() {
+        return;
     }
+    let (front, back) = differences.split_at(differences.len().min(4));
+    add_few_narrow_differences(out, NarrowWritten, front);
+    add_narrow_difference_sums(out, back);
 }

@@ -126,36 +126,6 @@ fn gather_divided_of_narrow_line(
     }
 }
 
-// Takes the numbers from a place on, at the columns of an index.
-fn gather_columns_of_narrow_line(
-    line: &[i16],
-    from: usize,
-    col: &Index,
-    points: &RowSpan,
-    out: &mut [i16],
-)
-    requires fits { length out.old ≡ points.now.len }
-    requires there { EachPlace (length out.old)
-        (λ k. from + column_gap col.now points.now.col k < length line.now) }
-    ensures { EachPlace (length out.old)
-        (λ k. at out.new k ≡ at line.now (from + column_gap col.now points.now.col k)) }
-{
-    let (step, divisor) = (get_narrow_line_step(col), get_narrow_line_divisor(col));
-    let left = compute_narrow_line_rest(col, points);
-    gather_divided_of_narrow_line(line, from, left, step, divisor, out);
-}
-
-// What the division of a halving index leaves at the first of some points.
-#[tactic(auto, using(std::proofs::lemmas::Int::ints))]
-fn compute_narrow_line_remainder(col: &Index, points: &RowSpan) -> usize
-    requires mul { col.now.mul ≡ pos 1 }
-    requires div { col.now.div ≡ pos 2 }
-    ensures below { result < 2 }
-    ensures goes { (k : ℕ) → column_gap col.now points.now.col k ≡ (result + k) / 2 }
-{
-    floor_rem(points.col + col.add(), 2) as usize
-}
-
 /// Writes the numbers of a line from a place on, at the columns that an index takes at the columns of some points.
 pub fn gather_narrow_index_columns(
     line: &[i16],
@@ -170,13 +140,15 @@ pub fn gather_narrow_index_columns(
     ensures { EachPlace (length out.old)
         (λ k. at out.new k ≡ at line.now (from + column_gap col.now points.now.col k)) }
 {
-    if col.div() == 1 {
+    let (step, divisor) = (get_narrow_line_step(col), get_narrow_line_divisor(col));
+    if divisor == 1 {
         // the places of the columns lie at steps of one length
-        gather_every_nth_of_narrow_line(line, from, get_narrow_line_step(col), out);
-    } else if col.div() == 2 && col.mul() == 1 {
-        let left = compute_narrow_line_remainder(col, points);
+        return gather_every_nth_of_narrow_line(line, from, step, out);
+    }
+    let left = compute_narrow_line_rest(col, points);
+    if divisor == 2 && step == 1 {
         gather_each_twice_of_narrow_line(line, from, left, out);
     } else {
-        gather_columns_of_narrow_line(line, from, col, points, out);
+        gather_divided_of_narrow_line(line, from, left, step, divisor, out);
     }
 }

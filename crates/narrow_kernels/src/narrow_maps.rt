@@ -3,10 +3,9 @@
 
 ghost use Rattle.std.specs.Prelude.{◌≡◌, ◌<◌, ◌^◌, ℤ, pos, neg_ℤ, ◌*ℤ◌, unsigned_abs, FitsSigned};
 ghost use Rattle.std.specs.Int.{w16};
-ghost use Rattle.domains.specs.Arithmetic.{wrapped, clamped, floor_div, floor_rem};
+ghost use Rattle.domains.specs.Arithmetic.{wrapped, clamped, floor_rem};
 
-use crate::narrow_pairs::NarrowPairMap;
-use domains::arithmetic::{floor_div, floor_rem, floor_shr, wrapping_shl};
+use domains::arithmetic::{floor_rem, wrapping_shl};
 
 /// An operation on one number of 16 bits.
 pub trait NarrowNumberMap: Copy {
@@ -33,21 +32,6 @@ impl NarrowNumberMap for SameNarrowNumber {
     #[inline]
     fn apply_to_narrow_number(&self, number: i16) -> i16 {
         number
-    }
-}
-
-/// 0, whatever the number is.
-#[derive(Clone, Copy)]
-pub(crate) struct NarrowZero;
-
-impl NarrowNumberMap for NarrowZero {
-    ghost value = { λ _ _. pos 0 };
-
-    ghost fits = { λ _ _. Unit {0} };
-
-    #[inline]
-    fn apply_to_narrow_number(&self, _number: i16) -> i16 {
-        0
     }
 }
 
@@ -99,43 +83,6 @@ impl NarrowNumberMap for NarrowClamping {
     }
 }
 
-/// The number divided by a power of two, rounded down.
-#[derive(Clone, Copy)]
-pub(crate) struct NarrowRightShift {
-    pub(crate) bits: u32,
-    ghost few: { bits < 16 },
-}
-
-impl NarrowNumberMap for NarrowRightShift {
-    ghost value = { λ s a. floor_div a (pos (2 ^ s.bits)) };
-
-    ghost fits = { λ _ _. Unit {0} };
-
-    #[inline]
-    fn apply_to_narrow_number(&self, number: i16) -> i16 {
-        number >> self.bits
-    }
-}
-
-/// What is left of a number below 0 after many shifts: -1; and of the others 0.
-#[derive(Clone, Copy)]
-pub(crate) struct NarrowLongShift {
-    pub(crate) bits: u32,
-    ghost many: { 15 < bits },
-    ghost few: { bits < 32 },
-}
-
-impl NarrowNumberMap for NarrowLongShift {
-    ghost value = { λ s a. floor_div a (pos (2 ^ s.bits)) };
-
-    ghost fits = { λ s a. FitsSigned w16 (floor_div a (pos (2 ^ s.bits))) };
-
-    #[inline]
-    fn apply_to_narrow_number(&self, number: i16) -> i16 {
-        floor_shr(i32::from(number), self.bits) as i16
-    }
-}
-
 /// The number times a power of two.
 #[derive(Clone, Copy)]
 pub(crate) struct NarrowLeftShift {
@@ -173,51 +120,18 @@ impl NarrowNumberMap for NarrowRemainder {
     }
 }
 
-/// The quotient by a number, rounded down.
+/// What an operation makes of the result of another one.
 #[derive(Clone, Copy)]
-pub(crate) struct NarrowQuotient {
-    pub(crate) divisor: u32,
-    ghost some: { 0 < divisor },
-    ghost most: { divisor < 2 ^ 31 },
-}
+pub(crate) struct NarrowThen<S: NarrowNumberMap, C: NarrowNumberMap>(pub(crate) S, pub(crate) C);
 
-impl NarrowNumberMap for NarrowQuotient {
-    ghost value = { λ s a. floor_div a (pos s.divisor) };
+impl<S: NarrowNumberMap, C: NarrowNumberMap> NarrowNumberMap for NarrowThen<S, C> {
+    ghost value = { λ s a. C.value s.1 (S.value s.0 a) };
 
-    ghost fits = { λ s a. FitsSigned w16 (floor_div a (pos s.divisor)) };
+    ghost fits = { λ s a. S.fits s.0 a × C.fits s.1 (S.value s.0 a) };
 
     #[inline]
     fn apply_to_narrow_number(&self, number: i16) -> i16 {
-        floor_div(i32::from(number), self.divisor as i32) as i16
-    }
-}
-
-/// What a pair makes of a fixed left number and of the number.
-#[derive(Clone, Copy)]
-pub(crate) struct FixedLeftNarrowPair<P: NarrowPairMap>(pub(crate) i16, pub(crate) P);
-
-impl<P: NarrowPairMap> NarrowNumberMap for FixedLeftNarrowPair<P> {
-    ghost value = { λ s a. P.value s.1 s.0 a };
-
-    ghost fits = { λ s a. P.fits s.1 s.0 a };
-
-    #[inline]
-    fn apply_to_narrow_number(&self, number: i16) -> i16 {
-        self.1.apply_to_narrow_pair(self.0, number)
-    }
-}
-
-/// What a pair makes of the number and itself.
-#[derive(Clone, Copy)]
-pub(crate) struct SameNarrowPair<P: NarrowPairMap>(pub(crate) P);
-
-impl<P: NarrowPairMap> NarrowNumberMap for SameNarrowPair<P> {
-    ghost value = { λ s a. P.value s.0 a a };
-
-    ghost fits = { λ s a. P.fits s.0 a a };
-
-    #[inline]
-    fn apply_to_narrow_number(&self, number: i16) -> i16 {
-        self.0.apply_to_narrow_pair(number, number)
+        self.1
+            .apply_to_narrow_number(self.0.apply_to_narrow_number(number))
     }
 }

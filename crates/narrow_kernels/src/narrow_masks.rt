@@ -12,7 +12,7 @@ ghost use Rattle.row_loops.specs.Rows.{EachPlace, at};
 ghost use Rattle.row_kernels.specs.RowMask.{HoldsWhere};
 
 use crate::narrow_conversions::narrow_number_of_wide;
-use crate::narrow_loops::choose_narrow_number;
+use crate::narrow_selection::choose_narrow_number;
 use operators::PointTest;
 use row_kernels::{
     RowMask, RowSpan, copy_row_where_mask_holds, count_columns_to_first_with_remainder,

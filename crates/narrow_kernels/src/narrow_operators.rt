@@ -1,43 +1,29 @@
 #![tactic(auto)]
 //! The operators of formulas on rows of numbers of 16 bits.
 
-ghost use Rattle.std.specs.Prelude.{◌≡◌, ◌-ℤ◌, length, pos, unsigned_abs, FitsSigned};
+ghost use Rattle.std.specs.Prelude.{◌≡◌, ◌<◌, ◌-ℤ◌, length, pos, unsigned_abs, FitsSigned};
 ghost use Rattle.std.specs.Int.{w16};
-ghost use Rattle.domains.specs.Arithmetic.{wrapped, clamped, floor_div};
+ghost use Rattle.domains.specs.Arithmetic.{wrapped, floor_div};
 ghost use Rattle.operators.specs.Values.{unary_value, binary_value, ternary_value, literal_value};
-ghost use Rattle.operators.specs.Limits.{IsDivisor, IsLiteral};
+ghost use Rattle.operators.specs.Limits.{IsLiteral};
 ghost use Rattle.narrow_kernels.specs.NarrowOperands.{narrow_operand_at, ServesNarrow, IsGivenNarrow};
 ghost use Rattle.row_loops.specs.Rows.{EachPlace, at};
 
-use crate::narrow_loops::{
-    combine_narrow_row_in_place, fill_narrow_row, map_narrow_row_in_place,
-    write_combination_of_two_narrow_rows, write_mapped_narrow_row,
-};
 use crate::narrow_maps::{
-    FixedLeftNarrowPair, NarrowAbsoluteValue, NarrowClamping, NarrowLeftShift, NarrowLongShift,
-    NarrowNegation, NarrowNumberMap, NarrowQuotient, NarrowRemainder, NarrowRightShift,
-    SameNarrowPair,
+    NarrowAbsoluteValue, NarrowClamping, NarrowLeftShift, NarrowNegation, NarrowNumberMap,
+    NarrowRemainder, NarrowThen, SameNarrowNumber,
 };
 use crate::narrow_operand::NarrowOperand;
+use crate::narrow_operand::NarrowOperand::{Line, Number, Written};
 use crate::narrow_pairs::{
-    NarrowAbsoluteDifference, NarrowDifference, NarrowGreatest, NarrowLeast, NarrowPairMap,
-    NarrowProduct, NarrowSum, SwappedNarrowPair,
+    NarrowDifference, NarrowGreatest, NarrowLeast, NarrowPairMap, NarrowProduct, NarrowSum,
 };
-use crate::narrow_reciprocal::NarrowReciprocal;
+use crate::narrow_quotients::{NarrowReciprocal, find_narrow_right_shift};
+use crate::narrow_trees::{
+    NarrowJoined, NarrowLine, NarrowMapped, NarrowNumber, NarrowTree, NarrowWritten,
+    write_narrow_tree,
+};
 use operators::{BinaryOp, LiteralOp, TernaryOp, UnaryOp};
-
-// Writes the numbers of an operand.
-fn write_narrow_operand(out: &mut [i16], of: NarrowOperand)
-    requires { ServesNarrow (length out.old) of }
-    ensures { EachPlace (length out.old)
-        (λ k. at out.new k ≡ narrow_operand_at of.entry out.old k) }
-{
-    match of {
-        NarrowOperand::Line(line) => out.copy_from_slice(line),
-        NarrowOperand::Number(number) => fill_narrow_row(out, number),
-        NarrowOperand::Written => {}
-    }
-}
 
 /// Writes what a change makes of an operand.
 pub(crate) fn map_narrow_operand<C: NarrowNumberMap>(out: &mut [i16], of: NarrowOperand, make: C)
@@ -48,17 +34,35 @@ pub(crate) fn map_narrow_operand<C: NarrowNumberMap>(out: &mut [i16], of: Narrow
         (λ k. at out.new k ≡ C.value make (narrow_operand_at of.entry out.old k)) }
 {
     match of {
-        NarrowOperand::Line(line) => write_mapped_narrow_row(out, line, make),
-        NarrowOperand::Number(number) => {
-            fill_narrow_row(out, number);
-            map_narrow_row_in_place(out, make);
-        }
-        NarrowOperand::Written => map_narrow_row_in_place(out, make),
+        Line(line) => write_narrow_tree(out, NarrowMapped(make, NarrowLine(line))),
+        Number(number) => write_narrow_tree(out, NarrowMapped(make, NarrowNumber(number))),
+        Written => write_narrow_tree(out, NarrowMapped(make, NarrowWritten)),
     }
 }
 
-// Writes what a pair makes of two operands.
-fn combine_narrow_operands<P: NarrowPairMap>(
+// Writes what is made of the numbers of a tree and of an operand.
+fn combine_narrow_tree_and_operand<A: NarrowTree, P: NarrowPairMap>(
+    out: &mut [i16],
+    left: A,
+    right: NarrowOperand,
+    make: P,
+)
+    requires left { EachPlace (length out.old) (λ k. A.has left (at out.old k) k) }
+    requires right { ServesNarrow (length out.old) right }
+    requires fits { EachPlace (length out.old) (λ k. P.fits make (at out.old k) k
+        (A.value left (at out.old k) k) (narrow_operand_at right out.old k)) }
+    ensures { EachPlace (length out.old) (λ k. at out.new k ≡ P.value make (at out.old k) k
+        (A.value left (at out.old k) k) (narrow_operand_at right.entry out.old k)) }
+{
+    match right {
+        Line(line) => write_narrow_tree(out, NarrowJoined(make, left, NarrowLine(line))),
+        Number(number) => write_narrow_tree(out, NarrowJoined(make, left, NarrowNumber(number))),
+        Written => write_narrow_tree(out, NarrowJoined(make, left, NarrowWritten)),
+    }
+}
+
+/// Writes what is made of two operands.
+pub(crate) fn combine_narrow_operands<P: NarrowPairMap>(
     out: &mut [i16],
     left: NarrowOperand,
     right: NarrowOperand,
@@ -66,36 +70,15 @@ fn combine_narrow_operands<P: NarrowPairMap>(
 )
     requires left { ServesNarrow (length out.old) left }
     requires right { ServesNarrow (length out.old) right }
-    requires fits { EachPlace (length out.old) (λ k. P.fits make
+    requires fits { EachPlace (length out.old) (λ k. P.fits make (at out.old k) k
         (narrow_operand_at left out.old k) (narrow_operand_at right out.old k)) }
-    ensures { EachPlace (length out.old) (λ k. at out.new k ≡ P.value make
+    ensures { EachPlace (length out.old) (λ k. at out.new k ≡ P.value make (at out.old k) k
         (narrow_operand_at left.entry out.old k) (narrow_operand_at right.entry out.old k)) }
 {
-    match (left, right) {
-        (NarrowOperand::Line(left), NarrowOperand::Line(right)) => {
-            write_combination_of_two_narrow_rows(out, left, right, make)
-        }
-        (NarrowOperand::Line(left), NarrowOperand::Written) => combine_narrow_row_in_place(
-            out,
-            left,
-            SwappedNarrowPair(make),
-        ),
-        (NarrowOperand::Written, NarrowOperand::Line(right)) => {
-            combine_narrow_row_in_place(out, right, make)
-        }
-        (NarrowOperand::Written, NarrowOperand::Written) => {
-            map_narrow_row_in_place(out, SameNarrowPair(make))
-        }
-        (NarrowOperand::Number(left), right) => map_narrow_operand(
-            out,
-            right,
-            FixedLeftNarrowPair(left, make),
-        ),
-        (left, NarrowOperand::Number(right)) => map_narrow_operand(
-            out,
-            left,
-            FixedLeftNarrowPair(right, SwappedNarrowPair(make)),
-        ),
+    match left {
+        Line(line) => combine_narrow_tree_and_operand(out, NarrowLine(line), right, make),
+        Number(number) => combine_narrow_tree_and_operand(out, NarrowNumber(number), right, make),
+        Written => combine_narrow_tree_and_operand(out, NarrowWritten, right, make),
     }
 }
 
@@ -146,16 +129,8 @@ pub fn write_narrow_absolute_differences(out: &mut [i16], left: &[i16], right: &
     ensures { EachPlace (length out.old) (λ k. at out.new k
         ≡ wrapped (pos (unsigned_abs (wrapped (at left.now k -ℤ at right.now k))))) }
 {
-    write_combination_of_two_narrow_rows(out, left, right, NarrowAbsoluteDifference);
-}
-
-/// Clamps the numbers of an operand to at least `low`, and then to at most `high`.
-fn clamp_narrow_operand_to_numbers(out: &mut [i16], of: NarrowOperand, low: i16, high: i16)
-    requires { ServesNarrow (length out.old) of }
-    ensures { EachPlace (length out.old)
-        (λ k. at out.new k ≡ clamped (narrow_operand_at of.entry out.old k) low high) }
-{
-    map_narrow_operand(out, of, NarrowClamping { low, high });
+    let difference = NarrowJoined(NarrowDifference, NarrowLine(left), NarrowLine(right));
+    write_narrow_tree(out, NarrowMapped(NarrowAbsoluteValue, difference));
 }
 
 /// Writes the results of an operator on three operands.
@@ -176,7 +151,7 @@ pub fn write_narrow_ternary_results(
     match op {
         TernaryOp::Clamp => {
             if let (NarrowOperand::Number(low), NarrowOperand::Number(high)) = (second, third) {
-                return clamp_narrow_operand_to_numbers(out, first, low, high);
+                return map_narrow_operand(out, first, NarrowClamping { low, high });
             }
             combine_narrow_operands(out, first, second, NarrowGreatest);
             combine_narrow_operands(out, NarrowOperand::Written, third, NarrowLeast);
@@ -184,24 +159,23 @@ pub fn write_narrow_ternary_results(
     }
 }
 
-// Writes the quotients by a divisor, rounded down.
-fn write_narrow_quotients(out: &mut [i16], of: NarrowOperand, number: u32)
+/// Writes the quotients of what a change makes of an operand by a divisor, rounded down.
+pub(crate) fn write_narrow_quotients<C: NarrowNumberMap>(
+    out: &mut [i16],
+    of: NarrowOperand,
+    make: C,
+    divisor: u32,
+)
     requires of { ServesNarrow (length out.old) of }
-    requires number { IsDivisor number }
+    requires divisor { 0 < divisor }
     requires fits { EachPlace (length out.old)
-        (λ k. FitsSigned w16 (floor_div (narrow_operand_at of out.old k) (pos number))) }
+        (λ k. C.fits make (narrow_operand_at of out.old k)) }
     ensures { EachPlace (length out.old) (λ k. at out.new k
-        ≡ floor_div (narrow_operand_at of.entry out.old k) (pos number)) }
+        ≡ floor_div (C.value make (narrow_operand_at of.entry out.old k)) (pos divisor)) }
 {
-    let bits = number.ilog2();
-    if number == 1 {
-        write_narrow_operand(out, of);
-    } else if number > 32768 {
-        map_narrow_operand(out, of, NarrowQuotient { divisor: number });
-    } else if bits < 16 && number == 1 << bits {
-        map_narrow_operand(out, of, NarrowRightShift { bits });
-    } else {
-        map_narrow_operand(out, of, NarrowReciprocal::new(number));
+    match find_narrow_right_shift(divisor) {
+        Some(shift) => map_narrow_operand(out, of, NarrowThen(make, shift)),
+        None => map_narrow_operand(out, of, NarrowThen(make, NarrowReciprocal::new(divisor))),
     }
 }
 
@@ -220,14 +194,9 @@ pub fn write_narrow_literal_op_results(
         (λ k. at out.new k ≡ literal_value op (narrow_operand_at left.entry out.old k) number) }
 {
     match op {
-        LiteralOp::Div => write_narrow_quotients(out, left, number),
+        LiteralOp::Div => write_narrow_quotients(out, left, SameNarrowNumber, number),
         LiteralOp::Rem => map_narrow_operand(out, left, NarrowRemainder { divisor: number }),
         LiteralOp::Shl => map_narrow_operand(out, left, NarrowLeftShift { bits: number }),
-        LiteralOp::Shr if number < 16 => map_narrow_operand(
-            out,
-            left,
-            NarrowRightShift { bits: number },
-        ),
-        LiteralOp::Shr => map_narrow_operand(out, left, NarrowLongShift { bits: number }),
+        LiteralOp::Shr => write_narrow_quotients(out, left, SameNarrowNumber, 1 << number),
     }
 }

@@ -1,14 +1,12 @@
-use Rattle.std.proofs.Common.{rules, ◌+ℤ◌, ℤ, pos, ap, ◌∙◌, w16, FitsSigned}
+use Rattle.std.proofs.Common.{rules, ℤ, pos, ap, ◌∙◌, w16, FitsSigned}
 use Rattle.std.specs.Int.{int_wrap}
-use Rattle.std.proofs.Math.IntN.{+ℤ_idl}
+use Rattle.std.proofs.Math.IntN.{+ℤ_comm}
 use Rattle.std.proofs.lemmas.Int.{to_z-of_z}
 use Rattle.domains.specs.Arithmetic.{floor_div}
-use Rattle.narrow_kernels.specs.NarrowTaps.{tap_sum}
 use Rattle.narrow_kernels.proofs.narrow_divided_sums.write_divided_narrow_tap_sums.Goals as goal
 
 pub returns : goal.returns
 returns c = λ k h.
     let number : FitsSigned w16 c.args.number = search rules in
     let made = simp to_z-of_z at c.divide_narrow_tap_sums.ensures in
-    made k h
-    ∙ ap (λ (z : ℤ). floor_div (int_wrap w16 z) (pos c.args.divisor)) (+ℤ_idl (tap_sum c.args.taps.now k +ℤ c.args.number))
+    made k h ∙ ap (λ (z : ℤ). floor_div (int_wrap w16 z) (pos c.args.divisor)) (+ℤ_comm c.args.number _)

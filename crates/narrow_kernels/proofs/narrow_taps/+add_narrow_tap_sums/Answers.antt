@@ -13,7 +13,7 @@ returns t c = λ k h s e.
     let inside : k < length c.map_narrow_tap_sums.new.out = search rules in
     let first = tap_sum c.split_at.result.0.now k in
     let front : at c.map_narrow_tap_sums.new.out k ≡ int_wrap w16 (s +ℤ first) =
-    c.map_narrow_tap_sums.ensures k h ∙ wrapped_left _ s _ e ∙ ap (λ (z : ℤ). int_wrap w16 (s +ℤ z)) (+ℤ_idr first) in
+    c.map_narrow_tap_sums.ensures k h ∙ ap (λ (z : ℤ). int_wrap w16 (z +ℤ first)) (+ℤ_idr (at c.args.out.now k)) ∙ wrapped_left _ s _ e in
     c.add_narrow_tap_sums.ensures k inside _ front
     ∙ ap (int_wrap w16) (+ℤ_assoc s first _ ∙ ap (λ (z : ℤ). s +ℤ z) (sum_split (λ (tap : NarrowTap). tap_at tap k) (λ taps. tap_sum taps k) refl (λ x xs. refl)
     _ c.args.taps.now c.split_at.result.0.now c.split_at.result.1.now c.split_at.ensures.front c.split_at.ensures.back))

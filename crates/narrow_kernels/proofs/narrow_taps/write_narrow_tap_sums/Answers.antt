@@ -1,6 +1,6 @@
 use Rattle.std.proofs.Common.{rules, ◌≡◌, ◌<◌, length, ap, refl, ◌∙◌, w16}
 use Rattle.std.specs.Int.{int_wrap}
-use Rattle.std.proofs.Math.IntN.{+ℤ_idl, +ℤ_idr}
+use Rattle.std.proofs.Math.IntN.{+ℤ_idl}
 use Rattle.row_loops.specs.Rows.{at}
 use Rattle.narrow_kernels.specs.declared.narrow_taps.NarrowTap.{NarrowTap}
 use Rattle.narrow_kernels.specs.NarrowTaps.{tap_at, tap_sum}
@@ -11,7 +11,7 @@ pub returns : goal.returns
 returns c = λ k h.
     let inside : k < length c.map_narrow_tap_sums.new.out = search rules in
     let front : at c.map_narrow_tap_sums.new.out k ≡ int_wrap w16 (tap_sum c.split_at.result.0.now k) =
-    c.map_narrow_tap_sums.ensures k h ∙ ap (int_wrap w16) (+ℤ_idl _ ∙ +ℤ_idr _) in
+    c.map_narrow_tap_sums.ensures k h ∙ ap (int_wrap w16) (+ℤ_idl _) in
     c.add_narrow_tap_sums.ensures k inside _ front
     ∙ ap (int_wrap w16) (sum_split (λ (tap : NarrowTap). tap_at tap k) (λ taps. tap_sum taps k) refl (λ x xs. refl)
     _ c.args.taps.now c.split_at.result.0.now c.split_at.result.1.now c.split_at.ensures.front c.split_at.ensures.back)

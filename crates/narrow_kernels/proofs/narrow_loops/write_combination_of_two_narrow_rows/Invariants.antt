@@ -1,9 +1,0 @@
-use Rattle.std.proofs.Common.{◌≡◌, ℕ, ◌≤◌}
-use Rattle.row_loops.specs.Rows.{EachPlace, at}
-use Rattle.narrow_kernels.proofs.narrow_loops.write_combination_of_two_narrow_rows.Given as goal
-
-abbrev pub invariant-loop-k : goal.invariant-loop-k
-invariant-loop-k g l = record {
-  done : EachPlace l.k (λ k. at l.out k ≡ g.P.NarrowPairMap.value l.make (at l.left k) (at l.right k));
-  ahead : (k : ℕ) → l.k ≤ k → at l.out k ≡ at l.initial.out k;
-}
