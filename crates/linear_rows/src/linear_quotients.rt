@@ -96,7 +96,7 @@ impl<'a> LinearQuotient<'a> {
         write_shifted_linear_numbers(out, sums, make);
     }
 
-    // Writes the values in one pass, if at most three products are added and the sum is shifted. Returns whether this is done.
+    // Writes the values in one pass, if at most four products are added and the sum is shifted. Returns whether this is done.
     fn try_few_linear_taps<S: NarrowSource>(
         &self,
         source: &S,
@@ -132,6 +132,15 @@ impl<'a> LinearQuotient<'a> {
                 let b = borrow_linear_line(source, b, points);
                 let c = borrow_linear_line(source, c, points);
                 write_shifted_linear_term(out, number, LinearPair(a, LinearPair(b, c)), make);
+            }
+            [a, b, c, d] => {
+                let a = borrow_linear_line(source, a, points);
+                let b = borrow_linear_line(source, b, points);
+                let back = LinearPair(
+                    borrow_linear_line(source, c, points),
+                    borrow_linear_line(source, d, points),
+                );
+                write_shifted_linear_term(out, number, LinearPair(a, LinearPair(b, back)), make);
             }
             _ => return false,
         }
