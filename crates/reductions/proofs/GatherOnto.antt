@@ -1,5 +1,5 @@
 -- Bins that are joined with what is gathered, by what they took in.
-use Rattle.std.proofs.Common.{arith, ◌≡◌, ◌<◌, ℕ, zero, suc, ℤ, pos, ◌+ℤ◌, List, [], ◌∷◌, length, ap, sym, ◌∙◌, refl, Result, Ok, Err, OnOk}
+use Rattle.std.proofs.Common.{arith, ◌≡◌, ◌<◌, ℕ, ℤ, pos, ◌+ℤ◌, List, [], ◌∷◌, length, ap, sym, ◌∙◌, refl, Result, Ok, Err, OnOk}
 use Rattle.std.specs.Prelude.{map}
 use Rattle.std.proofs.lemmas.List.{length-map}
 use Rattle.domains.specs.Span.{len_of, numbers_of}
@@ -13,7 +13,7 @@ use Rattle.tile_eval.specs.Rows.{at}
 use Rattle.reductions.specs.Bins.{starts, joined_bins}
 use Rattle.reductions.specs.Accumulating.{AreBins}
 use Rattle.reductions.specs.inside.Gathering.{after_values, values_among, TookIn}
-use Rattle.reductions.proofs.JoinInto.{joined_by_places, joined_maps}
+use Rattle.reductions.proofs.JoinInto.{at_joined, joined_by_places, joined_maps}
 use Rattle.reductions.proofs.TakeValues.{at_number, starts_long}
 use Rattle.reductions.proofs.TotalsInAnyOrder.{joined-comm, joined-assoc, starts_join, total_by_values, total_of-none}
 
@@ -47,13 +47,6 @@ joined_bins-assoc way [] ys zs = refl
 joined_bins-assoc way (x ∷ xs) [] zs = refl
 joined_bins-assoc way (x ∷ xs) (y ∷ ys) [] = refl
 joined_bins-assoc way (x ∷ xs) (y ∷ ys) (z ∷ zs) = λ i. joined-assoc way x y z i ∷ joined_bins-assoc way xs ys zs i
-
-at_joined : (way : ReductionOp) (xs ys : List ℤ) (k : ℕ) → k < length xs → length ys ≡ length xs
-    → at (joined_bins way xs ys) k ≡ joined way (at xs k) (at ys k)
-at_joined way [] ys k h e = absurd (omega arith)
-at_joined way (x ∷ xs) [] k h e = absurd (omega arith)
-at_joined way (x ∷ xs) (y ∷ ys) zero h e = refl
-at_joined way (x ∷ xs) (y ∷ ys) (suc k) h e = at_joined way xs ys k (omega arith) (omega arith)
 
 -- bins that the start leaves are left by it once others were joined
 pub still_kept : (way : ReductionOp) (first xs ys : List ℤ) → joined_bins way xs first ≡ xs

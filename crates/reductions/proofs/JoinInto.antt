@@ -1,5 +1,5 @@
 -- Bins that are joined place by place.
-use Rattle.std.proofs.Common.{arith, suc, ◌≡◌, ℤ, List, [], ◌∷◌, length, ap, ◌∙◌, refl}
+use Rattle.std.proofs.Common.{arith, ℕ, zero, suc, ◌≡◌, ◌<◌, ℤ, List, [], ◌∷◌, length, ap, ◌∙◌, refl}
 use Rattle.std.specs.Prelude.{map, fold}
 use Rattle.operators.specs.declared.operator.ReductionOp.{ReductionOp}
 use Rattle.job.specs.Totals.{joined}
@@ -18,6 +18,14 @@ joined_by_places way (x ∷ xs) (y ∷ ys) (z ∷ zs) e f each =
     ap (λ (v : ℤ). v ∷ zs) (each 0 (omega arith))
     ∙ ap (λ (vs : List ℤ). joined way x y ∷ vs) (joined_by_places way xs ys zs (omega arith) (omega arith)
     (λ k h. each (suc k) (omega arith)))
+
+-- each of the joined bins
+pub at_joined : (way : ReductionOp) (xs ys : List ℤ) (k : ℕ) → k < length xs → length ys ≡ length xs
+    → at (joined_bins way xs ys) k ≡ joined way (at xs k) (at ys k)
+at_joined way [] ys k h e = absurd (omega arith)
+at_joined way (x ∷ xs) [] k h e = absurd (omega arith)
+at_joined way (x ∷ xs) (y ∷ ys) zero h e = refl
+at_joined way (x ∷ xs) (y ∷ ys) (suc k) h e = at_joined way xs ys k (omega arith) (omega arith)
 
 -- bins that are functions of the same numbers
 pub joined_maps : {X : Type 0} (way : ReductionOp) (f g : X → ℤ) (bs : List X)

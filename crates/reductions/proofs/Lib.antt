@@ -2,6 +2,7 @@ pub mod TotalsInAnyOrder
 pub mod TakeValues
 pub mod TwoTables
 pub mod JoinInto
+pub mod FourRows
 pub mod KnownBins
 pub mod GatherOnto
 pub mod TilesJoinInTurn

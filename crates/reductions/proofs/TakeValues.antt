@@ -1,16 +1,17 @@
 -- Bins that take in values: one, a row of them, and rows of points.
-use Rattle.std.proofs.Common.{arith, get_or-set_other, inl, inr, get_or-set_same, ℕ, zero, suc, ◌≡◌, ◌-◌, ◌<◌, ℤ, pos, ◌+ℤ◌, Bool}
+use Rattle.std.proofs.Common.{arith, get_or-set_other, inl, inr, get_or-set_same, ℕ, zero, suc, ◌≡◌, ◌+◌, ◌<◌, ℤ, pos, ◌+ℤ◌, Bool}
 use Rattle.std.proofs.Common.{true, false, cond, List, [], ◌∷◌, ◌++◌, drop, length, ap, sym, ◌∙◌, refl, replicate}
 use Rattle.std.specs.Prelude.{◌⊎◌, slice_index, slice_set, map, filter, zip}
+use Rattle.std.specs.List.{flat_map}
 use Rattle.std.specs.Ordering.{int_eq}
 use Rattle.std.proofs.Math.IntN.{+ℤ_idr}
 use Rattle.std.proofs.lemmas.Bool.{false_from_ne_true, cases_eq}
 use Rattle.std.proofs.lemmas.Bool.Decides.{Decides-int_eq}
+use Rattle.std.proofs.lemmas.Grind.{flat_map-append}
 use Rattle.std.proofs.lemmas.Int.{ints}
-use Rattle.std.proofs.lemmas.List.{length-map, get_or-map, map-append}
+use Rattle.std.proofs.lemmas.List.{append-nil, length-map, get_or-map, map-append}
 use Rattle.std.proofs.lemmas.List.Sums.{fold-append}
 use Rattle.std.proofs.lemmas.List.Elements.{filter-append}
-use Rattle.domains.specs.Pairs.{pairs}
 use Rattle.domains.specs.Span.{Ends, Holds, IsSpan, len_of, numbers_from, numbers_of}
 use Rattle.domains.proofs.Lengths.{len_is}
 use Rattle.domains.proofs.Spans.{length-numbers_from}
@@ -18,7 +19,7 @@ use Rattle.operators.specs.declared.operator.ReductionOp.{ReductionOp}
 use Rattle.job.specs.Totals.{start_of, joined}
 use Rattle.tile_eval.specs.Rows.{EachPlace, at}
 use Rattle.reductions.specs.Bins.{starts}
-use Rattle.reductions.specs.inside.Gathering.{once_came, after_values, values_of_bin, values_among, points_along, TookIn}
+use Rattle.reductions.specs.inside.Gathering.{once_came, after_values, values_of_bin, values_among, points_along, points_from, TookIn}
 
 -- ---- rows of numbers
 
@@ -102,13 +103,17 @@ firsts : (here : Bool) (v c : ℤ) (ps : List (ℤ × ℤ))
 firsts true v c ps = refl
 firsts false v c ps = refl
 
+pub values_next : (v c : ℤ) (vs cs : List ℤ) (b : ℤ)
+    → values_of_bin (v ∷ vs) (c ∷ cs) b ≡ cond (int_eq c b) (v ∷ values_of_bin vs cs b) (values_of_bin vs cs b)
+values_next v c vs cs b = firsts (int_eq c b) v c (filter (λ p. int_eq p.1 b) (zip vs cs))
+
 -- the values from place k on: that one, if it is of the bin, and those behind it
 pub values_left : (vs cs : List ℤ) (b : ℤ) (k : ℕ) → k < length vs → length cs ≡ length vs
     → values_of_bin (drop k vs) (drop k cs) b ≡ cond (int_eq (at cs k) b) (at vs k ∷ values_of_bin (drop (suc k) vs) (drop (suc k) cs)
     b) (values_of_bin (drop (suc k) vs) (drop (suc k) cs) b)
 values_left [] cs b k h e = absurd (omega arith)
 values_left (v ∷ vs) [] b k h e = absurd (omega arith)
-values_left (v ∷ vs) (c ∷ cs) b zero h e = firsts (int_eq c b) v c (filter (λ p. int_eq p.1 b) (zip vs cs))
+values_left (v ∷ vs) (c ∷ cs) b zero h e = values_next v c vs cs b
 values_left (v ∷ vs) (c ∷ cs) b (suc k) h e = values_left vs cs b k (omega arith) (omega arith)
 
 -- one value more of the rows is in
@@ -220,29 +225,36 @@ row_took way value bin lo r x n vs cs old new values bins took j h =
 
 -- ---- rows of points
 
--- so many rows from row r on
-abbrev pub points_from : ℤ → ℕ → ℤ → ℕ → List (ℤ × ℤ)
-points_from r m c n = pairs (numbers_from r m) (numbers_from c n)
+pub numbers_split : (v : ℤ) (n m : ℕ) → numbers_from v (n + m) ≡ numbers_from v n ++ numbers_from (v +ℤ pos n) m
+numbers_split v zero m =
+    let none : zero + m ≡ m = omega arith in
+    let same : v ≡ v +ℤ pos zero = omega (arith, ints) in
+    ap (numbers_from v) none ∙ ap (λ (w : ℤ). numbers_from w m) same
+numbers_split v (suc n) m =
+    let more : suc n + m ≡ suc (n + m) = omega arith in
+    let same : v +ℤ pos 1 +ℤ pos n ≡ v +ℤ pos (suc n) = omega (arith, ints) in
+    ap (numbers_from v) more
+    ∙ ap (λ (vs : List ℤ). v ∷ vs) (numbers_split (v +ℤ pos 1) n m)
+    ∙ ap (λ (w : ℤ). v ∷ numbers_from (v +ℤ pos 1) n ++ numbers_from w m) same
 
--- the first of the rows from number i on, and those behind it
-rows_left : (r c : ℤ) (m n i : ℕ) → i < m → points_from (r +ℤ pos i) (m - i) c n
-    ≡ points_along (r +ℤ pos i) c n ++ points_from (r +ℤ pos (suc i)) (m - suc i) c n
-rows_left r c m n i h =
-    let left : m - i ≡ suc (m - suc i) = omega arith in
-    let below : r +ℤ pos i +ℤ pos 1 ≡ r +ℤ pos (suc i) = omega (arith, ints) in
-    ap (λ (k : ℕ). points_from (r +ℤ pos i) k c n) left
-    ∙ ap (λ (z : ℤ). points_along (r +ℤ pos i) c n ++ points_from z (m - suc i) c n) below
+pub one_row : (r c : ℤ) (n : ℕ) → points_from r 1 c n ≡ points_along r c n
+one_row r c n = append-nil (points_along r c n)
 
--- what was taken in so far and what is left, together with one row more
+points_split : (r c : ℤ) (n i k : ℕ) → points_from r (i + k) c n ≡ points_from r i c n ++ points_from (r +ℤ pos i) k c n
+points_split r c n i k =
+    let line : ℤ → List (ℤ × ℤ) = λ q. points_along q c n in
+    ap (flat_map line) (numbers_split r i k) ∙ flat_map-append line (numbers_from r i) (numbers_from (r +ℤ pos i) k)
+
+-- k rows more are taken in
 module _ (way : ReductionOp) (value bin : ℤ → ℤ → ℤ) where
-  pub took_row : (b r c : ℤ) (m n i : ℕ) (old new : ℤ) → i < m
-      → new ≡ after_values way old (values_among value bin (points_along (r +ℤ pos i) c n) b)
-      → after_values way new (values_among value bin (points_from (r +ℤ pos (suc i)) (m - suc i) c n) b)
-      ≡ after_values way old (values_among value bin (points_from (r +ℤ pos i) (m - i) c n) b)
-  took_row b r c m n i old new h is =
-      let row = points_along (r +ℤ pos i) c n in
-      let rest = points_from (r +ℤ pos (suc i)) (m - suc i) c n in
-      ap (λ (z : ℤ). after_values way z (values_among value bin rest b)) is
-      ∙ sym (fold-append (joined way) old (values_among value bin row b) (values_among value bin rest b))
-      ∙ ap (after_values way old) (sym (among-append value bin b row rest))
-      ∙ ap (λ (ps : List (ℤ × ℤ)). after_values way old (values_among value bin ps b)) (sym (rows_left r c m n i h))
+  pub took_more : (b r c : ℤ) (n i k : ℕ) (first old new : ℤ) → old ≡ after_values way first (values_among value bin (points_from r i c n) b)
+      → new ≡ after_values way old (values_among value bin (points_from (r +ℤ pos i) k c n) b)
+      → new ≡ after_values way first (values_among value bin (points_from r (i + k) c n) b)
+  took_more b r c n i k first old new before is =
+      let rows = points_from r i c n in
+      let more = points_from (r +ℤ pos i) k c n in
+      is
+      ∙ ap (λ (z : ℤ). after_values way z (values_among value bin more b)) before
+      ∙ sym (fold-append (joined way) first (values_among value bin rows b) (values_among value bin more b))
+      ∙ ap (after_values way first) (sym (among-append value bin b rows more))
+      ∙ ap (λ (ps : List (ℤ × ℤ)). after_values way first (values_among value bin ps b)) (sym (points_split r c n i k))

@@ -1,5 +1,5 @@
 -- Totals over the tiles of an area join to the total over all of it.
-use Rattle.std.proofs.Common.{ℕ, ◌≡◌, ◌+◌, ◌-◌, ℤ, Bool, List, [], ◌∷◌}
+use Rattle.std.proofs.Common.{ℕ, ◌≡◌, ℤ, Bool, List, [], ◌∷◌}
 use Rattle.std.proofs.Common.{◌++◌, append_assoc, ap, sym, ◌∙◌, refl}
 use Rattle.std.specs.Prelude.{map, fold, IsPermutation}
 use Rattle.std.specs.List.{flat_map, range_with_len}

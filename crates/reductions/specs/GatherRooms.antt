@@ -8,8 +8,9 @@ use Rattle.job.specs.Views.{formula_view}
 use Rattle.reductions.specs.declared.row_buffers.AccumulatorBuffers.{AccumulatorBuffers}
 use Rattle.reductions.specs.Accumulating.{HasRoomAlong}
 
--- there is capacity for a row of values, a row of their bins, and operands
+-- there is capacity for a row of joined bytes, a row of values, a row of their bins, and operands
 pub record HasRowsOver (a : Accumulator) (area : Area) (rows : AccumulatorBuffers) : Type 0 where
+  pub joined : len_of area.cols ≤ length rows.joined.items
   pub values : len_of area.cols ≤ length rows.values.items
   pub bins_of : len_of area.cols ≤ length rows.bins_of.items
   pub temps : HasRoomAlong a (len_of area.cols) (length rows.temps.items)

@@ -1,5 +1,5 @@
 #![tactic(auto)]
-//! The values of a row of points, in 32 bits or as bytes of a plane.
+//! The values of a row of points, in 32 bits, in 16, or as bytes of a plane.
 
 ghost use Rattle.std.specs.Prelude.{◌≡◌, ◌<◌, ℤ, pos, List, length, map};
 ghost use Rattle.tile_eval.specs.Rows.{at};
@@ -45,5 +45,21 @@ impl<'a> BinValues for &'a [u8] {
     #[inline]
     fn read_bin_value(&self, k: usize) -> i32 {
         i32::from(self[k])
+    }
+}
+
+// What bytes of several rows join to.
+impl<'a> BinValues for &'a [u16] {
+    ghost values = { λ line. map pos line.now };
+
+    #[inline]
+    fn count_bin_values(&self) -> usize {
+        self.len()
+    }
+
+    #[inline]
+    fn read_bin_value(&self, k: usize) -> i32 {
+        let joined = self[k];
+        i32::from(joined)
     }
 }

@@ -1,7 +1,7 @@
 #![tactic(auto)]
 //! What an accumulator accumulates over an area, from any source of the samples that are read.
 
-ghost use Rattle.std.specs.Prelude.{◌≡◌, ◌<◌, ◌≤◌, ◌+◌, ◌+ℤ◌, ◌≤ℤ◌, ℤ, pos, length, replicate, IfOk};
+ghost use Rattle.std.specs.Prelude.{◌≡◌, ◌<◌, ◌≤◌, ◌+◌, ◌-◌, ◌+ℤ◌, ◌≤ℤ◌, ℤ, pos, length, replicate, IfOk};
 ghost use Rattle.domains.specs.Area.{HoldsPoint, points_of};
 ghost use Rattle.domains.specs.Span.{len_of, numbers_from};
 ghost use Rattle.job.specs.Pipeline.{accumulator as accumulator_by};
@@ -12,7 +12,7 @@ ghost use Rattle.tile_eval.specs.Reading.{HasRoom, ReadsWithin};
 ghost use Rattle.tile_eval.specs.Rows.{EachPlace, at};
 ghost use Rattle.reductions.specs.Accumulating.{HasFormulas, ReadsAt, HasRoomAlong, TookPoints};
 ghost use Rattle.operators.specs.declared.operator.ReductionOp.TheVariants.{Sum};
-ghost use Rattle.reductions.specs.inside.Gathering.{after_values, points_along, values_along, values_of_bin};
+ghost use Rattle.reductions.specs.inside.Gathering.{after_values, points_along, points_from, values_along, values_of_bin};
 
 use crate::bin_starts::create_start_bins;
 use crate::bins::{accumulate_row_of_values_in_bins, add_number_to_bin_of_each_point};
@@ -156,11 +156,12 @@ fn accumulate_point_row_in_bins<S: RowSource>(
     accumulate_row_of_values_in_bins(op, lo, bins, line, each);
 }
 
-/// Accumulates the points of an area in the bins, row by row.
+/// Accumulates the rows of an area in the bins, from number `first` on, row by row.
 pub(crate) fn accumulate_area_rows_in_bins<S: RowSource>(
     source: &S,
     accumulator: &Accumulator,
     area: &Area,
+    first: usize,
     bins: &mut [i64],
     values: &mut [i32],
     bins_of: &mut [i32],
@@ -168,6 +169,7 @@ pub(crate) fn accumulate_area_rows_in_bins<S: RowSource>(
 )
     requires rows { InDomainRange area.now.rows }
     requires cols { InDomainRange area.now.cols }
+    requires first { first ≤ len_of area.now.rows }
     requires width { length values.old ≡ len_of area.now.cols }
     requires one_length { length bins_of.old ≡ length values.old }
     requires bins { length bins.old ≡ len_of accumulator.now.bins }
@@ -175,10 +177,11 @@ pub(crate) fn accumulate_area_rows_in_bins<S: RowSource>(
     requires reads { (r c : ℤ) → HoldsPoint area.now r c
         → ReadsAt (S.has source.now) accumulator.now r c }
     requires room { HasRoomAlong accumulator.now (length values.old) (length temps.old) }
-    ensures { TookPoints (S.samples source.now) accumulator.now (points_of area.now) bins.old
-        bins.new }
+    ensures { TookPoints (S.samples source.now) accumulator.now
+        (points_from (area.now.rows.lo +ℤ pos first) (len_of area.now.rows - first) area.now.cols.lo
+        (len_of area.now.cols)) bins.old bins.new }
 {
-    for i in 0..area.rows.len() as usize {
+    for i in first..area.rows.len() as usize {
         let points = RowSpan::from_area_row(area, i);
         let row = SourceRow { source, points };
         accumulate_point_row_in_bins(&row, accumulator, bins, values, bins_of, temps);

@@ -7,6 +7,7 @@ mod bin_starts;
 mod bin_values;
 mod bins;
 mod byte_bins;
+mod four_rows;
 mod gather;
 mod join;
 mod known_bins;

@@ -12,6 +12,7 @@ ghost use Rattle.tile_eval.specs.Counted.{IsLeast};
 ghost use Rattle.reductions.specs.Bins.{joined_bins};
 ghost use Rattle.reductions.specs.Accumulating.{AreBins, HasFormulas, HasRoomAlong, ReadsAt};
 
+use crate::four_rows::accumulate_first_rows_in_adjacent_bins;
 use crate::gather::accumulate_area_rows_in_bins;
 use domains::Area;
 use job::Accumulator;
@@ -27,19 +28,25 @@ fn compute_accumulator_buffer_capacity(accumulator: &Accumulator, n: usize) -> O
     Some(value.max(bin))
 }
 
-// Grows a row to at least `size` numbers.
-fn grow_accumulator_buffer(row: &mut Vec<i32>, size: usize) -> Result<(), AllocError>
+// Grows a row to at least `size` numbers. New ones are `filler`.
+fn grow_accumulator_buffer<T: Copy>(
+    row: &mut Vec<T>,
+    size: usize,
+    filler: T,
+) -> Result<(), AllocError>
     ensures { OnOk result (size ≤ vec_len row.new) }
 {
     if row.len() < size {
-        row.resize(size, 0)?;
+        row.resize(size, filler)?;
     }
     Ok(())
 }
 
-/// Row buffers for accumulators: values, the bins of these, and operands. Their content is unspecified between calls.
+/// Row buffers for accumulators: what bytes of several rows join to, values, the bins of these, and operands. Their content is
+/// unspecified between calls.
 #[derive(Drop)]
 pub struct AccumulatorBuffers {
+    pub(crate) joined: Vec<u16>,
     pub(crate) values: Vec<i32>,
     pub(crate) bins_of: Vec<i32>,
     pub(crate) temps: Vec<i32>,
@@ -51,6 +58,7 @@ impl AccumulatorBuffers {
     /// No rows yet.
     pub fn new(alloc: Global) -> AccumulatorBuffers {
         AccumulatorBuffers {
+            joined: Vec::new(alloc),
             values: Vec::new(alloc),
             bins_of: Vec::new(alloc),
             temps: Vec::new(alloc),
@@ -71,9 +79,10 @@ impl AccumulatorBuffers {
     {
         let n = area.cols.len() as usize;
         let room = compute_accumulator_buffer_capacity(accumulator, n).ok_or(AllocError)?;
-        grow_accumulator_buffer(&mut self.values, n)?;
-        grow_accumulator_buffer(&mut self.bins_of, n)?;
-        grow_accumulator_buffer(&mut self.temps, room)?;
+        grow_accumulator_buffer(&mut self.joined, n, 0)?;
+        grow_accumulator_buffer(&mut self.values, n, 0)?;
+        grow_accumulator_buffer(&mut self.bins_of, n, 0)?;
+        grow_accumulator_buffer(&mut self.temps, room, 0)?;
         Ok(())
     }
 
@@ -100,12 +109,15 @@ impl AccumulatorBuffers {
     {
         // rows that were grown for wider areas are longer than those of this one
         let n = area.cols.len() as usize;
+        let joined = &mut self.joined[..n];
+        let first = accumulate_first_rows_in_adjacent_bins(source, accumulator, area, bins, joined);
         let values = &mut self.values[..n];
         let bins_of = &mut self.bins_of[..n];
         accumulate_area_rows_in_bins(
             source,
             accumulator,
             area,
+            first,
             bins,
             values,
             bins_of,

@@ -1,6 +1,7 @@
 -- How bins accumulate points.
 use Rattle.std.specs.Prelude.{ℕ, ℤ, pos, ◌+ℤ◌, ◌≡◌, ◌≤ℤ◌, ◌<ℤ◌, Bool, if◌then◌else◌, List, map, filter, fold, length, zip}
 use Rattle.std.specs.Ordering.{int_eq}
+use Rattle.domains.specs.Pairs.{pairs}
 use Rattle.domains.specs.Span.{numbers_from}
 use Rattle.operators.specs.declared.operator.ReductionOp.{ReductionOp}
 use Rattle.job.specs.Formula.{Formula}
@@ -31,6 +32,10 @@ values_among value bin points b = map (λ p. value p.0 p.1) (filter (λ p. int_e
 -- n points of row r, from column c on
 abbrev pub points_along : ℤ → ℤ → ℕ → List (ℤ × ℤ)
 points_along r c n = map (λ v. (r, v)) (numbers_from c n)
+
+-- m rows of n points, from row r and column c on
+abbrev pub points_from : ℤ → ℕ → ℤ → ℕ → List (ℤ × ℤ)
+points_from r m c n = pairs (numbers_from r m) (numbers_from c n)
 
 -- the values of a formula at n points of row r, from column c on, where env has the values of the stages
 abbrev pub values_along : Valuation → Formula → ℤ → ℤ → ℕ → List ℤ
