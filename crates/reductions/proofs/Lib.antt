@@ -1,6 +1,7 @@
 pub mod TotalsInAnyOrder
 pub mod TakeValues
 pub mod TwoTables
+pub mod ByteWords
 pub mod JoinInto
 pub mod FourRows
 pub mod KnownBins

@@ -33,6 +33,7 @@ fn add_number_to_bin_of_each_byte_in_turn(bins: &mut [i64], number: i32, bytes: 
 
 // Adds a number to the bin of each byte of a row. Bytes at odd places have bins of their own, in a second table. Neighbouring bytes
 // are often equal, and an addition to the same number waits for the one before.
+#[inline]
 fn add_number_to_bins_of_byte_pairs(bins: &mut [i64], second: &mut [i64], number: i32, bytes: &[u8])
     requires bins { 256 ≤ length bins.old }
     requires second { 256 ≤ length second.old }
@@ -48,6 +49,23 @@ fn add_number_to_bins_of_byte_pairs(bins: &mut [i64], second: &mut [i64], number
     if bytes.len() % 2 == 1 {
         accumulate_value_at_bin_place(op, bins, usize::from(bytes[bytes.len() - 1]), number);
     }
+}
+
+// Adds a number to the bin of each byte of a row, in two tables. Eight bytes are read as one number, before the bin of any of them
+// is written.
+fn add_number_to_bins_of_byte_words(bins: &mut [i64], second: &mut [i64], number: i32, bytes: &[u8])
+    requires bins { 256 ≤ length bins.old }
+    requires second { 256 ≤ length second.old }
+    ensures { EachPlace (length bins.old) (λ j. joined Sum (at bins.new j) (at second.new j)
+        ≡ after_values Sum (joined Sum (at bins.old j) (at second.old j))
+        (values_of_bin (replicate (length bytes.now) number) (map pos bytes.now) (pos 0 +ℤ pos j))) }
+{
+    let (words, rest) = bytes.as_chunks::<8>();
+    for word in words {
+        let word = u64::from_le_bytes(*word).to_le_bytes();
+        add_number_to_bins_of_byte_pairs(bins, second, number, &word);
+    }
+    add_number_to_bins_of_byte_pairs(bins, second, number, rest);
 }
 
 // Each bin is a number of 64 bits, so that a sum with 0 leaves it. What the loop reads is not used, so it is compiled to nothing.
@@ -86,6 +104,6 @@ pub(crate) fn add_number_to_bin_of_each_byte(bins: &mut [i64], number: i32, byte
     }
     sum_with_zero_leaves_each_bin(bins);
     let mut second = [0i64; 256];
-    add_number_to_bins_of_byte_pairs(bins, &mut second, number, bytes);
+    add_number_to_bins_of_byte_words(bins, &mut second, number, bytes);
     add_table_to_bins(bins, &second);
 }
