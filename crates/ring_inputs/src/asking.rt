@@ -1,7 +1,7 @@
 #![tactic(auto)]
 //! Whether all that an accumulator reads in a row is available.
 
-ghost use Rattle.std.specs.Prelude.{ℕ, ◌≡◌, ◌<◌, true, All};
+ghost use Rattle.std.specs.Prelude.{ℕ, ◌≡◌, ◌<◌, ◌≤◌, ◌+◌, true, All};
 ghost use Rattle.domains.specs.Index.{index_at};
 ghost use Rattle.job.specs.Kept.{pipeline_in};
 ghost use Rattle.job.specs.ReadViews.{read_view};
@@ -18,8 +18,29 @@ use tile_eval::find_span_number_at_position;
 const MOST_HEIGHT: usize = 4096;
 
 impl<'r, 'a> RingInputs<'r, 'a> {
-    /// Whether all that an accumulator reads in the row at this place of its domain is available.
-    pub fn has_ring_inputs_in_row(&self, stage: usize, place: usize) -> bool
+    /// How many rows of an accumulator, of `most` from place `first` on, are available in all that they read: those before the first
+    /// row that is not.
+    pub(crate) fn count_rows_with_ring_inputs(
+        &self,
+        stage: usize,
+        first: usize,
+        most: usize,
+    ) -> usize
+        requires { first + most < 18446744073709551616 }
+        ensures most { result ≤ most }
+        ensures each { (k : ℕ) → k < result → IsRowRead (IsRingInput (pipeline_in self.now.rings.now.job.now)
+            self.now.rings.now.wide.rings.items) (pipeline_in self.now.rings.now.job.now) stage (first + k) }
+    {
+        for k in 0..most {
+            if !self.has_ring_inputs_in_row(stage, first + k) {
+                return k;
+            }
+        }
+        most
+    }
+
+    // Whether all that an accumulator reads in the row at this place of its domain is available.
+    fn has_ring_inputs_in_row(&self, stage: usize, place: usize) -> bool
         ensures { result ≡ true → IsRowRead (IsRingInput (pipeline_in self.now.rings.now.job.now)
             self.now.rings.now.wide.rings.items) (pipeline_in self.now.rings.now.job.now) stage place }
     {

@@ -104,7 +104,8 @@ impl<'a> RowStreamSteps<'a> {
         self.row += 1;
     }
 
-    /// Accumulates the next row of each of these accumulators, if all that it reads is there since the last row was given.
+    /// Accumulates the next rows of each of these accumulators, of those before row `end` whose reads are all there since the last row was
+    /// given.
     ///
     /// # Errors
     ///
@@ -116,10 +117,10 @@ impl<'a> RowStreamSteps<'a> {
         requires { totals.old.job.now ≡ self.now.job.now }
         ensures { totals.new.job ≡ totals.old.job }
     {
-        add_ring_inputs_to_totals(&self.rings, totals)
+        add_ring_inputs_to_totals(&self.rings, self.end, totals)
     }
 
-    /// Takes all steps that are left, and accumulates a row of each of these accumulators with each row.
+    /// Takes all steps that are left, and accumulates rows of each of these accumulators with each row.
     ///
     /// # Errors
     ///

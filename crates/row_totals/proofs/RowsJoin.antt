@@ -1,5 +1,5 @@
 -- Totals over rows, and over rows that follow, join to the totals over all of them.
-use Rattle.std.proofs.Common.{ℕ, zero, suc, ◌+◌, ◌≡◌, ℤ, pos, ◌+ℤ◌, ◌-ℤ◌, arith, sym, ap, ◌∙◌, List, [], ◌∷◌, ◌++◌, Some, slice_get}
+use Rattle.std.proofs.Common.{ℕ, ◌+◌, ◌≡◌, ℤ, pos, ◌+ℤ◌, ◌-ℤ◌, arith, sym, ap, ◌∙◌, List, [], ◌++◌, Some, slice_get}
 use Rattle.std.specs.Prelude.{Option, filter, map}
 use Rattle.std.specs.Int.{int_gap}
 use Rattle.std.specs.List.{flat_map}
@@ -18,23 +18,12 @@ use Rattle.job.specs.Pipeline.{accumulator, Stage, Pipeline}
 use Rattle.job.specs.Totals.{joined, total_of, values_in_bin, body_totals, totals_over}
 use Rattle.job.specs.Values.{Valuation, formula_value, value}
 use Rattle.reductions.proofs.JoinInto.{joined_maps}
+use Rattle.reductions.proofs.TakeValues.{numbers_split}
 use Rattle.reductions.proofs.TotalsInAnyOrder.{total_among-append}
 use Rattle.reductions.specs.Bins.{joined_bins}
 use Rattle.row_totals.specs.RowTotals.{rows_from, totals_from}
 
 -- ---- rows, and rows that follow
-
-numbers_split : (v : ℤ) (n m : ℕ) → numbers_from v (n + m) ≡ numbers_from v n ++ numbers_from (v +ℤ pos n) m
-numbers_split v zero m =
-    let none : zero + m ≡ m = omega arith in
-    let same : v ≡ v +ℤ pos zero = omega (arith, ints) in
-    ap (numbers_from v) none ∙ ap (λ (w : ℤ). numbers_from w m) same
-numbers_split v (suc n) m =
-    let more : suc n + m ≡ suc (n + m) = omega arith in
-    let same : v +ℤ pos 1 +ℤ pos n ≡ v +ℤ pos (suc n) = omega (arith, ints) in
-    ap (numbers_from v) more
-    ∙ ap (λ (vs : List ℤ). v ∷ vs) (numbers_split (v +ℤ pos 1) n m)
-    ∙ ap (λ (w : ℤ). v ∷ numbers_from (v +ℤ pos 1) n ++ numbers_from w m) same
 
 -- n rows have n numbers
 rows_long : (lo : ℤ) (n : ℕ) → int_gap lo (lo +ℤ pos n -ℤ pos 1 +ℤ pos 1) ≡ n

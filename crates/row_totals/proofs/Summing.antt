@@ -1,5 +1,5 @@
--- The bins of an accumulator, and one row more of it.
-use Rattle.std.proofs.Common.{arith, ℕ, ℤ, pos, ◌≡◌, ◌+◌, ◌-◌, ◌<◌, ◌≤◌, ◌+ℤ◌, ◌-ℤ◌, List, [], Some, length, true, false, true≢false, refl, sym, ap, ◌∙◌, subst, slice_get}
+-- The bins of an accumulator, and more rows of it.
+use Rattle.std.proofs.Common.{arith, ℕ, ℤ, pos, negsuc, ◌≡◌, ◌+◌, ◌-◌, ◌<◌, ◌≤◌, ◌+ℤ◌, ◌-ℤ◌, ◌≤ℤ◌, List, [], Some, length, true, false, true≢false, refl, sym, ap, ◌∙◌, subst, slice_get}
 use Rattle.std.specs.Prelude.{Option, None, filter, map}
 use Rattle.std.specs.Option.{option_map, option_map_or}
 use Rattle.std.specs.Ordering.{int_eq}
@@ -11,7 +11,7 @@ use Rattle.domains.proofs.Spans.{length-numbers_from}
 use Rattle.domains.specs.Area.{HoldsPoint, IsArea, points_of}
 use Rattle.domains.specs.Index.{index_at}
 use Rattle.domains.specs.Pairs.{pairs}
-use Rattle.domains.specs.Span.{Ends, Holds, len_of, numbers_from, numbers_of}
+use Rattle.domains.specs.Span.{Holds, len_of, numbers_from, numbers_of}
 use Rattle.domains.specs.declared.area.Area.{Area}
 use Rattle.job.proofs.Solving.{BodyReads-both}
 use Rattle.job.proofs.TotalLaws.{body_totals-agrees, map_same}
@@ -42,6 +42,14 @@ taken_weaker P Q f (window g kernel) r c h = λ a b la lb. f g (kernel_row kerne
 reads_weaker : (P Q : ℕ → ℤ → ℤ → Type 0) → ((g : ℕ) (r c : ℤ) → P g r c → Q g r c) → (body : Body) (r c : ℤ) → BodyReads P body r c
     → BodyReads Q body r c
 reads_weaker P Q f body r c = BodyReads-both P Q (λ x. Unit {0}) body r c (λ x u. taken_weaker P Q f x r c) (λ n d l. tt)
+
+-- a number that is not below another one is so many behind it
+counted_from : (first r : ℤ) → first ≤ℤ r → (k : ℕ) × (first +ℤ pos k ≡ r)
+counted_from first r h = by (r -ℤ first) refl
+  where
+    by : (d : ℤ) → d ≡ r -ℤ first → (k : ℕ) × (first +ℤ pos k ≡ r)
+    by (pos k) e = (k, omega (arith, ints, e))
+    by (negsuc n) e = absurd (omega (arith, ints, e, h))
 
 -- ---- an accumulator of a job
 
@@ -117,71 +125,57 @@ module _ (job : Pipeline) (g : ℕ) (s : Stage) (a : Accumulator) (is : IsSummed
         let rows = own.rows.span in let least = rows.least in let most = rows.most in
         omega (arith, ints, height_is, len_is s.domain.rows rows, least, most)
 
-    -- ---- one row more
+    -- ---- more rows
 
-    module _ (next : ℕ) (left : next < height_of job g) (area : Area) (row : ℤ) (row_is : row ≡ s.domain.rows.lo +ℤ pos next)
-        (area_is : area ≡ record { rows = record { lo = row; hi = row }; cols = s.domain.cols }) where
-      pub row_within : next < len_of s.domain.rows
-      row_within = let height = height_is in omega (arith, left, height)
+    module _ (next count : ℕ) (some : 0 < count) (left : next + count ≤ height_of job g) where
+      abbrev more : Area
+      more = rows_from s.domain next count
 
-      held : Holds s.domain.rows row
-      held =
-          let within = row_within in
-          let long = len_is s.domain.rows own.rows.span in (omega (arith, ints, row_is), omega (arith, ints, row_is, long, within))
+      pub rows_within : next + count ≤ len_of s.domain.rows
+      rows_within = let height = height_is in omega (arith, left, height)
 
-      alone : Ends → Ends
-      alone e = record { lo = row; hi = row }
-
-      alone_range : InDomainRange (record { lo = row; hi = row })
-      alone_range =
-          let low = held.0 in let high = held.1 in let rows = own.rows in
+      pub rows_near : InDomainRange more.rows
+      rows_near =
+          let within = rows_within in
+          let long = len_is s.domain.rows own.rows.span in
+          let rows = own.rows in
           let first = rows.span.least in let last = rows.span.most in let least = rows.least in let most = rows.most in record {
             span = record { least = omega (arith, ints); ordered = omega (arith, ints); most = omega (arith, ints) };
             least = omega (arith, ints);
             most = omega (arith, ints);
           }
 
-      pub rows_near : InDomainRange area.rows
-      rows_near = subst (λ (x : Area). InDomainRange x.rows) (sym area_is) alone_range
+      is_area : IsArea more
+      is_area = record { rows = rows_near.span; cols = own.cols.span }
 
-      pub cols_near : InDomainRange area.cols
-      cols_near = subst (λ (x : Area). InDomainRange x.cols) (sym area_is) own.cols
+      in_domain : (k : ℕ) → k < count → (c : ℤ) → Holds s.domain.cols c → HoldsPoint s.domain (s.domain.rows.lo +ℤ pos (next + k)) c
+      in_domain k below c inside =
+          let within = rows_within in
+          let long = len_is s.domain.rows own.rows.span in ((omega (arith, ints), omega (arith, ints, long, within, below)), inside)
 
-      is_area : IsArea area
-      is_area = record { rows = rows_near.span; cols = cols_near.span }
+      module _ (has : ℕ → ℤ → ℤ → Type 0) (samples : Valuation) (reads : (k : ℕ) → k < count → IsRowRead has job g (next + k)) where
+        pub rows_read : (r c : ℤ) → HoldsPoint more r c → BodyReads has body r c
+        rows_read r c inside =
+            let found = counted_from (s.domain.rows.lo +ℤ pos next) r inside.0.0 in
+            let k : ℕ = found.0 in
+            let at : s.domain.rows.lo +ℤ pos next +ℤ pos k ≡ r = found.1 in
+            let last = inside.0.1 in
+            let below : k < count = omega (arith, ints, at, last) in
+            let row : s.domain.rows.lo +ℤ pos (next + k) ≡ r = omega (arith, ints, at) in
+            subst (λ (q : ℤ). BodyReads has body q c) row
+            (subst (λ (b : Body). BodyReads has b (s.domain.rows.lo +ℤ pos (next + k)) c) is.body
+            (reads k below s is.there c (in_domain k below c inside.1)))
 
-      at_row : (r c : ℤ) → HoldsPoint area r c → r ≡ s.domain.rows.lo +ℤ pos next
-      at_row r c inside =
-          let there : Holds (record { lo = row; hi = row }) r = subst (λ (x : Area). Holds x.rows r) area_is inside.0 in
-          let low = there.0 in let high = there.1 in omega (arith, ints, row_is)
-
-      in_domain : (r c : ℤ) → HoldsPoint area r c → HoldsPoint s.domain (s.domain.rows.lo +ℤ pos next) c
-      in_domain r c inside =
-          (subst (Holds s.domain.rows) row_is held, subst (λ (x : Area). Holds x.cols c) area_is inside.1)
-
-      module _ (has : ℕ → ℤ → ℤ → Type 0) (samples : Valuation) (reads : IsRowRead has job g next) where
-        pub row_reads : (r c : ℤ) → HoldsPoint area r c → BodyReads has body r c
-        row_reads r c inside =
-            subst (λ (q : ℤ). BodyReads has body q c) (sym (at_row r c inside))
-            (subst (λ (b : Body). BodyReads has b (s.domain.rows.lo +ℤ pos next) c) is.body
-            (reads s is.there c (in_domain r c inside)))
-
-        pub row_more : AreValues has samples job → (first : ℕ) (old new : List ℤ) → first ≤ next → old ≡ totals_from job g first (next - first)
-            → new ≡ joined_bins a.fold old (body_totals samples area body) → new ≡ totals_from job g first (next + 1 - first)
-        row_more right first old new up old_is new_is =
-            let one : next + 1 - next ≡ 1 = omega arith in
-            let rows_are : area ≡ rows_from s.domain next (next + 1 - next) =
-            area_is
-            ∙ (λ i. record { rows = record { lo = row_is i; hi = last one i }; cols = s.domain.cols }) in
-            joined_rows first next (next + 1) old (body_totals samples area body) new up (omega arith) old_is
-            (body_totals-agrees samples (value job) area is_area body (λ r c inside.
-            reads_weaker has (SameAt samples (value job)) right body r c (row_reads r c inside))
-            ∙ ap (λ (x : Area). body_totals (value job) x body) rows_are
-            ∙ sym (totals_at next (next + 1 - next)))
+        pub rows_more : AreValues has samples job → (first : ℕ) (old new : List ℤ) → first ≤ next → old ≡ totals_from job g first (next - first)
+            → new ≡ joined_bins a.fold old (body_totals samples more body) → new ≡ totals_from job g first (next + count - first)
+        rows_more right first old new up old_is new_is =
+            let own_count : next + count - next ≡ count = omega arith in
+            joined_rows first next (next + count) old (body_totals samples more body) new up (omega arith) old_is
+            (body_totals-agrees samples (value job) more is_area body (λ r c inside.
+            reads_weaker has (SameAt samples (value job)) right body r c (rows_read r c inside))
+            ∙ sym (totals_at next count)
+            ∙ ap (totals_from job g next) (sym own_count))
             new_is
-          where
-            last : next + 1 - next ≡ 1 → row ≡ s.domain.rows.lo +ℤ pos next +ℤ pos (next + 1 - next) -ℤ pos 1
-            last one = omega (arith, ints, row_is, one)
 
 -- all rows of a domain that is there
 pub whole_of_area : (job : Pipeline) (g : ℕ) → IsJob job → (area : Area) → option_map (λ s. s.domain) (slice_get job.stages g) ≡ Some area

@@ -1,4 +1,4 @@
-//! What accumulators accumulate row by row: totals over adjacent rows, over one row more, and over rows that follow.
+//! What accumulators accumulate row by row: totals over adjacent rows, over more rows, and over rows that follow.
 //!
 //! Words: row total, row totals, summed.
 #![tactic(auto)]

@@ -1,12 +1,14 @@
 #![tactic(auto)]
 //! What an accumulator has in its bins, row by row.
 
-ghost use Rattle.std.specs.Prelude.{◌≡◌, ◌<◌, ◌≤◌, ◌+◌, ◌-◌, ◌↔◌, IsTrue, true, false, IfOk, IfSome, IfNone, OnOk};
+ghost use Rattle.std.specs.Prelude.{◌≡◌, ◌<◌, ◌≤◌, ◌+◌, ◌-◌, ◌↔◌, ℕ, IsTrue, true, false, IfOk, IfSome, IfNone, OnOk};
+ghost use Rattle.domains.specs.Span.{len_of};
 ghost use Rattle.job.specs.Answers.{height_of};
 ghost use Rattle.job.specs.Kept.{pipeline_in};
 ghost use Rattle.job.specs.Totals.{totals};
 ghost use Rattle.job.specs.Views.{stage_view};
-ghost use Rattle.row_totals.specs.RowTotals.{is_summed, totals_from, IsRowRead, IsSummedBy, AreValues};
+ghost use Rattle.job.specs.WellFormed.{InDomainRange};
+ghost use Rattle.row_totals.specs.RowTotals.{is_summed, rows_from, totals_from, IsRowRead, IsSummedBy, AreValues};
 
 use domains::{Area, Span};
 use job::{Accumulator, Body, Job, Stage};
@@ -41,6 +43,24 @@ fn find_accumulator_of_row_total(job: &Job, stage: usize) -> Option<(&Stage, &Ac
     match found.body() {
         Body::Accumulator(accumulator) => Some((found, accumulator)),
         Body::Plane(_) | Body::Function(_) => None,
+    }
+}
+
+// The area of `count` rows of a domain, from the row at this place on.
+fn find_area_of_summed_rows(domain: &Area, first: usize, count: usize) -> Area
+    requires rows { InDomainRange domain.now.rows }
+    requires some { 0 < count }
+    requires within { first + count ≤ len_of domain.now.rows }
+    ensures { result ≡ rows_from domain.now first count }
+{
+    let top = find_span_number_at_position(&domain.rows, first as u32);
+    let bottom = find_span_number_at_position(&domain.rows, (first + count - 1) as u32);
+    let Some(rows) = Span::new(top, bottom) else {
+        unreachable!();
+    };
+    Area {
+        rows,
+        cols: domain.cols,
     }
 }
 
@@ -92,49 +112,46 @@ impl<'a> RowTotal<'a> {
         self.next
     }
 
-    /// Whether the row that is accumulated next is one of the domain.
-    pub fn has_summed_row_left(&self) -> bool
-        ensures { IsTrue result ↔ self.now.next < height_of (pipeline_in self.now.job.now) self.now.stage }
+    /// How many rows of the domain are not yet accumulated.
+    pub fn count_summed_rows_left(&self) -> usize
+        ensures { result ≡ height_of (pipeline_in self.now.job.now) self.now.stage - self.now.next }
     {
         match self.job.domain(self.stage) {
-            Some(domain) => self.next < domain.rows.len() as usize,
-            None => false,
+            Some(domain) => (domain.rows.len() as usize).saturating_sub(self.next),
+            None => 0,
         }
     }
 
-    /// Accumulates the next row of the domain, from a source that has all that is read there. It takes no memory that an
-    /// earlier row did not take.
+    /// Accumulates the next `count` rows of the domain, from a source that has all that is read there. It takes no memory that
+    /// earlier rows did not take.
     ///
     /// # Errors
     ///
     /// Fails only where memory is refused.
-    pub fn accumulate_next_summed_row<S: RowSource>(&mut self, source: &S) -> Result<(), AllocError>
-        requires left { self.old.next < height_of (pipeline_in self.old.job.now) self.old.stage }
-        requires reads { IsRowRead (S.has source.now) (pipeline_in self.old.job.now) self.old.stage
-            self.old.next }
+    pub fn accumulate_next_summed_rows<S: RowSource>(
+        &mut self,
+        source: &S,
+        count: usize,
+    ) -> Result<(), AllocError>
+        requires some { 0 < count }
+        requires left { self.old.next + count ≤ height_of (pipeline_in self.old.job.now) self.old.stage }
+        requires reads { (k : ℕ) → k < count → IsRowRead (S.has source.now)
+            (pipeline_in self.old.job.now) self.old.stage (self.old.next + k) }
         requires right { AreValues (S.has source.now) (S.samples source.now)
             (pipeline_in self.old.job.now) }
         ensures job { self.new.job ≡ self.old.job }
         ensures stage { self.new.stage ≡ self.old.stage }
         ensures first { self.new.first ≡ self.old.first }
-        ensures next { OnOk result (self.new.next ≡ self.old.next + 1) }
+        ensures next { OnOk result (self.new.next ≡ self.old.next + count) }
     {
         let Some((found, accumulator)) = find_accumulator_of_row_total(self.job, self.stage) else {
             unreachable!();
         };
-        let domain = found.domain();
-        let row = find_span_number_at_position(&domain.rows, self.next as u32);
-        let Some(rows) = Span::new(row, row) else {
-            unreachable!();
-        };
-        let area = Area {
-            rows,
-            cols: domain.cols,
-        };
+        let area = find_area_of_summed_rows(found.domain(), self.next, count);
         self.buffers.grow_for_area(accumulator, &area)?;
         self.buffers
             .accumulate_area_into_bins(source, accumulator, &area, &mut self.bins);
-        self.next += 1;
+        self.next += count;
         Ok(())
     }
 

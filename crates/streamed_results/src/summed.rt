@@ -1,6 +1,6 @@
 #![tactic(auto)]
 //! The result of a job with accumulators. Accumulators that have as many rows as the picture are fed with its rows; others with rows of their
-//! own, those of one height together. Row y of an accumulator is accumulated with row y of the picture.
+//! own, those of one height together. Rows of an accumulator are accumulated while rows of the picture are made.
 
 ghost use Rattle.std.specs.Prelude.{◌≡◌, ◌<◌, ◌++◌, [], All, IfOk, IfSome};
 ghost use Rattle.std.specs.Option.{option_map_or};

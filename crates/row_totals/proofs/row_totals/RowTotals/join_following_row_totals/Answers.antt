@@ -1,7 +1,6 @@
-use Rattle.std.proofs.Common.{arith, ◌≡◌, ◌<◌, ◌+◌, ◌∷◌, suc, length, drop, drop-cons, refl, sym, ap, ◌∙◌, subst}
+use Rattle.std.proofs.Common.{arith, ◌≡◌, ◌<◌, ◌+◌, ◌∷◌, suc, length, drop, drop-cons, refl, sym, ◌∙◌, subst}
 use Rattle.std.proofs.lemmas.List.{drop_all}
 use Rattle.row_totals.specs.Spans.{AreJoinedBy}
-use Rattle.row_totals.specs.declared.row_total.RowTotal.{RowTotal}
 use Rattle.row_totals.proofs.row_totals.RowTotals.join_following_row_totals.Goals as goal
 
 pub loop-place-preserved : goal.loop-place-preserved
