@@ -3,7 +3,7 @@ use Rattle.std.proofs.Common.{◌≡◌, ℕ, suc, ◌+◌, ◌*◌, ◌<◌, �
 use Rattle.std.specs.Prelude.{slice_index}
 use Rattle.std.specs.Option.{option_map_or}
 use Rattle.std.proofs.Math.Nat.{mul-le-mul_right, suc-mul}
-use Rattle.std.proofs.lemmas.List.{append-nil, length-map}
+use Rattle.std.proofs.lemmas.List.{length-map}
 use Rattle.std.proofs.lemmas.Slice.{take-put_mid}
 use borrow.Rule.Slice.PartMut.{put_mid}
 use Rattle.domains.specs.Span.{len_of, numbers_of}
@@ -13,7 +13,7 @@ use Rattle.job.specs.Pipeline.{Output, Pipeline, Stage}
 use Rattle.job.specs.Values.{value}
 use Rattle.job.specs.WellFormed.{IsOutput, IsOutputPlane}
 use Rattle.netpbm.specs.Raw as raw
-use Rattle.raw_rows.specs.Rows.{bytes_per_row, raw_row, raw_rows, row_values}
+use Rattle.raw_rows.specs.Rows.{bytes_per_row, raw_rows, row_values}
 use Rattle.raw_rows.proofs.RowLaws.{raw_rows_joined}
 
 pub row_values-len : (job : Pipeline) (height width y g : ℕ) → IsOutputPlane job height width g → length (row_values job y g) ≡ width
@@ -47,11 +47,11 @@ line_within k count len all h e =
 
 -- one row more is written
 pub rows_more : (job : Pipeline) (o : Output) (y k len n : ℕ) (out row : List ℕ) → take (k * len) out ≡ raw_rows job o y k
-    → k * len ≤ length out → length row ≡ len → row ≡ raw_row job o (y + k)
+    → k * len ≤ length out → length row ≡ len → row ≡ raw_rows job o (y + k) 1
     → take ((k + 1) * len) (put_mid (k * len) n out row) ≡ raw_rows job o y (k + 1)
 rows_more job o y k len n out row before within long is =
     let next : k + 1 ≡ suc k = omega arith in
     let end : (k + 1) * len ≡ k * len + length row = ap (λ m. m * len) next ∙ suc-mul k len ∙ ap (λ m. k * len + m) (sym long) in
     take-put_mid (k * len) n out row ((k + 1) * len) end within
-    ∙ ap (λ xs. xs ++ row) before ∙ ap (λ xs. raw_rows job o y k ++ xs) (is ∙ sym (append-nil (raw_row job o (y + k))))
+    ∙ ap (λ xs. xs ++ row) before ∙ ap (λ xs. raw_rows job o y k ++ xs) is
     ∙ sym (raw_rows_joined job o y k 1)

@@ -106,8 +106,11 @@ impl<'a> RowStream<'a> {
     {
         let len = self.row_len;
         for k in 0..count {
+            self.steps.make_rows_before_next_streamed_row();
             let from = k * len;
-            self.encode_next_streamed_row(&mut out[from..from + len]);
+            let lines = self.borrow_streamed_row_lines();
+            encode_raw_row(&mut out[from..from + len], lines, self.output.max() as u16);
+            self.steps.pass_next_streamed_row();
         }
     }
 
@@ -134,28 +137,10 @@ impl<'a> RowStream<'a> {
         let len = self.row_len;
         for k in 0..count {
             let start = k * len;
-            self.encode_next_streamed_row(&mut out[start..start + len]);
+            self.encode_next_streamed_rows(&mut out[start..start + len], 1);
             self.steps.add_streamed_row_to_totals(totals)?;
         }
         Ok(())
-    }
-
-    // Writes the bytes of the next row.
-    fn encode_next_streamed_row(&mut self, out: &mut [u8])
-        requires left { self.old.steps.row < self.old.steps.end }
-        requires len { length out.old
-            ≡ bytes_per_row (pipeline_in self.old.steps.job.now) (output_view self.old.output.now) }
-        ensures bytes { out.new
-            ≡ raw_row (pipeline_in self.old.steps.job.now) (output_view self.old.output.now) self.old.steps.row }
-        ensures row { self.new.steps.row ≡ self.old.steps.row + 1 }
-        ensures job { self.new.steps.job ≡ self.old.steps.job }
-        ensures output { self.new.output ≡ self.old.output }
-        ensures end { self.new.steps.end ≡ self.old.steps.end }
-    {
-        self.steps.make_rows_before_next_streamed_row();
-        let lines = self.borrow_streamed_row_lines();
-        encode_raw_row(out, lines, self.output.max() as u16);
-        self.steps.pass_next_streamed_row();
     }
 
     // The numbers of the next row of each plane.
