@@ -14,6 +14,7 @@ ghost use Rattle.row_rings.specs.TrueRings.{AreTrueRings, ArePlacedRings, AreRoo
 ghost use Rattle.row_rings.specs.RoomOnce.{AreRoomy-prop};
 ghost use Rattle.row_rings.specs.ShapesOnce.{AreShapesOf-prop};
 
+use crate::narrow_ring_source::NarrowRingSource;
 use crate::new_rings::{allocate_rings, find_greatest_ring_room};
 use crate::ring::{RowRing, RowRings};
 use crate::ring_forms::{find_ring_forms, is_computed_narrow_ring};
@@ -170,8 +171,11 @@ impl<'a> JobRings<'a> {
     {
         let mut ring = self.narrow.take_out_ring(self.alloc, stage);
         let shape = borrow_ring_shape(&self.shapes, stage);
-        let temps = &mut self.narrow_temps;
-        ring.make_next_row_of_narrow_ring(self.job, stage, shape, &self.narrow, temps);
+        let source = NarrowRingSource {
+            job: self.job,
+            known: &self.narrow,
+        };
+        ring.make_next_row_of_narrow_ring(&source, stage, shape, &mut self.narrow_temps);
         let line = ring.borrow_counted_row(self.states[stage].next);
         self.wide.push_widened_ring_row(stage, line);
         self.narrow.rings[stage] = ring;

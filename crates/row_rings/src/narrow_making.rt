@@ -7,25 +7,22 @@ ghost use Rattle.domains.specs.Span.{len_of};
 ghost use Rattle.job.specs.Kept.{pipeline_in};
 ghost use Rattle.job.specs.Pipeline.{function as function_body};
 ghost use Rattle.job.specs.Reads.{BodyReads};
-ghost use Rattle.job.specs.Values.{value, sample_at};
-ghost use Rattle.job.specs.WellFormed.{InDomainRange};
+ghost use Rattle.job.specs.Values.{sample_at};
 ghost use Rattle.job.specs.Views.{case_view, formula_view};
 ghost use Rattle.row_loops.specs.Rows.{EachPlace, at};
 ghost use Rattle.row_plans.specs.Rows.{next_row};
-ghost use Rattle.row_rings.specs.RingRows.{IsKeptPoint};
 ghost use Rattle.row_rings.specs.NarrowRings.{IsFittingStage, is_linear_shape, IsNarrowlyMade};
 ghost use Rattle.row_rings.specs.RingShapes.{IsShapeOf, IsStageShape};
-ghost use Rattle.row_rings.specs.TrueRings.{AreTrueRings, HasStageRoom};
+ghost use Rattle.row_rings.specs.TrueRings.{HasStageRoom};
 ghost use Rattle.row_rings.specs.inside.Making.{AreFittingValues, IsFittingRow, IsMakeable, IsPictureRow, IsValueRow, HasOneRowMore};
 ghost use Rattle.narrow_eval.specs.NarrowCases.{IsNarrowComputable};
 ghost use Rattle.tile_eval.specs.Cases.{function_value};
 
 use crate::narrow_ring_source::NarrowRingSource;
-use crate::ring::{RowRing, RowRings};
+use crate::ring::RowRing;
 use crate::ring_shapes::RingShape;
 use column_phases::write_narrow_column_phases;
-use domains::Area;
-use job::{Body, Function, Job};
+use job::{Body, Function};
 use linear_rows::write_linear_row;
 use narrow_eval::evaluate_narrow_function;
 use narrow_kernels::convert_samples_to_narrow_row;
@@ -88,87 +85,38 @@ fn write_shaped_row_to_narrow_ring<S: NarrowSource>(
     }
 }
 
-// Writes a row of a function of this shape, which is counted from the first one of its domain. The contents of the operands' buffer
-// have no meaning.
-fn write_function_row_to_narrow_ring(
-    job: &Job,
-    known: &RowRings<i16>,
-    function: &Function,
-    shape: &RingShape<'_>,
-    area: &Area,
-    row: usize,
-    out: &mut [i16],
-    temps: &mut [i16],
-)
-    requires right { AreTrueRings (pipeline_in job.now) known.now.rings.items }
-    requires rows { InDomainRange area.now.rows }
-    requires cols { InDomainRange area.now.cols }
-    requires row { row < len_of area.now.rows }
-    requires count { length out.old ≡ len_of area.now.cols }
-    requires some { 0 < length out.old }
-    requires reads { EachPlace (length out.old) (λ k. BodyReads (IsKeptPoint known.now.rings.items)
-        (function_body (map case_view function.now.cases.items)
-        (option_map formula_view function.now.otherwise)) (area.now.rows.lo +ℤ pos row)
-        (area.now.cols.lo +ℤ pos k)) }
-    requires values { AreFittingValues (value (pipeline_in job.now)) (map case_view function.now.cases.items)
-        (option_map formula_view function.now.otherwise) (area.now.rows.lo +ℤ pos row)
-        area.now.cols.lo (length out.old) }
-    requires shape { IsShapeOf shape.now (function_body (map case_view function.now.cases.items)
-        (option_map formula_view function.now.otherwise)) }
-    requires function { is_linear_shape shape.now ≡ false
-        → IsNarrowComputable (IsKeptPoint known.now.rings.items)
-        (value (pipeline_in job.now)) (area.now.rows.lo +ℤ pos row) area.now.cols.lo (length out.old)
-        (length temps.old) (map case_view function.now.cases.items)
-        (option_map formula_view function.now.otherwise) }
-    ensures { EachPlace (length out.old) (λ k. at out.new k
-        ≡ function_value (value (pipeline_in job.now)) (map case_view function.now.cases.items)
-        (option_map formula_view function.now.otherwise) (area.now.rows.lo +ℤ pos row)
-        (area.now.cols.lo +ℤ pos k)) }
-{
-    let points = RowSpan::from_area_row(area, row);
-    let source = NarrowRingSource { job, known };
-    write_shaped_row_to_narrow_ring(&source, function, shape, &points, out, temps);
-}
-
-// Writes the next row of a stage of this shape, from the rows that it reads.
-fn write_stage_row_to_narrow_ring(
-    job: &Job,
-    stage: usize,
-    shape: &RingShape<'_>,
-    state: &RowState,
-    known: &RowRings<i16>,
-    out: &mut [i16],
-    temps: &mut [i16],
-)
-    requires can { IsMakeable (pipeline_in job.now) known.now.rings.items stage state.now }
-    requires right { AreTrueRings (pipeline_in job.now) known.now.rings.items }
-    requires fits { IsFittingStage (pipeline_in job.now) stage }
-    requires narrow { IsNarrowlyMade (pipeline_in job.now) stage shape.now }
-    requires shape { IsStageShape (pipeline_in job.now) stage shape.now }
-    requires count { length out.old ≡ len_of state.now.area.cols }
-    requires room { HasStageRoom (pipeline_in job.now) stage (len_of state.now.area.cols)
-        (length temps.old) }
-    ensures { IsValueRow (pipeline_in job.now) stage state.now.area (next_row state.now) out.new }
-{
-    let Some(found) = job.stage(stage) else {
-        return;
-    };
-    match found.body() {
-        Body::Plane(plane) => write_samples_to_narrow_ring(job.picture(), *plane, state.next, out),
-        Body::Function(function) => {
-            let row = state.next;
-            write_function_row_to_narrow_ring(
-                job,
-                known,
-                function,
-                shape,
-                &state.area,
-                row,
-                out,
-                temps,
-            );
+impl NarrowRingSource<'_> {
+    // Writes the next row of a stage of this shape, from the rows that it reads. The contents of `temps` have no meaning.
+    fn write_stage_row_to_narrow_ring(
+        &self,
+        stage: usize,
+        shape: &RingShape<'_>,
+        state: &RowState,
+        out: &mut [i16],
+        temps: &mut [i16],
+    )
+        requires can { IsMakeable (pipeline_in self.now.job.now) self.now.known.now.rings.items stage state.now }
+        requires fits { IsFittingStage (pipeline_in self.now.job.now) stage }
+        requires narrow { IsNarrowlyMade (pipeline_in self.now.job.now) stage shape.now }
+        requires shape { IsStageShape (pipeline_in self.now.job.now) stage shape.now }
+        requires count { length out.old ≡ len_of state.now.area.cols }
+        requires room { HasStageRoom (pipeline_in self.now.job.now) stage (len_of state.now.area.cols)
+            (length temps.old) }
+        ensures { IsValueRow (pipeline_in self.now.job.now) stage state.now.area (next_row state.now) out.new }
+    {
+        let Some(found) = self.job.stage(stage) else {
+            return;
+        };
+        match found.body() {
+            Body::Plane(plane) => {
+                write_samples_to_narrow_ring(self.job.picture(), *plane, state.next, out)
+            }
+            Body::Function(function) => {
+                let points = RowSpan::from_area_row(&state.area, state.next);
+                write_shaped_row_to_narrow_ring(self, function, shape, &points, out, temps);
+            }
+            Body::Accumulator(_) => {}
         }
-        Body::Accumulator(_) => {}
     }
 }
 
@@ -176,31 +124,22 @@ impl RowRing<i16> {
     // Makes the next row of a stage of this shape, in place of the oldest one.
     pub(crate) fn make_next_row_of_narrow_ring(
         &mut self,
-        job: &Job,
+        source: &NarrowRingSource<'_>,
         stage: usize,
         shape: &RingShape<'_>,
-        known: &RowRings<i16>,
         temps: &mut [i16],
     )
-        requires can { IsMakeable (pipeline_in job.now) known.now.rings.items stage self.old.state }
+        requires can { IsMakeable (pipeline_in source.now.job.now) source.now.known.now.rings.items stage
+            self.old.state }
         requires some { 0 < self.old.state.kept }
-        requires right { AreTrueRings (pipeline_in job.now) known.now.rings.items }
-        requires fits { IsFittingStage (pipeline_in job.now) stage }
-        requires narrow { IsNarrowlyMade (pipeline_in job.now) stage shape.now }
-        requires shape { IsStageShape (pipeline_in job.now) stage shape.now }
-        requires room { HasStageRoom (pipeline_in job.now) stage (len_of self.old.state.area.cols)
+        requires fits { IsFittingStage (pipeline_in source.now.job.now) stage }
+        requires narrow { IsNarrowlyMade (pipeline_in source.now.job.now) stage shape.now }
+        requires shape { IsStageShape (pipeline_in source.now.job.now) stage shape.now }
+        requires room { HasStageRoom (pipeline_in source.now.job.now) stage (len_of self.old.state.area.cols)
             (length temps.old) }
-        ensures { HasOneRowMore (pipeline_in job.now) stage self.old self.new }
+        ensures { HasOneRowMore (pipeline_in source.now.job.now) stage self.old self.new }
     {
-        write_stage_row_to_narrow_ring(
-            job,
-            stage,
-            shape,
-            &self.state,
-            known,
-            &mut self.rows[0],
-            temps,
-        );
+        source.write_stage_row_to_narrow_ring(stage, shape, &self.state, &mut self.rows[0], temps);
         self.rows.rotate_left(1);
         self.state.next += 1;
     }

@@ -49,11 +49,13 @@ make_next_row_of_narrow_ring-requires-clause-some c =
     self.computed_narrow.items self.forms c.requires.form in
     some_kept job (states_in self) g can self.narrow.rings.items served c.take_out_ring-ring.result c.take_out_ring-ring.ensures.ring
 
-pub make_next_row_of_narrow_ring-requires-clause-right : goal.make_next_row_of_narrow_ring-requires-clause-right
-make_next_row_of_narrow_ring-requires-clause-right c =
-    let self = c.args.self.now in
-    true_without (pipeline_in self.job.now) (states_in self) self.narrow.rings.items c.take_out_ring-ring.new.self.rings.items c.args.stage
-    c.take_out_ring-ring.ensures.others c.take_out_ring-ring.ensures.none self.right_narrow
+pub invariant_of-source : goal.invariant_of-source
+invariant_of-source c =
+    let self = c.args.self.now in record {
+      right =
+          true_without (pipeline_in self.job.now) (states_in self) self.narrow.rings.items c.take_out_ring-ring.new.self.rings.items c.args.stage
+          c.take_out_ring-ring.ensures.others c.take_out_ring-ring.ensures.none self.right_narrow;
+    }
 
 pub make_next_row_of_narrow_ring-requires-clause-room : goal.make_next_row_of_narrow_ring-requires-clause-room
 make_next_row_of_narrow_ring-requires-clause-room c =
